@@ -1,0 +1,118 @@
+-- Membership in a list, by recursion on the list; a test on some element; a list for each element, put together. Assumes nothing.
+use mathlib.Core.Path.{_≡_, refl, sym, ap, _∙_, subst}
+use mathlib.Core.Logic.{_⊎_, inl, inr}
+use mathlib.Core.Bool.{Bool, true, false, _||_, false≢true}
+use mathlib.Core.List.{List, [], _∷_, _++_, map}
+use Prim.Native.Nat.{ℕ, zero, suc, _+_, _*_, _≤_, _<_, suc-le-suc, zero-le}
+use native.Mathlib.Nat.{zero-lt-suc, le-trans, le-of-eq, add-le-add, suc-mul, not-suc-le-zero, le-of-suc-le-suc}
+use native.Mathlib.Omega.{arith}
+use lib.ListN.{length, getD, length-append}
+use Rattle.basics.specs.Tests.{or-right}
+
+-- ---- definitions
+
+module _ {A : Type 0} where
+  -- x is an element of the list
+  abbrev pub In : A → List A → Type 0
+  In x [] = ⊥
+  In x (y ∷ ys) = (x ≡ y) ⊎ In x ys
+
+  -- some element of the list passes the test
+  abbrev pub any : (A → Bool) → List A → Bool
+  any f [] = false
+  any f (x ∷ xs) = f x || any f xs
+
+-- the list of f for each element, one after the other
+module _ {A B : Type 0} where
+  abbrev pub concatMap : (A → List B) → List A → List B
+  concatMap f [] = []
+  concatMap f (x ∷ xs) = f x ++ concatMap f xs
+
+-- ---- membership
+
+module _ {A : Type 0} where
+  pub in-left : (x : A) (xs ys : List A) → In x xs → In x (xs ++ ys)
+  in-left x [] ys h = absurd h
+  in-left x (z ∷ xs) ys (inl e) = inl e
+  in-left x (z ∷ xs) ys (inr h) = inr (in-left x xs ys h)
+
+  pub in-right : (x : A) (xs ys : List A) → In x ys → In x (xs ++ ys)
+  in-right x [] ys h = h
+  in-right x (z ∷ xs) ys h = inr (in-right x xs ys h)
+
+  pub in-cases : (x : A) (xs ys : List A) → In x (xs ++ ys) → In x xs ⊎ In x ys
+  in-cases x [] ys h = inr h
+  in-cases x (z ∷ xs) ys (inl e) = inl (inl e)
+  in-cases x (z ∷ xs) ys (inr h) = by (in-cases x xs ys h)
+    where
+      by : In x xs ⊎ In x ys → ((x ≡ z) ⊎ In x xs) ⊎ In x ys
+      by (inl m) = inl (inr m)
+      by (inr m) = inr m
+
+  -- the only element of a list of one
+  pub in-one : (x y : A) → In x (y ∷ []) → x ≡ y
+  in-one x y (inl e) = e
+  in-one x y (inr h) = absurd h
+
+  pub in-getD : (x d : A) (xs : List A) → In x xs → (i : ℕ) × (i < length xs) × (getD xs i d ≡ x)
+  in-getD x d [] h = absurd h
+  in-getD x d (y ∷ ys) (inl e) = (0, zero-lt-suc (length ys), sym e)
+  in-getD x d (y ∷ ys) (inr h) = let r = in-getD x d ys h in (suc (r .0), suc-le-suc (r .1), r .2)
+
+  pub getD-in : (d : A) (xs : List A) (i : ℕ) → i < length xs → In (getD xs i d) xs
+  getD-in d [] i h = absurd (not-suc-le-zero h)
+  getD-in d (x ∷ xs) zero h = inl refl
+  getD-in d (x ∷ xs) (suc i) h = inr (getD-in d xs i (le-of-suc-le-suc h))
+
+  -- ---- some element
+
+  pub any-of : (f : A → Bool) (xs : List A) → any f xs ≡ true → (x : A) × In x xs × (f x ≡ true)
+  any-of f [] h = absurd (false≢true h)
+  any-of f (x ∷ xs) h = by (f x) refl (any-of f xs)
+    where
+      by : (b : Bool) → f x ≡ b → (any f xs ≡ true → (y : A) × In y xs × (f y ≡ true)) → (y : A) × ((y ≡ x) ⊎ In y xs) × (f y ≡ true)
+      by true p ih = (x, inl refl, p)
+      by false p ih = let r = ih (sym (ap (λ (b : Bool). b || any f xs) p) ∙ h) in (r .0, inr (r .1), r .2)
+
+  pub any-at : (f : A → Bool) (x : A) (xs : List A) → In x xs → f x ≡ true → any f xs ≡ true
+  any-at f x [] h e = absurd h
+  any-at f x (y ∷ ys) (inl p) e = ap (λ (b : Bool). b || any f ys) (ap f (sym p) ∙ e)
+  any-at f x (y ∷ ys) (inr h) e = or-right (f y) (any f ys) (any-at f x ys h e)
+
+-- ---- a function on each element
+
+module _ {A B : Type 0} where
+  pub in-map : (f : A → B) (x : A) (xs : List A) → In x xs → In (f x) (map f xs)
+  in-map f x [] h = absurd h
+  in-map f x (y ∷ ys) (inl e) = inl (ap f e)
+  in-map f x (y ∷ ys) (inr h) = inr (in-map f x ys h)
+
+  pub map-in : (f : A → B) (y : B) (xs : List A) → In y (map f xs) → (x : A) × In x xs × (y ≡ f x)
+  map-in f y [] h = absurd h
+  map-in f y (x ∷ xs) (inl e) = (x, inl refl, e)
+  map-in f y (x ∷ xs) (inr h) = let r = map-in f y xs h in (r .0, inr (r .1), r .2)
+
+  pub getD-map : (f : A → B) (d : A) (d′ : B) (xs : List A) (i : ℕ) → i < length xs → getD (map f xs) i d′ ≡ f (getD xs i d)
+  getD-map f d d′ [] i h = absurd (not-suc-le-zero h)
+  getD-map f d d′ (x ∷ xs) zero h = refl
+  getD-map f d d′ (x ∷ xs) (suc i) h = getD-map f d d′ xs i (le-of-suc-le-suc h)
+
+  pub in-concatMap : (f : A → List B) (y : B) (x : A) (xs : List A) → In x xs → In y (f x) → In y (concatMap f xs)
+  in-concatMap f y x [] h m = absurd h
+  in-concatMap f y x (z ∷ xs) (inl e) m = in-left y (f z) (concatMap f xs) (subst (λ (v : A). In y (f v)) e m)
+  in-concatMap f y x (z ∷ xs) (inr h) m = in-right y (f z) (concatMap f xs) (in-concatMap f y x xs h m)
+
+  pub concatMap-in : (f : A → List B) (y : B) (xs : List A) → In y (concatMap f xs) → (x : A) × In x xs × In y (f x)
+  concatMap-in f y [] h = absurd h
+  concatMap-in f y (z ∷ xs) h = by (in-cases y (f z) (concatMap f xs) h) (concatMap-in f y xs)
+    where
+      by : In y (f z) ⊎ In y (concatMap f xs) → (In y (concatMap f xs) → (x : A) × In x xs × In y (f x)) → (x : A) × ((x ≡ z) ⊎ In x xs) × In y (f x)
+      by (inl m) ih = (z, inl refl, m)
+      by (inr m) ih = let r = ih m in (r .0, inr (r .1), r .2)
+
+  pub length-concatMap : (f : A → List B) (b : ℕ) → ((x : A) → length (f x) ≤ b) → (xs : List A) → length (concatMap f xs) ≤ length xs * b
+  length-concatMap f b h [] = zero-le
+  length-concatMap f b h (x ∷ xs) =
+      le-trans (le-of-eq (length-append (f x) (concatMap f xs)))
+      (le-trans (add-le-add (h x) (length-concatMap f b h xs))
+      (le-of-eq (let e : b + length xs * b ≡ length xs * b + b = omega arith in e ∙ sym (suc-mul (length xs) b))))

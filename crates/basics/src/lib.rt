@@ -1,0 +1,1 @@
+// Facts on tests and lists that every other crate cites: see specs/.

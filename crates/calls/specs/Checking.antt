@@ -1,0 +1,43 @@
+-- What the inclusion check answers on a file, and what the lent journal holds afterwards (document 01, "Working order").
+-- Definitions only. Assumes nothing.
+use mathlib.Core.Bool.{_||_, cond}
+use mathlib.Core.List.{List, _++_}
+use Prim.Native.Nat.{ℕ}
+use lib.Dec.{eqb, ltb}
+use lib.ListN.{length, drop}
+use Rattle.relation.specs.Relation.{states}
+use Rattle.plan_file.specs.Refusals.{refuse, fault}
+use Rattle.plan_file.specs.Views.{rulesOf, automatonOf}
+use Rattle.working_order.specs.Journal.{Row}
+use Rattle.working_order.specs.Order.{Answer, check}
+use Rattle.working_order.specs.Behind.{wordBehind}
+use Rattle.calls.specs.Base.{base, words}
+use Rattle.calls.specs.Replies.{Reply, refused, answered, unless}
+
+-- rows of a journal at most
+abbrev pub journalLimit : ℕ
+journalLimit = 4096
+
+-- 8: the journal has no row or too many
+unfoldable pub journalFault : ℕ → ℕ
+journalFault J = cond (eqb J 0 || ltb journalLimit J) 8 0
+
+-- the working order on the file, with J rows and a budget of B joins
+unfoldable pub orderOn : List ℕ → ℕ → ℕ → Answer ℕ
+orderOn bs J B = check (base states (automatonOf bs)) (rulesOf bs) J B
+
+-- the file's refusal, then 8, then the answer
+unfoldable pub checkOf : List ℕ → ℕ → ℕ → Reply (Answer ℕ)
+checkOf bs J B = let a = orderOn bs J B in unless (fault bs) (unless (refuse (journalFault J) 0) (answered a))
+
+-- the used rows, and then the old contents; the old contents whole on a refusal
+abbrev pub keptBy : List (Row ℕ) → Reply (Answer ℕ) → List (Row ℕ)
+keptBy old (refused r) = old
+keptBy old (answered a) = a .journal ++ drop (a .used) old
+
+unfoldable pub journalAfter : List ℕ → List (Row ℕ) → ℕ → List (Row ℕ)
+journalAfter bs old B = keptBy old (checkOf bs (length old) B)
+
+-- the word that a broken answer shows: the one behind its row
+unfoldable pub shown : List ℕ → Answer ℕ → List ℕ
+shown bs a = wordBehind words (rulesOf bs) (a .journal) (a .row)

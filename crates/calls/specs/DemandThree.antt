@@ -1,0 +1,54 @@
+-- Demand 3, as a statement about an answer on a file's bytes: the checker and a reader who derives words with no checker share one
+-- verdict. Its reader needs document 000 only: words are derived by rewriting, and accepted by a path. Definitions only. Assumes nothing.
+use mathlib.Core.Path.{_≡_}
+use mathlib.Core.Logic.{_↔_}
+use mathlib.Core.Bool.{false}
+use mathlib.Core.List.{List}
+use Prim.Native.Nat.{ℕ, suc, _+_, _*_, _≤_, _<_}
+use lib.ListN.{length}
+use Rattle.relation.specs.Relation.{states}
+use Rattle.language.specs.Grammar.{initial}
+use Rattle.language.specs.Rewriting.{Language}
+use Rattle.language.specs.Spelling.{DerivesWithin}
+use Rattle.language.specs.Automaton.{Accepts, TurnsAway}
+use Rattle.plan_file.specs.Views.{rulesOf, automatonOf}
+use Rattle.working_order.specs.Order.{Answer, Verdict, holds, broken, full, spent}
+use Rattle.working_order.specs.Halting.{Stops}
+use Rattle.calls.specs.Base.{base}
+use Rattle.calls.specs.Checking.{shown}
+
+module _ (bs : List ℕ) where
+  -- the initial symbol derives the word (document 01: the run is derivable)
+  abbrev pub Derivable : List ℕ → Type 0
+  Derivable w = Language (rulesOf bs) initial w
+
+  -- a word that is derived and turned away
+  abbrev pub Counterexample : List ℕ → Type 0
+  Counterexample w = Derivable w × TurnsAway (automatonOf bs) w
+
+  -- the answer to a check with J rows and a budget of B joins
+  pub record OneVerdict (J B : ℕ) (a : Answer ℕ) : Type 0 where
+    -- "holds" only if no derivable word, however long, is turned away
+    pub holds-for-all : a .verdict ≡ holds → (w : List ℕ) → Derivable w → Accepts (automatonOf bs) w
+    -- "broken" only with such a word shown
+    pub broken-shows : a .verdict ≡ broken → Counterexample (shown bs a)
+    -- any verdict other than "full" and "spent" is "broken" exactly when such a word exists
+    pub broken-exactly : (a .verdict ≡ full → ⊥) → (a .verdict ≡ spent → ⊥) → (a .verdict ≡ broken) ↔ ((w : List ℕ) × Counterexample w)
+    -- "full" and "spent" come exactly where the working order runs out: at the candidate that Stops names, of which Found in
+    -- Halting.antt says that the rows, or the joins, have run out
+    pub full-where : a .verdict ≡ full → Stops (base states (automatonOf bs)) (rulesOf bs) J B full a
+    pub spent-where : a .verdict ≡ spent → Stops (base states (automatonOf bs)) (rulesOf bs) J B spent a
+
+  -- the counts of an answer: joins are the candidates formed (Stops, for every verdict but "holds"), and document 01's bounds
+  pub record Counts (J B : ℕ) (a : Answer ℕ) : Type 0 where
+    pub used-rows : a .used ≡ length (a .journal)
+    pub rows-bound : a .used ≤ J
+    pub pass-bound : a .pass ≤ J + 1
+    pub joins-bound : a .joins ≤ length (rulesOf bs) * J * J * (J + 1)
+    -- a budget of that size is never spent
+    pub never-spent : length (rulesOf bs) * J * J * (J + 1) ≤ B → a .verdict ≡ spent → ⊥
+
+  -- the pass of a broken answer is the least height of a derivation whose word is turned away
+  pub record LeastHeight (a : Answer ℕ) : Type 0 where
+    pub shown-within : a .verdict ≡ broken → DerivesWithin (rulesOf bs) (a .pass) initial (shown bs a)
+    pub none-lower : a .verdict ≡ broken → (h : ℕ) → h < a .pass → (w : List ℕ) → DerivesWithin (rulesOf bs) h initial w → Accepts (automatonOf bs) w

@@ -1,0 +1,53 @@
+-- What holds of the rows that a check leaves in the journal, on the bytes of any file. Assumes nothing.
+use mathlib.Core.Path.{_≡_, subst}
+use mathlib.Core.Bool.{true}
+use mathlib.Core.List.{List, []}
+use Prim.Native.Nat.{ℕ, _<_}
+use lib.ListN.{length, getD}
+use Rattle.relation.specs.Relation.{states}
+use Rattle.language.specs.Spelling.{DerivesWithin}
+use Rattle.language.specs.WordRelation.{wordRelation}
+use Rattle.plan_file.specs.Views.{rulesOf, automatonOf}
+use Rattle.working_order.specs.Journal.{Row, noRow, capped}
+use Rattle.working_order.specs.Order.{check}
+use Rattle.working_order.specs.Behind.{wordsOf, wordBehind}
+use Rattle.working_order.specs.Fitting.{rowFits}
+use Rattle.working_order.specs.SideBySide.{side-at}
+use Rattle.working_order.specs.Soundness.{RowSound}
+use Rattle.working_order.specs.Truth.{check-says}
+use Rattle.working_order.specs.Antichain.{Antichain, check-antichain}
+use Rattle.working_order.specs.FittingRows.{check-fits}
+use Rattle.calls.specs.Base.{base, words}
+use Rattle.calls.specs.BaseLaws.{base-laws, word-sizes, word-derived}
+use Rattle.calls.specs.Checking.{orderOn}
+
+module _ (bs : List ℕ) (J B : ℕ) where
+  abbrev pub rowAt : ℕ → Row ℕ
+  rowAt i = getD (orderOn bs J B .journal) i (noRow (base states (automatonOf bs) .forms))
+
+  abbrev pub wordAt : ℕ → List ℕ
+  wordAt i = wordBehind words (rulesOf bs) (orderOn bs J B .journal) i
+
+  pub record RowTrue (i : ℕ) : Type 0 where
+    -- the word behind the row derives from its nonterminal, with no more rules on a way than the pass of its birth
+    pub derived : DerivesWithin (rulesOf bs) (rowAt i .birth) (rowAt i .head) (wordAt i)
+    -- the row's relation is exactly that word's (document 01: the effect of the run)
+    pub relation-is : wordRelation states (automatonOf bs .transitions) (wordAt i) ≡ rowAt i .effect
+    pub length-is : rowAt i .len ≡ capped (length (wordAt i))
+    pub fits : rowFits (base states (automatonOf bs) .forms) (orderOn bs J B .journal) (rulesOf bs) i ≡ true
+
+  pub row-true : (i : ℕ) → i < length (orderOn bs J B .journal) → RowTrue i
+  unfolding orderOn wordBehind
+  row-true i h =
+      let a = orderOn bs J B in
+      let A = base states (automatonOf bs) in
+      let s =
+      side-at (RowSound A words (rulesOf bs) (a .pass)) (noRow (A .forms)) [] (a .journal) (wordsOf words (rulesOf bs) (a .journal))
+      (check-says A (base-laws states (automatonOf bs)) words word-sizes (rulesOf bs) J B .sound) i h in
+      let d = word-derived states (automatonOf bs) (rulesOf bs) (rowAt i .birth) (rowAt i .head) (rowAt i .effect) (wordAt i) (s .derived) in
+      record { derived = d .0; relation-is = d .1; length-is = s .size; fits = check-fits A (rulesOf bs) J B i h }
+
+  -- the live rows of a nonterminal are an antichain (document 000, section 4, as document 01 reads it)
+  pub antichain : Antichain (base states (automatonOf bs)) (orderOn bs J B .journal)
+  unfolding orderOn
+  antichain = check-antichain (base states (automatonOf bs)) (rulesOf bs) J B

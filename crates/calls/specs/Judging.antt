@@ -1,0 +1,32 @@
+-- What judging a word answers on a file (document 01: a run is accepted or turned away). Definitions only. Assumes nothing.
+use mathlib.Core.Bool.{Bool, true, false, _||_, cond}
+use mathlib.Core.List.{List}
+use Prim.Native.Nat.{ℕ}
+use lib.Dec.{leb, ltb}
+use lib.ListN.{length}
+use Rattle.basics.specs.Lists.{any}
+use Rattle.relation.specs.Relation.{states}
+use Rattle.language.specs.WordRelation.{rejected}
+use Rattle.plan_file.specs.Limits.{terminals}
+use Rattle.plan_file.specs.Refusals.{refuse, fault}
+use Rattle.plan_file.specs.Views.{automatonOf}
+use Rattle.calls.specs.Replies.{Reply, answered, unless}
+
+pub data Judgement : Type 0 where
+  accepted turnedAway : Judgement
+
+-- steps of a word to be judged at most
+abbrev pub wordLimit : ℕ
+wordLimit = 65534
+
+-- 11: the word is too long, or a letter is no step code
+unfoldable pub wordFault : List ℕ → ℕ
+wordFault w = cond (ltb wordLimit (length w) || any (λ c. leb terminals c) w) 11 0
+
+abbrev pub judgementBy : Bool → Judgement
+judgementBy true = turnedAway
+judgementBy false = accepted
+
+-- the file's refusal, then 11, then the judgement
+unfoldable pub judgeOf : List ℕ → List ℕ → Reply Judgement
+judgeOf bs w = let j = judgementBy (rejected states (automatonOf bs) w) in unless (fault bs) (unless (refuse (wordFault w) 0) (answered j))

@@ -1,0 +1,38 @@
+-- A judgement is the truth about paths (demand 2): accepted exactly when a path leads from state 0 to a final state. Assumes nothing.
+use mathlib.Core.Path.{_≡_, refl, sym, ap, _∙_}
+use mathlib.Core.Bool.{Bool, true, false}
+use mathlib.Core.List.{List}
+use Prim.Native.Nat.{ℕ, zero, suc}
+use native.Mathlib.Omega.{arith}
+use Rattle.relation.specs.Relation.{states}
+use Rattle.language.specs.Automaton.{Accepts, TurnsAway}
+use Rattle.language.specs.WordRelation.{rejected}
+use Rattle.language.specs.Paths.{turns-away, accepts}
+use Rattle.plan_file.specs.Refusals.{Refusal, fault}
+use Rattle.plan_file.specs.Views.{automatonOf}
+use Rattle.plan_file.specs.Valid.{automaton-within}
+use Rattle.calls.specs.Replies.{Reply, refused, answered, unlessBy}
+use Rattle.calls.specs.Judging.{Judgement, accepted, turnedAway, wordFault, judgementBy, judgeOf}
+
+-- what an answer means
+abbrev pub Means : List ℕ → List ℕ → Reply Judgement → Type 0
+Means bs w (refused r) = Unit {0}
+Means bs w (answered accepted) = Accepts (automatonOf bs) w
+Means bs w (answered turnedAway) = TurnsAway (automatonOf bs) w
+
+pub judge-means : (bs w : List ℕ) → Means bs w (judgeOf bs w)
+unfolding judgeOf
+judge-means bs w = by (fault bs .number) refl
+  where
+    last : (b : Bool) → fault bs .number ≡ 0 → rejected states (automatonOf bs) w ≡ b → Means bs w (answered (judgementBy b))
+    last true v e = turns-away states (automatonOf bs) (automaton-within bs v) w e
+    last false v e = accepts states (automatonOf bs) (automaton-within bs v) w e
+
+    next : (f : ℕ) → fault bs .number ≡ 0 → Means bs w (unlessBy f (record { number = f; place = 0 }) (answered (judgementBy (rejected states (automatonOf bs) w))))
+    next zero v = last (rejected states (automatonOf bs) w) v refl
+    next (suc f) v = tt
+
+    by : (f : ℕ) → fault bs .number ≡ f
+        → Means bs w (unlessBy f (fault bs) (unlessBy (wordFault w) (record { number = wordFault w; place = 0 }) (answered (judgementBy (rejected states (automatonOf bs) w)))))
+    by zero v = next (wordFault w) v
+    by (suc f) v = tt

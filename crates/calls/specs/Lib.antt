@@ -1,0 +1,12 @@
+pub mod Replies
+pub mod Base
+pub mod Rows
+pub mod Checking
+pub mod Judging
+pub mod Writing
+pub mod BaseLaws
+pub mod DemandThree
+pub mod Truth
+pub mod JournalTruth
+pub mod JudgingTruth
+pub mod Cases

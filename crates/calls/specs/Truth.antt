@@ -1,0 +1,145 @@
+-- Demand 3 and stability, on the bytes of a file that is not refused, for every journal length and every budget. Assumes nothing.
+use mathlib.Core.Path.{_≡_, refl, sym, ap, _∙_, subst}
+use mathlib.Core.Logic.{_↔_}
+use mathlib.Core.Bool.{Bool, true, false, _&&_}
+use mathlib.Core.List.{List, [], _∷_}
+use Prim.Native.Nat.{ℕ, suc, _+_, _*_, _≤_, _<_}
+use native.Mathlib.Nat.{le-refl, le-trans, le-of-eq, mul-comm, mul-assoc, mul-one}
+use native.Mathlib.Numerals.{add-one}
+use native.Mathlib.Omega.{arith}
+use lib.Dec.{eqb}
+use lib.ListN.{length}
+use borrow.Author.Tests.{eqb-true}
+use Rattle.basics.specs.Tests.{and-fst, and-snd}
+use Rattle.relation.specs.Relation.{states, compose, rejects}
+use Rattle.language.specs.Grammar.{initial}
+use Rattle.language.specs.Spelling.{DerivesWithin}
+use Rattle.language.specs.Agreement.{language}
+use Rattle.language.specs.Automaton.{Automaton, Accepts, TurnsAway}
+use Rattle.language.specs.WordRelation.{wordRelation, isFinal, rejected}
+use Rattle.language.specs.Paths.{turns-away, accepts}
+use Rattle.plan_file.specs.Refusals.{fault}
+use Rattle.plan_file.specs.Views.{rulesOf, automatonOf}
+use Rattle.plan_file.specs.Valid.{automaton-within}
+use Rattle.working_order.specs.Algebra.{Algebra}
+use Rattle.working_order.specs.Journal.{Row}
+use Rattle.working_order.specs.Order.{Answer, Verdict, holds, broken, full, spent, check}
+use Rattle.working_order.specs.Behind.{wordBehind}
+use Rattle.working_order.specs.Halting.{Stops}
+use Rattle.working_order.specs.Truth.{SaysBy, Says, check-says, holds-calm, shownRow}
+use Rattle.working_order.specs.Counting.{Exact, StopsBy, check-exact, never-spent}
+use Rattle.working_order.specs.Stability.{Firm, check-mono}
+use Rattle.calls.specs.Base.{starts, base, words}
+use Rattle.calls.specs.BaseLaws.{base-laws, word-sizes, relation-derived, word-derived}
+use Rattle.calls.specs.Checking.{orderOn, shown}
+use Rattle.calls.specs.DemandThree.{Derivable, Counterexample, OneVerdict, Counts, LeastHeight}
+
+module _ (bs : List ℕ) (v : fault bs .number ≡ 0) (J B : ℕ) where
+  abbrev A : Automaton
+  A = automatonOf bs
+
+  -- what each verdict means
+  abbrev Means : Verdict → Answer ℕ → Type 0
+  Means holds a = (w : List ℕ) → Derivable bs w → Accepts A w
+  Means broken a =
+      DerivesWithin (rulesOf bs) (a .pass) initial (shown bs a) × TurnsAway A (shown bs a)
+      × ((h : ℕ) → h < a .pass → (w : List ℕ) → DerivesWithin (rulesOf bs) h initial w → Accepts A w)
+  Means full a = Unit {0}
+  Means spent a = Unit {0}
+
+  -- a word whose relation does not break is accepted
+  calm : (w : List ℕ) → base states A .breaks initial (wordRelation states (A .transitions) w) ≡ false → Accepts A w
+  unfolding rejected
+  calm w b = accepts states A (automaton-within bs v) w b
+
+  means : (x : Verdict) (a : Answer ℕ) → SaysBy (base states A) words (rulesOf bs) x a → Means x a
+  unfolding rejected shown
+  means holds a s =
+      λ w d.
+      let t = language (rulesOf bs) initial w .0 d in
+      calm w (holds-calm (base states A) (base-laws states A) words word-sizes (rulesOf bs) J B a s (t .0) initial (wordRelation states (A .transitions) w) (relation-derived states A (rulesOf bs) (t .0) initial w (t .1)))
+  means broken a s =
+      let r = shownRow (base states A) a in
+      let w = wordBehind words (rulesOf bs) (a .journal) (a .row) in
+      let t = word-derived states A (rulesOf bs) (a .pass) (r .head) (r .effect) w (s .0) in
+      let reject = rejects states (isFinal A) in (
+        subst (λ (x : ℕ). DerivesWithin (rulesOf bs) (a .pass) x w) (eqb-true (r .head) initial (and-fst (starts (r .head)) (reject (r .effect)) (s .1))) (t .0),
+        turns-away states A (automaton-within bs v) w (ap reject (t .1) ∙ and-snd (starts (r .head)) (reject (r .effect)) (s .1)),
+        λ h l u d. calm u (s .3 h l initial (wordRelation states (A .transitions) u) (relation-derived states A (rulesOf bs) h initial u d)),
+      )
+  means full a s = tt
+  means spent a s = tt
+
+  meaning : (x : Verdict) → orderOn bs J B .verdict ≡ x → Means x (orderOn bs J B)
+  unfolding orderOn
+  meaning x e =
+      means x (orderOn bs J B)
+      (subst (λ (y : Verdict). SaysBy (base states A) words (rulesOf bs) y (orderOn bs J B)) e (check-says (base states A) (base-laws states A) words word-sizes (rulesOf bs) J B .verdict))
+
+  shows : orderOn bs J B .verdict ≡ broken → Counterexample bs (shown bs (orderOn bs J B))
+  shows e = let m = meaning broken e in (language (rulesOf bs) initial (shown bs (orderOn bs J B)) .1 (orderOn bs J B .pass, m .0), m .1)
+
+  -- where a word is turned away and the verdict is firm, it is "broken"
+  found : (x : Verdict) → orderOn bs J B .verdict ≡ x → (x ≡ full → ⊥) → (x ≡ spent → ⊥) → (w : List ℕ) × Counterexample bs w → x ≡ broken
+  found holds e f s c = absurd (c .1 .1 (meaning holds e (c .0) (c .1 .0)))
+  found broken e f s c = refl
+  found full e f s c = absurd (f refl)
+  found spent e f s c = absurd (s refl)
+
+  pub least-height : LeastHeight bs (orderOn bs J B)
+  least-height = record { shown-within = λ e. meaning broken e .0; none-lower = λ e. meaning broken e .2 }
+
+  module _ (pos : 1 ≤ J) where
+    abbrev counts : Exact (base states A) 1 (λ x y. le-refl 1) (le-refl 1) (rulesOf bs) J B pos (check (base states A) (rulesOf bs) J B)
+    counts = check-exact (base states A) 1 (λ x y. le-refl 1) (le-refl 1) (rulesOf bs) J B pos
+
+    stops : (x : Verdict) → orderOn bs J B .verdict ≡ x → StopsBy (base states A) 1 (λ x y. le-refl 1) (le-refl 1) (rulesOf bs) J B pos x (orderOn bs J B)
+    unfolding orderOn
+    stops x e = subst (λ (y : Verdict). StopsBy (base states A) 1 (λ x y. le-refl 1) (le-refl 1) (rulesOf bs) J B pos y (orderOn bs J B)) e (counts .stops)
+
+    -- demand 3
+    pub one-verdict : OneVerdict bs J B (orderOn bs J B)
+    one-verdict =
+        record {
+          holds-for-all = meaning holds;
+          broken-shows = shows;
+          broken-exactly = λ f s. (λ e. (shown bs (orderOn bs J B), shows e), λ c. found (orderOn bs J B .verdict) refl f s c);
+          full-where = stops full;
+          spent-where = stops spent;
+        }
+
+    -- the bound as the counting has it, and as document 01 writes it
+    bound : suc J * (length (rulesOf bs) * (J * (J * 1))) ≡ length (rulesOf bs) * J * J * (J + 1)
+    bound =
+        mul-comm (suc J) (length (rulesOf bs) * (J * (J * 1)))
+        ∙ ap (λ (x : ℕ). length (rulesOf bs) * (J * x) * suc J) (mul-one J)
+        ∙ ap (λ (x : ℕ). x * suc J) (sym (mul-assoc (length (rulesOf bs)) J J))
+        ∙ ap (λ (x : ℕ). length (rulesOf bs) * J * J * x) (sym (add-one J))
+
+    pub counted : Counts bs J B (orderOn bs J B)
+    unfolding orderOn
+    counted =
+        record {
+          used-rows = counts .used-is;
+          rows-bound = counts .rows-bound;
+          pass-bound = omega (arith, counts .pass-bound);
+          joins-bound = le-trans (counts .joins-bound) (le-of-eq bound);
+          never-spent = λ h e. never-spent (base states A) 1 (λ x y. le-refl 1) (le-refl 1) (rulesOf bs) J B pos (le-trans (le-of-eq bound) h) e;
+        }
+
+-- once a verdict is neither "full" nor "spent", a longer journal or a larger budget leaves the whole answer as it is: verdict, joins,
+-- used rows, pass, row and the rows themselves
+pub stable : (bs : List ℕ) (J B J′ B′ : ℕ) → J ≤ J′ → B ≤ B′ → (orderOn bs J B .verdict ≡ full → ⊥) → (orderOn bs J B .verdict ≡ spent → ⊥) → orderOn bs J′ B′ ≡ orderOn bs J B
+unfolding orderOn
+stable bs J B J′ B′ j b f s = check-mono (base states (automatonOf bs)) (rulesOf bs) J B J′ B′ j b (firm (orderOn bs J B .verdict) f s)
+  where
+    firm : (x : Verdict) → (x ≡ full → ⊥) → (x ≡ spent → ⊥) → Firm x
+    firm holds f s = tt
+    firm broken f s = tt
+    firm full f s = f refl
+    firm spent f s = s refl
+
+-- and the shown word with it
+pub same-shown : (bs : List ℕ) (J B J′ B′ : ℕ) → J ≤ J′ → B ≤ B′ → (orderOn bs J B .verdict ≡ full → ⊥) → (orderOn bs J B .verdict ≡ spent → ⊥)
+    → shown bs (orderOn bs J′ B′) ≡ shown bs (orderOn bs J B)
+same-shown bs J B J′ B′ j b f s = ap (shown bs) (stable bs J B J′ B′ j b f s)

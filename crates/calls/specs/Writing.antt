@@ -1,0 +1,51 @@
+-- What writing the word behind a journal row answers, and what the lent buffer holds afterwards (document 01, "Writing a run").
+-- Definitions only. Assumes nothing.
+use mathlib.Core.Bool.{not, _||_, cond}
+use mathlib.Core.List.{List, _++_}
+use Prim.Native.Nat.{ℕ, _+_}
+use lib.Dec.{leb, ltb}
+use lib.ListN.{length, drop}
+use Rattle.relation.specs.Relation.{states}
+use Rattle.plan_file.specs.Refusals.{refuse, fault}
+use Rattle.plan_file.specs.Views.{rulesOf, automatonOf}
+use Rattle.language.specs.Grammar.{Rule}
+use Rattle.working_order.specs.Algebra.{Forms}
+use Rattle.working_order.specs.Journal.{Row}
+use Rattle.working_order.specs.Behind.{wordBehind}
+use Rattle.working_order.specs.Fitting.{rowsFit}
+use Rattle.calls.specs.Base.{base, words}
+use Rattle.calls.specs.Checking.{journalFault}
+use Rattle.calls.specs.Replies.{Reply, refused, answered, unless}
+
+-- a word of so many steps is not written
+abbrev pub longWord : ℕ
+longWord = 65535
+
+-- 9: row i is not below the used count, or that count exceeds the journal, or some row from 0 through i does not fit
+unfoldable pub rowFault : Forms ℕ → List Rule → List (Row ℕ) → ℕ → ℕ → ℕ
+rowFault M rules rows used i = cond (not (ltb i used) || (ltb (length rows) used || not (rowsFit M rows rules (i + 1)))) 9 0
+
+-- 10: the word is too long, or longer than the buffer
+unfoldable pub roomFault : List ℕ → ℕ → ℕ
+roomFault w room = cond (leb longWord (length w) || ltb room (length w)) 10 0
+
+-- the word behind row i of the journal
+unfoldable pub wordOf : List ℕ → List (Row ℕ) → ℕ → List ℕ
+wordOf bs rows i = wordBehind words (rulesOf bs) rows i
+
+-- the file's refusal, then 8, 9 and 10, then the word's length
+unfoldable pub writeOf : List ℕ → List (Row ℕ) → ℕ → ℕ → ℕ → Reply ℕ
+writeOf bs rows used i room =
+    let w = wordOf bs rows i in
+    unless (fault bs)
+    (unless (refuse (journalFault (length rows)) 0)
+    (unless (refuse (rowFault (base states (automatonOf bs) .forms) (rulesOf bs) rows used i) 0)
+    (unless (refuse (roomFault w room) 0) (answered (length w)))))
+
+-- the word, and then the old bytes; the old bytes whole on a refusal
+abbrev pub writtenBy : List ℕ → List ℕ → Reply ℕ → List ℕ
+writtenBy w old (refused r) = old
+writtenBy w old (answered n) = w ++ drop n old
+
+unfoldable pub bufferAfter : List ℕ → List (Row ℕ) → ℕ → ℕ → List ℕ → List ℕ
+bufferAfter bs rows used i old = writtenBy (wordOf bs rows i) old (writeOf bs rows used i (length old))

@@ -1,0 +1,7 @@
+pub mod Grammar
+pub mod Rewriting
+pub mod Spelling
+pub mod Agreement
+pub mod Automaton
+pub mod WordRelation
+pub mod Paths

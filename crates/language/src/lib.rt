@@ -1,0 +1,1 @@
+// What document 000, section 2.1, defines: see specs/.

@@ -1,0 +1,35 @@
+-- A step of the reader from any place, and the stretch of the file that holds its transitions (document 01, "Records").
+-- Definitions only. Assumes nothing.
+use mathlib.Core.Bool.{cond}
+use mathlib.Core.List.{List, []}
+use Prim.Native.Nat.{ℕ, zero, suc, _+_, _*_}
+use lib.Dec.{eqb, leb}
+use lib.ListN.{take, drop}
+use Rattle.plan_file.specs.Records.{recordCount, recordAt, Record, recordOf, ruleKind, transitionKind, countOf}
+use Rattle.plan_file.specs.Refusals.{Refusal, refuse, faultBy, lengthFirst, fault}
+
+pub data Step : Type 0 where
+  -- a record, and the place of the next
+  gives : Record → ℕ → Step
+  -- the place stays
+  refuses : Refusal → Step
+  -- past the last record
+  ended : Step
+
+abbrev pub stepBy : ℕ → ℕ → Record → Step
+stepBy zero i r = gives r (i + 1)
+stepBy (suc f) i r = refuses (refuse (suc f) i)
+
+-- at place i, where so many rules and transitions stand before it
+unfoldable pub stepFrom : List ℕ → ℕ → ℕ → ℕ → Step
+stepFrom bs i rules transitions = lengthFirst refuses bs (cond (leb (recordCount bs) i) ended (stepBy (faultBy bs i rules transitions) i (recordOf (recordAt bs i))))
+
+-- from any place: the records before it are counted by their kind alone, and not checked again
+unfoldable pub stepAt : List ℕ → ℕ → Step
+stepAt bs i = stepFrom bs i (countOf bs ruleKind i) (countOf bs transitionKind i)
+
+-- the bytes of the file's transitions: none where the file is refused
+unfoldable pub stretch : List ℕ → List ℕ
+stretch bs =
+    let n = recordCount bs in
+    cond (eqb (fault bs .number) 0) (take (countOf bs transitionKind n * 8) (drop (countOf bs ruleKind n * 8) bs)) []

@@ -1,0 +1,251 @@
+-- Laws of numbers as sets of places. Assumes nothing.
+use mathlib.Core.Path.{_≡_, refl, sym, ap, ap₂, _∙_, subst}
+use mathlib.Core.Logic.{_⊎_, inl, inr}
+use mathlib.Core.Bool.{Bool, true, false, _&&_, _||_, false≢true}
+use Prim.Native.Nat.{ℕ, zero, suc, _+_, _-_, _*_, _/_, _%_, _^_, _≤_, _<_, zero-le, suc-le-suc, min, max}
+use native.Mathlib.Nat.{le-refl, le-of-suc-le-suc, not-suc-le-zero, zero-lt-suc, mod-lt, pow-suc, eq-or-lt-of-le, mul-add-mod-self-right, mul-comm, lt-of-le-of-lt, lt-of-lt-of-le, le-of-lt, add-comm, add-zero, zero-mul, one-mul, div-eq-of-lt}
+use native.Mathlib.Omega.{arith}
+use native.Mathlib.Numerals.{add-one}
+use lib.Dec.{eqb, ltb}
+use lib.Arith.{digits-lt, lt-one, lt-of-le-ne}
+use lib.Pow.{pow-pos, pow-mono, pow-lt, shl-exact, shr-shr, high, low, field, mod-mod-pow, recompose}
+use lib.Bits.{bitAnd, bitOr, and-shr, and-step, or-shr, or-step, and-le-l, and-self, and-comm}
+use borrow.Author.Tests.{eqb-true, eqb-false, eq-eqb, ltb-true, ltb-false}
+use Rattle.basics.specs.Tests.{or-left, or-right}
+use Rattle.relation.specs.Digits.{bit, digit, number, some, subset}
+
+-- ---- digits
+
+two-pos : 0 < 2
+two-pos = zero-lt-suc 1
+
+-- a digit, as a number, is 0 or 1 by the test
+pub digit-is : (e k : ℕ) → e / 2 ^ k % 2 ≡ digit (bit e k)
+unfolding bit
+digit-is e k = go (e / 2 ^ k % 2) (mod-lt (e / 2 ^ k) two-pos)
+  where
+    go : (d : ℕ) → d < 2 → d ≡ digit (eqb d 1)
+    go zero h = refl
+    go (suc zero) h = refl
+    go (suc (suc d)) h = absurd (not-suc-le-zero (le-of-suc-le-suc (le-of-suc-le-suc h)))
+
+digit-lt : (b : Bool) → digit b < 2
+digit-lt true = le-refl 2
+digit-lt false = two-pos
+
+digit-eqb : (b : Bool) → eqb (digit b % 2) 1 ≡ b
+digit-eqb true = refl
+digit-eqb false = refl
+
+-- the digits below m are those of the remainder
+pub bit-mod : (e m k : ℕ) → k < m → bit (e % 2 ^ m) k ≡ bit e k
+unfolding bit
+bit-mod e m k h =
+    let j : ℕ = m - suc k in
+    let em : m ≡ (j + 1) + k = omega arith in
+    ap (λ (x : ℕ). eqb (e % 2 ^ x / 2 ^ k % 2) 1) em
+    ∙ ap (λ (x : ℕ). eqb (x % 2) 1) (field e (j + 1) k)
+    ∙ ap (λ (x : ℕ). eqb x 1) (mod-mod-pow (e / 2 ^ k) j 1)
+
+pub bit-low : (v m r k : ℕ) → r < 2 ^ m → k < m → bit (v * 2 ^ m + r) k ≡ bit r k
+bit-low v m r k hr h = sym (bit-mod (v * 2 ^ m + r) m k h) ∙ ap (λ (x : ℕ). bit x k) (low v m hr)
+
+pub bit-high : (b : Bool) (m r : ℕ) → r < 2 ^ m → bit (digit b * 2 ^ m + r) m ≡ b
+unfolding bit
+bit-high b m r hr = ap (λ (x : ℕ). eqb (x % 2) 1) (high (digit b) m hr) ∙ digit-eqb b
+
+-- a shift moves the digits down
+pub bit-shr : (x c k : ℕ) → bit (x / 2 ^ c) k ≡ bit x (c + k)
+unfolding bit
+bit-shr x c k = ap (λ (z : ℕ). eqb (z % 2) 1) (shr-shr x c k)
+
+pub bit-up : (v m r k : ℕ) → r < 2 ^ m → bit (v * 2 ^ m + r) (m + k) ≡ bit v k
+bit-up v m r k h = sym (bit-shr (v * 2 ^ m + r) m k) ∙ ap (λ (z : ℕ). bit z k) (high v m h)
+
+-- a number has no digit beyond its size
+pub bit-beyond : (x k : ℕ) → x < 2 ^ k → bit x k ≡ false
+unfolding bit
+bit-beyond x k h = ap (λ (z : ℕ). eqb (z % 2) 1) (div-eq-of-lt h)
+
+pub bit-zero : (k : ℕ) → bit 0 k ≡ false
+bit-zero k = bit-beyond 0 k (pow-pos k)
+
+-- a power of 2 has one digit
+pub bit-power : (m k : ℕ) → bit (2 ^ m) k ≡ eqb k m
+bit-power m k = go (eqb k m) refl (ltb k m) refl
+  where
+    whole : 1 * 2 ^ m + 0 ≡ 2 ^ m
+    whole = add-zero (1 * 2 ^ m) ∙ one-mul (2 ^ m)
+
+    go : (t : Bool) → eqb k m ≡ t → (u : Bool) → ltb k m ≡ u → bit (2 ^ m) k ≡ eqb k m
+    go true e u l = ap₂ bit (sym whole) (eqb-true k m e) ∙ bit-high true m 0 (pow-pos m) ∙ sym e
+    go false e true l =
+        ap (λ (z : ℕ). bit z k) (sym whole) ∙ bit-low 1 m 0 k (pow-pos m) (ltb-true k m l) ∙ bit-zero k ∙ sym e
+    go false e false l =
+        bit-beyond (2 ^ m) k (pow-lt (lt-of-le-ne (ltb-false k m l) (λ p. eqb-false k m e (sym p)))) ∙ sym e
+
+-- a number taken once or not at all
+pub bit-digit-mul : (t : Bool) (r k : ℕ) → bit (digit t * r) k ≡ (t && bit r k)
+bit-digit-mul true r k = ap (λ (z : ℕ). bit z k) (one-mul r)
+bit-digit-mul false r k = ap (λ (z : ℕ). bit z k) (zero-mul r) ∙ bit-zero k
+
+pub bit-digit : (t : Bool) (k : ℕ) → bit (digit t) k ≡ (t && eqb k 0)
+bit-digit true k = bit-power 0 k
+bit-digit false k = bit-zero k
+
+pub digit-mul-lt : (t : Bool) (r m : ℕ) → r < m → digit t * r < m
+digit-mul-lt true r m h = subst (λ (z : ℕ). z < m) (sym (one-mul r)) h
+digit-mul-lt false r m h = subst (λ (z : ℕ). z < m) (sym (zero-mul r)) (lt-of-le-of-lt zero-le h)
+
+pub number-lt : (m : ℕ) (f : ℕ → Bool) → number m f < 2 ^ m
+unfolding number
+number-lt zero f = le-refl 1
+number-lt (suc m) f =
+    subst (λ (x : ℕ). digit (f m) * 2 ^ m + number m f < x) (mul-comm 2 (2 ^ m) ∙ sym (pow-suc 2 m))
+    (digits-lt (digit-lt (f m)) (number-lt m f))
+
+-- what is made of f has f's digits
+pub bit-number : (m : ℕ) (f : ℕ → Bool) (k : ℕ) → k < m → bit (number m f) k ≡ f k
+unfolding number
+bit-number zero f k h = absurd (not-suc-le-zero h)
+bit-number (suc m) f k h = go (bit-number m f k) (eq-or-lt-of-le (le-of-suc-le-suc h))
+  where
+    go : (k < m → bit (number m f) k ≡ f k) → (k ≡ m) ⊎ (k < m) → bit (digit (f m) * 2 ^ m + number m f) k ≡ f k
+    go ih (inl e) = ap (bit (digit (f m) * 2 ^ m + number m f)) e ∙ bit-high (f m) m (number m f) (number-lt m f) ∙ ap f (sym e)
+    go ih (inr l) = bit-low (digit (f m)) m (number m f) k (number-lt m f) l ∙ ih l
+
+-- two numbers of m digits are equal where their digits are
+pub ext : (m a b : ℕ) → a < 2 ^ m → b < 2 ^ m → ((k : ℕ) → k < m → bit a k ≡ bit b k) → a ≡ b
+ext zero a b ha hb h = lt-one ha ∙ sym (lt-one hb)
+ext (suc m) a b ha hb h =
+    sym (parts a ha)
+    ∙ ap₂ (λ (x y : ℕ). x * 2 ^ m + y)
+    (digit-is a m ∙ ap digit (h m (le-refl (suc m))) ∙ sym (digit-is b m))
+    (ext m (a % 2 ^ m) (b % 2 ^ m) (mod-lt a (pow-pos m)) (mod-lt b (pow-pos m))
+    (λ k l. bit-mod a m k l ∙ h k (omega arith) ∙ sym (bit-mod b m k l)))
+    ∙ parts b hb
+  where
+    parts : (n : ℕ) → n < 2 ^ suc m → n / 2 ^ m % 2 * 2 ^ m + n % 2 ^ m ≡ n
+    parts n l = recompose 1 m (subst (λ (x : ℕ). n < 2 ^ x) (let e : suc m ≡ 1 + m = omega arith in e) l)
+
+-- ---- and, or, containment
+
+min-digit : (a b : Bool) → eqb (min (digit a) (digit b) % 2) 1 ≡ (a && b)
+min-digit true true = refl
+min-digit true false = refl
+min-digit false true = refl
+min-digit false false = refl
+
+max-digit : (a b : Bool) → eqb (max (digit a) (digit b) % 2) 1 ≡ (a || b)
+max-digit true true = refl
+max-digit true false = refl
+max-digit false true = refl
+max-digit false false = refl
+
+pub bit-and : (a b k : ℕ) → bit (bitAnd a b) k ≡ (bit a k && bit b k)
+unfolding bit
+bit-and a b k =
+    ap (λ (x : ℕ). eqb (x % 2) 1) (and-shr a b k ∙ and-step (a / 2 ^ k) (b / 2 ^ k))
+    ∙ ap (λ (x : ℕ). eqb x 1) (mul-add-mod-self-right (bitAnd (a / 2 ^ k / 2) (b / 2 ^ k / 2)) 2 (min (a / 2 ^ k % 2) (b / 2 ^ k % 2)))
+    ∙ ap₂ (λ (x y : ℕ). eqb (min x y % 2) 1) (digit-is a k) (digit-is b k)
+    ∙ min-digit (bit a k) (bit b k)
+
+pub bit-or : (a b k : ℕ) → bit (bitOr a b) k ≡ (bit a k || bit b k)
+unfolding bit
+bit-or a b k =
+    ap (λ (x : ℕ). eqb (x % 2) 1) (or-shr a b k ∙ or-step (a / 2 ^ k) (b / 2 ^ k))
+    ∙ ap (λ (x : ℕ). eqb x 1) (mul-add-mod-self-right (bitOr (a / 2 ^ k / 2) (b / 2 ^ k / 2)) 2 (max (a / 2 ^ k % 2) (b / 2 ^ k % 2)))
+    ∙ ap₂ (λ (x y : ℕ). eqb (max x y % 2) 1) (digit-is a k) (digit-is b k)
+    ∙ max-digit (bit a k) (bit b k)
+
+and-right : (a b : Bool) → (a && b) ≡ a → a ≡ true → b ≡ true
+and-right true b e h = e
+and-right false b e h = absurd (false≢true h)
+
+and-left : (a b : Bool) → (a ≡ true → b ≡ true) → (a && b) ≡ a
+and-left true b h = h refl
+and-left false b h = refl
+
+pub subset-bit : (x y : ℕ) → subset x y ≡ true → (k : ℕ) → bit x k ≡ true → bit y k ≡ true
+unfolding subset
+subset-bit x y s k h = and-right (bit x k) (bit y k) (sym (bit-and x y k) ∙ ap (λ (z : ℕ). bit z k) (eqb-true (bitAnd x y) x s)) h
+
+pub bit-subset : (m x y : ℕ) → x < 2 ^ m → ((k : ℕ) → k < m → bit x k ≡ true → bit y k ≡ true) → subset x y ≡ true
+unfolding subset
+bit-subset m x y hx h =
+    eq-eqb (bitAnd x y) x (ext m (bitAnd x y) x (lt-of-le-of-lt (and-le-l x y) hx) hx
+    (λ k l. bit-and x y k ∙ and-left (bit x k) (bit y k) (h k l)))
+
+pub subset-refl : (x : ℕ) → subset x x ≡ true
+unfolding subset
+subset-refl x = eq-eqb (bitAnd x x) x (and-self x)
+
+-- every number has fewer digits than itself
+below-power : (x : ℕ) → x < 2 ^ x
+below-power zero = pow-pos 0
+below-power (suc x) = let l = below-power x in omega (arith, pow-lt (le-refl (suc x)))
+
+pub subset-trans : (x y z : ℕ) → subset x y ≡ true → subset y z ≡ true → subset x z ≡ true
+subset-trans x y z p q = bit-subset x x z (below-power x) (λ k l h. subset-bit y z q k (subset-bit x y p k h))
+
+pub subset-antisym : (x y : ℕ) → subset x y ≡ true → subset y x ≡ true → x ≡ y
+unfolding subset
+subset-antisym x y p q = sym (eqb-true (bitAnd x y) x p) ∙ and-comm x y ∙ eqb-true (bitAnd y x) y q
+
+-- ---- some number below m
+
+pub some-at : (m : ℕ) (f : ℕ → Bool) (k : ℕ) → k < m → f k ≡ true → some m f ≡ true
+unfolding some
+some-at zero f k h e = absurd (not-suc-le-zero h)
+some-at (suc m) f k h e = go (some-at m f k) (eq-or-lt-of-le (le-of-suc-le-suc h))
+  where
+    go : (k < m → f k ≡ true → some m f ≡ true) → (k ≡ m) ⊎ (k < m) → (f m || some m f) ≡ true
+    go ih (inl p) = or-left (f m) (some m f) (ap f (sym p) ∙ e)
+    go ih (inr l) = or-right (f m) (some m f) (ih l e)
+
+pub some-of : (m : ℕ) (f : ℕ → Bool) → some m f ≡ true → (k : ℕ) × (k < m) × (f k ≡ true)
+unfolding some
+some-of zero f e = absurd (false≢true e)
+some-of (suc m) f e = go (f m) refl (some-of m f)
+  where
+    go : (b : Bool) → f m ≡ b → (some m f ≡ true → (k : ℕ) × (k < m) × (f k ≡ true)) → (k : ℕ) × (k < suc m) × (f k ≡ true)
+    go true p ih = (m, le-refl (suc m), p)
+    go false p ih =
+        let r = ih (sym (ap (λ (b : Bool). b || some m f) p) ∙ e) in
+        (r .0, le-of-lt (suc-le-suc (r .1)), r .2)
+
+pub some-same : (m : ℕ) (f g : ℕ → Bool) → ((k : ℕ) → k < m → f k ≡ g k) → some m f ≡ some m g
+unfolding some
+some-same zero f g h = refl
+some-same (suc m) f g h =
+    ap₂ (λ (a b : Bool). a || b) (h m (le-refl (suc m))) (some-same m f g (λ k l. h k (le-of-lt (suc-le-suc l))))
+
+-- ---- a loop that goes up and looks for a number
+
+pub some-next : (m : ℕ) (f : ℕ → Bool) → some m f ≡ false → f m ≡ false → some (m + 1) f ≡ false
+unfolding some
+some-next m f h e = ap (λ (x : ℕ). some x f) (add-one m) ∙ ap₂ (λ (a b : Bool). a || b) e h
+
+pub number-next : (m : ℕ) (f : ℕ → Bool) → number (m + 1) f ≡ digit (f m) * 2 ^ m + number m f
+unfolding number
+number-next m f = ap (λ (x : ℕ). number x f) (add-one m)
+
+-- a digit is set by a sum: `r += 1 << m`, in a word of w digits
+pub number-on : (w m : ℕ) (f : ℕ → Bool) (r : ℕ) → m < w → f m ≡ true → r ≡ number m f → r + 1 * 2 ^ m % 2 ^ w ≡ number (m + 1) f
+number-on w m f r h t e =
+    ap₂ (λ (x y : ℕ). x + y) e (shl-exact {a = 1} 1 m w (le-refl 2) (omega arith))
+    ∙ add-comm (number m f) (1 * 2 ^ m)
+    ∙ ap (λ (b : Bool). digit b * 2 ^ m + number m f) (sym t)
+    ∙ sym (number-next m f)
+
+pub number-off : (m : ℕ) (f : ℕ → Bool) (r : ℕ) → f m ≡ false → r ≡ number m f → r ≡ number (m + 1) f
+number-off m f r t e =
+    e ∙ let z : number m f ≡ 0 * 2 ^ m + number m f = omega (arith, zero-mul (2 ^ m)) in z
+    ∙ ap (λ (b : Bool). digit b * 2 ^ m + number m f) (sym t) ∙ sym (number-next m f)
+
+pub number-fits : (w m : ℕ) (f : ℕ → Bool) → m ≤ w → number m f < 2 ^ w
+number-fits w m f h = lt-of-lt-of-le (number-lt m f) (pow-mono h)
+
+-- the loop has looked at all
+pub some-done : (i m : ℕ) (f : ℕ → Bool) → i ≤ m → m ≤ i → some i f ≡ false → false ≡ some m f
+some-done i m f h l e = sym e ∙ ap (λ (x : ℕ). some x f) (let q : i ≡ m = omega arith in q)

@@ -1,0 +1,15 @@
+-- How the code holds a relation: as one word, whose bits are the places. The one file that says so. Assumes nothing.
+use Prim.Native.Nat.{ℕ, _*_, _^_, _<_}
+use mir.Val.{Fits}
+use mir.Syntax.{w64}
+use Rattle.relation.specs.declared.Relation.{Relation}
+use Rattle.relation.specs.Relation.{states}
+
+-- the relation that the code's value stands for
+unfoldable pub value : Relation → ℕ
+value r = r .bits
+
+-- its places are pairs of states; the hypothesis holds of every value at run time
+pub value-lt : (r : Relation) → Fits w64 (r .bits) → value r < 2 ^ (states * states)
+unfolding value
+value-lt r h = h .fits

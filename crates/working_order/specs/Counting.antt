@@ -1,0 +1,179 @@
+-- The counts: when a check ends full or spent, that it ends, and document 01's bound on joins. Assumes nothing.
+use mathlib.Core.Path.{_≡_, refl, sym, ap, _∙_, subst}
+use mathlib.Core.Bool.{Bool, true, false, cond}
+use mathlib.Core.List.{List, [], _∷_, map}
+use Prim.Native.Nat.{ℕ, zero, suc, _+_, _≤_, _<_, suc-le-suc, _*_, zero-le}
+use native.Mathlib.Nat.{le-refl, le-trans, le-of-eq, le-suc, suc-mul, mul-le-mul-right, mul-le-mul, add-le-add, mul-one}
+use native.Mathlib.Omega.{arith}
+use lib.Dec.{eqb}
+use lib.ListN.{length, length-append, length-map}
+use borrow.Author.Tests.{eqb-true, eqb-false}
+use Rattle.basics.specs.Lists.{concatMap, length-concatMap}
+use Rattle.language.specs.Grammar.{Symbol, terminal, nonterminal, Body, empty, one, two, Rule}
+use Rattle.working_order.specs.Algebra.{Algebra}
+use Rattle.working_order.specs.Candidates.{Choice, Candidate, liveRows, sole, paired, choices, bodyCandidates, passCandidates}
+use Rattle.working_order.specs.Journal.{Row, absent, capped, liveOf}
+use Rattle.working_order.specs.Order.{Progress, start, Verdict, holds, broken, full, spent, Outcome, going, stopped, Answer, andThen, answer, added, consider, walk, closeBy, close, onePass, passes, check}
+use Rattle.working_order.specs.Truth.{length-added}
+use Rattle.working_order.specs.Walking.{Post}
+use Rattle.working_order.specs.Halting.{Went, Halt, Begun, Stops, walk-went}
+
+-- ---- how many candidates
+
+length-liveRows : {E : Type 0} (p i : ℕ) (rows : List (Row E)) → length (liveRows p i rows) ≤ length rows
+unfolding liveRows
+length-liveRows p i [] = zero-le
+length-liveRows {E} p i (r ∷ rows) = by (liveOf p r) (length-liveRows p (suc i) rows)
+  where
+    by : (b : Bool) → length (liveRows p (suc i) rows) ≤ length rows
+        → length (cond b (record { effect = r .effect; pointer = i; len = r .len } ∷ liveRows p (suc i) rows) (liveRows p (suc i) rows)) ≤ suc (length rows)
+    by true h = suc-le-suc h
+    by false h = le-trans h (le-suc (length rows))
+
+-- a pair gives at most m candidates
+module _ {E : Type 0} (A : Algebra E) (m : ℕ) (few : (x y : E) → length (A .forms .ofPair x y) ≤ m) (pos-m : 1 ≤ m)
+    (rows : List (Row E)) (J : ℕ) (pos : 1 ≤ J) (fits : length rows ≤ J) where
+  length-choices : (s : Symbol) → length (choices (A .forms) rows s) ≤ J
+  unfolding choices
+  length-choices (terminal c) = pos
+  length-choices (nonterminal p) = le-trans (length-liveRows p 0 rows) fits
+
+  -- J * (J * m) is at least J and 1
+  square : J ≤ J * (J * m)
+  square = le-trans (le-of-eq (sym (mul-one J))) (mul-le-mul (le-refl J) (le-trans pos (le-trans (le-of-eq (sym (mul-one J))) (mul-le-mul (le-refl J) pos-m))))
+
+  length-bodyCandidates : (p r : ℕ) (b : Body) → length (bodyCandidates (A .forms) rows p r b) ≤ J * (J * m)
+  unfolding bodyCandidates
+  length-bodyCandidates p r empty = le-trans pos square
+  length-bodyCandidates p r (one s) = le-trans (le-of-eq (length-map (choices (A .forms) rows s) (sole p r))) (le-trans (length-choices s) square)
+  length-bodyCandidates p r (two s t) =
+      le-trans
+      (length-concatMap (λ (c : Choice E). concatMap (λ d. map (paired p r c d) (A .forms .ofPair (c .effect) (d .effect))) (choices (A .forms) rows t)) (J * m)
+      (λ c. le-trans
+      (length-concatMap (λ (d : Choice E). map (paired p r c d) (A .forms .ofPair (c .effect) (d .effect))) m
+      (λ d. le-trans (le-of-eq (length-map (A .forms .ofPair (c .effect) (d .effect)) (paired p r c d))) (few (c .effect) (d .effect))) (choices (A .forms) rows t))
+      (mul-le-mul (length-choices t) (le-refl m)))
+      (choices (A .forms) rows s))
+      (mul-le-mul (length-choices s) (le-refl (J * m)))
+
+  pub length-passCandidates : (r : ℕ) (rules : List Rule) → length (passCandidates (A .forms) rows r rules) ≤ length rules * (J * (J * m))
+  unfolding passCandidates
+  length-passCandidates r [] = zero-le
+  length-passCandidates r (x ∷ rules) =
+      le-trans (le-of-eq (length-append (bodyCandidates (A .forms) rows (x .head) r (x .body)) (passCandidates (A .forms) rows (suc r) rules)))
+      (le-trans (add-le-add (length-bodyCandidates (x .head) r (x .body)) (length-passCandidates (suc r) rules))
+      (le-of-eq (let e : J * (J * m) + length rules * (J * (J * m)) ≡ length rules * (J * (J * m)) + J * (J * m) = omega arith in e ∙ sym (suc-mul (length rules) (J * (J * m))))))
+
+-- ---- the whole check
+
+module _ {E : Type 0} (A : Algebra E) (m : ℕ) (few : (x y : E) → length (A .forms .ofPair x y) ≤ m) (pos-m : 1 ≤ m) (rules : List Rule) (J B : ℕ) (pos : 1 ≤ J) where
+  -- joins of a pass at most
+  abbrev pub per : ℕ
+  per = length rules * (J * (J * m))
+
+  -- what the counts of an answer are, in each verdict
+  abbrev pub ExactBy : Verdict → Answer E → Type 0
+  ExactBy holds a = a .row ≡ absent
+  ExactBy broken a = suc (a .row) ≡ a .used
+  ExactBy full a = (a .used ≡ J) × (a .row ≡ absent)
+  ExactBy spent a = (a .joins ≡ B) × (a .row ≡ absent) × (suc (a .joins) ≤ suc J * per)
+
+  -- every verdict but "holds" comes at a candidate of the last pass
+  abbrev pub StopsBy : Verdict → Answer E → Type 0
+  StopsBy holds a = Unit {0}
+  StopsBy broken a = Stops A rules J B broken a
+  StopsBy full a = Stops A rules J B full a
+  StopsBy spent a = Stops A rules J B spent a
+
+  pub record Exact (a : Answer E) : Type 0 where
+    pub by-verdict : ExactBy (a .verdict) a
+    pub stops : StopsBy (a .verdict) a
+    pub used-is : a .used ≡ length (a .journal)
+    pub joins-bound : a .joins ≤ suc J * per
+    pub rows-bound : a .used ≤ J
+    pub pass-bound : a .pass ≤ suc J
+
+  -- after h passes, with f more to come at most
+  passes-exact : (f h : ℕ) (s : Progress E) → Begun A rules J B h s → J < f + length (s .rows) → length (s .rows) ≤ J → h ≤ length (s .rows) → s .joins ≤ h * per
+      → Exact (passes A rules J B f (suc h) s)
+  unfolding passes onePass answer
+  passes-exact zero h s b f′ l a j = absurd (let z : ⊥ = omega arith in z)
+  passes-exact (suc f) h s b f′ l a j =
+      by (onePass A rules J B (suc h) s) refl (walk-went A J B (suc h) cs s l) (passes-exact f (suc h))
+    where
+      cs : List (Candidate E)
+      cs = passCandidates (A .forms) (s .rows) 0 rules
+
+      -- this pass's joins
+      up : (x : ℕ) → x ≤ s .joins + length cs → x ≤ suc h * per
+      up x e = le-trans e (le-trans (add-le-add j (length-passCandidates A m few pos-m (s .rows) J pos l 0 rules)) (le-of-eq (sym (suc-mul h per))))
+
+      top : (x : ℕ) → x ≤ s .joins + length cs → x ≤ suc J * per
+      top x e = le-trans (up x e) (mul-le-mul-right per (suc-le-suc (le-trans a l)))
+
+      -- the join at which the walk stopped is one of this pass
+      within : (v : Verdict) (i : ℕ) (u : Progress E) (p : Halt A J B (suc h) cs s v i u) → suc (p .reached .joins) ≤ suc J * per
+      within v i u p =
+          top (suc (p .reached .joins))
+          (omega (arith, p .went .joins-are, ap length (p .split), length-append (p .before) (p .at ∷ p .after)))
+
+      stops : (v : Verdict) (i : ℕ) (u : Progress E) → Halt A J B (suc h) cs s v i u → Stops A rules J B v (answer v (suc h) i u)
+      stops v i u p = record { passed = h; pass-is = refl; began = s; begun = b; last = u; halt = p; joins-are = refl; journal-is = refl }
+
+      by : (r : Outcome E) → onePass A rules J B (suc h) s ≡ r → Post (Went J (length cs) s) (Halt A J B (suc h) cs s) r
+          → ((t : Progress E) → Begun A rules J B (suc h) t → J < f + length (t .rows) → length (t .rows) ≤ J → suc h ≤ length (t .rows) → t .joins ≤ suc h * per → Exact (passes A rules J B f (suc (suc h)) t))
+          → Exact (close (suc h) (length (s .rows)) (passes A rules J B f (suc (suc h))) r)
+      by (stopped holds i u) e p next = absurd (p .found)
+      by (stopped broken i u) e p next =
+          let c = p .found in
+          let size : length (u .rows) ≡ suc (length (p .reached .rows)) = ap (λ (x : Progress E). length (x .rows)) (c .5) ∙ length-added A (suc h) (p .at) (p .reached .rows) in
+          let made : u .joins ≡ suc (p .reached .joins) = ap (λ (x : Progress E). x .joins) (c .5) in
+          record {
+            by-verdict = ap suc (c .4) ∙ sym size;
+            stops = stops broken i u p;
+            used-is = refl;
+            joins-bound = omega (arith, made, within broken i u p);
+            rows-bound = let ne : length (p .reached .rows) ≡ J → ⊥ = c .2 in omega (arith, size, p .went .rows-fit);
+            pass-bound = suc-le-suc (le-trans a l);
+          }
+      by (stopped full i u) e p next =
+          let c = p .found in
+          let size : length (u .rows) ≡ length (p .reached .rows) = ap (λ (x : Progress E). length (x .rows)) (c .4) in
+          let made : u .joins ≡ suc (p .reached .joins) = ap (λ (x : Progress E). x .joins) (c .4) in
+          record {
+            by-verdict = (size ∙ c .2, c .3);
+            stops = stops full i u p;
+            used-is = refl;
+            joins-bound = omega (arith, made, within full i u p);
+            rows-bound = le-of-eq (size ∙ c .2);
+            pass-bound = suc-le-suc (le-trans a l);
+          }
+      by (stopped spent i u) e p next =
+          let c = p .found in
+          let made : u .joins ≡ p .reached .joins = ap (λ (x : Progress E). x .joins) (c .2) in
+          let bound : suc (u .joins) ≤ suc J * per = omega (arith, made, within spent i u p) in
+          record {
+            by-verdict = (made ∙ c .0, c .1, bound);
+            stops = stops spent i u p;
+            used-is = refl;
+            joins-bound = le-trans (le-suc (u .joins)) bound;
+            rows-bound = omega (arith, ap (λ (x : Progress E). length (x .rows)) (c .2), p .went .rows-fit);
+            pass-bound = suc-le-suc (le-trans a l);
+          }
+      by (going t) e p next = fork (eqb (length (t .rows)) (length (s .rows))) refl
+        where
+          fork : (x : Bool) → eqb (length (t .rows)) (length (s .rows)) ≡ x → Exact (closeBy x (suc h) (passes A rules J B f (suc (suc h))) t)
+          fork true q = record { by-verdict = refl; stops = tt; used-is = refl; joins-bound = top (t .joins) (le-of-eq (p .joins-are)); rows-bound = p .rows-fit; pass-bound = suc-le-suc (le-trans a l) }
+          fork false q =
+              let ne : length (t .rows) ≡ length (s .rows) → ⊥ = eqb-false (length (t .rows)) (length (s .rows)) q in
+              next t (s, b, e, ne) (omega (arith, p .rows-up)) (p .rows-fit) (omega (arith, p .rows-up)) (up (t .joins) (le-of-eq (p .joins-are)))
+
+  pub check-exact : Exact (check A rules J B)
+  unfolding check
+  check-exact = passes-exact (suc J) 0 start refl (omega arith) zero-le zero-le zero-le
+
+  -- a budget of document 01's size is never spent
+  pub never-spent : suc J * per ≤ B → check A rules J B .verdict ≡ spent → ⊥
+  never-spent h e =
+      let x : ExactBy spent (check A rules J B) = subst (λ (v : Verdict). ExactBy v (check A rules J B)) e (check-exact .by-verdict) in
+      omega (arith, x .0, x .2)

@@ -15,7 +15,8 @@ use Rattle.plan_file.specs.Views.{rulesOf, automatonOf}
 use Rattle.working_order.specs.Order.{Answer, Verdict, holds, broken, full, spent}
 use Rattle.working_order.specs.Halting.{Stops}
 use Rattle.calls.specs.Base.{base}
-use Rattle.calls.specs.Checking.{shown}
+use Rattle.calls.specs.Checking.{journalLimit, checkOf, shown}
+use Rattle.calls.specs.Replies.{answered}
 
 module _ (bs : List ℕ) where
   -- the initial symbol derives the word (document 01: the run is derivable)
@@ -52,3 +53,14 @@ module _ (bs : List ℕ) where
   pub record LeastHeight (a : Answer ℕ) : Type 0 where
     pub shown-within : a .verdict ≡ broken → DerivesWithin (rulesOf bs) (a .pass) initial (shown bs a)
     pub none-lower : a .verdict ≡ broken → (h : ℕ) → h < a .pass → (w : List ℕ) → DerivesWithin (rulesOf bs) h initial w → Accepts (automatonOf bs) w
+
+-- ---- what a check that answers promises
+
+-- everything that demand 3 asks of the answer a to a check with J rows and a budget of B joins
+pub record Promises (bs : List ℕ) (J B : ℕ) (a : Answer ℕ) : Type 0 where
+  pub one-verdict : OneVerdict bs J B a
+  pub counts : Counts bs J B a
+  pub least-height : LeastHeight bs a
+  -- once the verdict is neither "full" nor "spent", a longer journal or a larger budget leaves the answer as it is, with its rows and
+  -- the shown word
+  pub stable : (a .verdict ≡ full → ⊥) → (a .verdict ≡ spent → ⊥) → (J′ B′ : ℕ) → J ≤ J′ → J′ ≤ journalLimit → B ≤ B′ → checkOf bs J′ B′ ≡ answered a

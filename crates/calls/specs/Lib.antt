@@ -7,6 +7,7 @@ pub mod Writing
 pub mod BaseLaws
 pub mod DemandThree
 pub mod Truth
+pub mod Promising
 pub mod JournalTruth
 pub mod JudgingTruth
 pub mod Cases

@@ -120,7 +120,7 @@ steps-spell rules (more {α} {β} s p) w e =
     let r = steps-spell rules p w e in
     (suc (r .0), back rules (r .0) α β w s (r .1))
 
--- document 000's language of a procedure is what the procedure derives
+-- document 000's language of a nonterminal is what the nonterminal derives
 pub language : (rules : List Rule) (p : ℕ) (w : List ℕ) → Language rules p w ↔ Derives rules p w
 language rules p w = (there, λ d. within-steps rules (d .0) p w (d .1))
   where

@@ -1,0 +1,69 @@
+-- A check that answers keeps the promises of demand 3. Assumes nothing.
+use mathlib.Core.Path.{_≡_, refl, sym, ap, _∙_, subst}
+use mathlib.Core.Bool.{Bool, true, false, _||_, cond}
+use mathlib.Core.List.{List}
+use Prim.Native.Nat.{ℕ, zero, suc, _≤_, _<_}
+use native.Mathlib.Nat.{suc-ne-zero}
+use native.Mathlib.Omega.{arith}
+use lib.Dec.{eqb, ltb}
+use borrow.Author.Tests.{eqb-false, ltb-false, ne-eqb, le-ltb}
+use Rattle.basics.specs.Tests.{or-neither}
+use Rattle.plan_file.specs.Refusals.{Refusal, refuse, fault}
+use Rattle.working_order.specs.Order.{Answer, full, spent}
+use Rattle.calls.specs.Replies.{Reply, refused, answered, unlessBy}
+use Rattle.calls.specs.Checking.{journalLimit, journalFault, orderOn, checkOf}
+use Rattle.calls.specs.DemandThree.{Promises}
+use Rattle.calls.specs.Truth.{one-verdict, counted, least-height, stable}
+
+module _ {A : Type 0} where
+  -- an answer was not refused
+  unless-answers : (r : Refusal) (x : Reply A) (a : A) → unlessBy (r .number) r x ≡ answered a → (r .number ≡ 0) × (x ≡ answered a)
+  unless-answers r x a e = by (r .number) refl e
+    where
+      by : (f : ℕ) → r .number ≡ f → unlessBy f r x ≡ answered a → (r .number ≡ 0) × (x ≡ answered a)
+      by zero p q = (p, q)
+      by (suc f) p q = absurd (let z : _≡_ {A = ℕ} 0 1 = cc in let y : ⊥ = omega arith in y)
+
+  answered-same : (a b : A) → answered a ≡ answered b → a ≡ b
+  answered-same a b e = cc
+
+-- a journal that 8 does not refuse
+journal-size : (J : ℕ) → journalFault J ≡ 0 → (1 ≤ J) × (J ≤ journalLimit)
+unfolding journalFault
+journal-size J e = by (eqb J 0 || ltb journalLimit J) refl e
+  where
+    by : (b : Bool) → (eqb J 0 || ltb journalLimit J) ≡ b → _≡_ {A = ℕ} (cond b 8 0) 0 → (1 ≤ J) × (J ≤ journalLimit)
+    by true p q = absurd (suc-ne-zero 7 q)
+    by false p q =
+        let o = or-neither (eqb J 0) (ltb journalLimit J) p in
+        let ne : J ≡ 0 → ⊥ = eqb-false J 0 (o .0) in
+        (omega arith, ltb-false journalLimit J (o .1))
+
+size-journal : (J : ℕ) → 1 ≤ J → J ≤ journalLimit → journalFault J ≡ 0
+unfolding journalFault
+size-journal J l m = rw (ne-eqb J 0 (λ e. omega arith), le-ltb journalLimit J m)
+
+module _ (bs : List ℕ) (J B : ℕ) (a : Answer ℕ) (e : checkOf bs J B ≡ answered a) where
+  -- the file is not refused, the journal is not, and the answer is the working order's
+  pub from-order : (fault bs .number ≡ 0) × (journalFault J ≡ 0) × (a ≡ orderOn bs J B)
+  unfolding checkOf
+  from-order =
+      let p = unless-answers (fault bs) (unlessBy (journalFault J) (refuse (journalFault J) 0) (answered (orderOn bs J B))) a e in
+      let q = unless-answers (refuse (journalFault J) 0) (answered (orderOn bs J B)) a (p .1) in
+      (p .0, q .0, sym (answered-same (orderOn bs J B) a (q .1)))
+
+  pub promises : Promises bs J B a
+  unfolding checkOf
+  promises =
+      let o = from-order in
+      let v : fault bs .number ≡ 0 = o .0 in
+      let s = journal-size J (o .1) in
+      record {
+        one-verdict = rw (o .2) (one-verdict bs v J B (s .0));
+        counts = rw (o .2) (counted bs v J B (s .0));
+        least-height = rw (o .2) (least-height bs v J B);
+        stable = λ f g J′ B′ j l b.
+            ap (λ (x : ℕ). unlessBy x (fault bs) (unlessBy (journalFault J′) (refuse (journalFault J′) 0) (answered (orderOn bs J′ B′)))) v
+            ∙ ap (λ (x : ℕ). unlessBy x (refuse (journalFault J′) 0) (answered (orderOn bs J′ B′))) (size-journal J′ (omega (arith, s .0)) l)
+            ∙ ap answered (stable bs J B J′ B′ j b (λ x. f (ap (λ (y : Answer ℕ). y .verdict) (o .2) ∙ x)) (λ x. g (ap (λ (y : Answer ℕ). y .verdict) (o .2) ∙ x)) ∙ sym (o .2));
+      }

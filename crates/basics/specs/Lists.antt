@@ -1,12 +1,13 @@
 -- Membership in a list, by recursion on the list; a test on some element; a list for each element, put together. Assumes nothing.
-use mathlib.Core.Path.{_≡_, refl, sym, ap, _∙_, subst}
+use mathlib.Core.Path.{_≡_, refl, sym, ap, ap₂, _∙_, subst}
 use mathlib.Core.Logic.{_⊎_, inl, inr}
-use mathlib.Core.Bool.{Bool, true, false, _||_, false≢true}
+use mathlib.Core.Bool.{Bool, true, false, _||_, false≢true, or-assoc}
 use mathlib.Core.List.{List, [], _∷_, _++_, map}
-use Prim.Native.Nat.{ℕ, zero, suc, _+_, _*_, _≤_, _<_, suc-le-suc, zero-le}
-use native.Mathlib.Nat.{zero-lt-suc, le-trans, le-of-eq, add-le-add, suc-mul, not-suc-le-zero, le-of-suc-le-suc}
+use Prim.Native.Nat.{ℕ, zero, suc, _+_, _-_, _*_, _≤_, _<_, suc-le-suc, zero-le}
+use native.Mathlib.Nat.{add-zero, zero-lt-suc, le-trans, le-of-eq, add-le-add, suc-mul, not-suc-le-zero, le-of-suc-le-suc}
 use native.Mathlib.Omega.{arith}
-use lib.ListN.{length, getD, length-append}
+use lib.ListN.{length, getD, take, drop, length-append}
+use lib.Seq.{getD-drop, drop-drop}
 use Rattle.basics.specs.Tests.{or-right}
 
 -- ---- definitions
@@ -64,6 +65,20 @@ module _ {A : Type 0} where
   getD-in d (x ∷ xs) zero h = inl refl
   getD-in d (x ∷ xs) (suc i) h = inr (getD-in d xs i (le-of-suc-le-suc h))
 
+  -- ---- the rest of a list
+
+  -- lists with the same rest from i on have the same element i
+  pub drop-at-same : (d : A) (i : ℕ) (xs ys : List A) → drop i xs ≡ drop i ys → getD xs i d ≡ getD ys i d
+  drop-at-same d i xs ys e =
+      ap (λ (k : ℕ). getD xs k d) (sym (add-zero i)) ∙ sym (getD-drop i xs 0 d) ∙ ap (λ (l : List A). getD l 0 d) e
+      ∙ getD-drop i ys 0 d ∙ ap (λ (k : ℕ). getD ys k d) (add-zero i)
+
+  -- and the same rest from any later element on
+  pub drop-later-same : (i k : ℕ) (xs ys : List A) → i ≤ k → drop i xs ≡ drop i ys → drop k xs ≡ drop k ys
+  drop-later-same i k xs ys h e =
+      let p : i + (k - i) ≡ k = omega arith in
+      ap (λ (n : ℕ). drop n xs) (sym p) ∙ sym (drop-drop (k - i) i xs) ∙ ap (drop (k - i)) e ∙ drop-drop (k - i) i ys ∙ ap (λ (n : ℕ). drop n ys) p
+
   -- ---- some element
 
   pub any-of : (f : A → Bool) (xs : List A) → any f xs ≡ true → (x : A) × In x xs × (f x ≡ true)
@@ -73,6 +88,10 @@ module _ {A : Type 0} where
       by : (b : Bool) → f x ≡ b → (any f xs ≡ true → (y : A) × In y xs × (f y ≡ true)) → (y : A) × ((y ≡ x) ⊎ In y xs) × (f y ≡ true)
       by true p ih = (x, inl refl, p)
       by false p ih = let r = ih (sym (ap (λ (b : Bool). b || any f xs) p) ∙ h) in (r .0, inr (r .1), r .2)
+
+  pub any-append : (f : A → Bool) (xs ys : List A) → any f (xs ++ ys) ≡ (any f xs || any f ys)
+  any-append f [] ys = refl
+  any-append f (x ∷ xs) ys = ap (λ (b : Bool). f x || b) (any-append f xs ys) ∙ sym (or-assoc (f x) (any f xs) (any f ys))
 
   pub any-at : (f : A → Bool) (x : A) (xs : List A) → In x xs → f x ≡ true → any f xs ≡ true
   any-at f x [] h e = absurd h
@@ -96,6 +115,29 @@ module _ {A B : Type 0} where
   getD-map f d d′ [] i h = absurd (not-suc-le-zero h)
   getD-map f d d′ (x ∷ xs) zero h = refl
   getD-map f d d′ (x ∷ xs) (suc i) h = getD-map f d d′ xs i (le-of-suc-le-suc h)
+
+  pub take-map : (f : A → B) (i : ℕ) (xs : List A) → take i (map f xs) ≡ map f (take i xs)
+  take-map f zero xs = refl
+  take-map f (suc i) [] = refl
+  take-map f (suc i) (x ∷ xs) = ap (λ (l : List B). f x ∷ l) (take-map f i xs)
+
+  pub drop-map : (f : A → B) (i : ℕ) (xs : List A) → drop i (map f xs) ≡ map f (drop i xs)
+  drop-map f zero xs = refl
+  drop-map f (suc i) [] = refl
+  drop-map f (suc i) (x ∷ xs) = drop-map f i xs
+
+  pub map-same : (f g : A → B) → ((x : A) → f x ≡ g x) → (xs : List A) → map f xs ≡ map g xs
+  map-same f g h [] = refl
+  map-same f g h (x ∷ xs) = ap₂ (λ (y : B) (l : List B). y ∷ l) (h x) (map-same f g h xs)
+
+  pub concatMap-same : (f g : A → List B) → ((x : A) → f x ≡ g x) → (xs : List A) → concatMap f xs ≡ concatMap g xs
+  concatMap-same f g h [] = refl
+  concatMap-same f g h (x ∷ xs) = ap₂ (λ (y z : List B). y ++ z) (h x) (concatMap-same f g h xs)
+
+  -- one element for each
+  pub concatMap-one : (f : A → B) (xs : List A) → concatMap (λ x. f x ∷ []) xs ≡ map f xs
+  concatMap-one f [] = refl
+  concatMap-one f (x ∷ xs) = ap (λ (l : List B). f x ∷ l) (concatMap-one f xs)
 
   pub in-concatMap : (f : A → List B) (y : B) (x : A) (xs : List A) → In x xs → In y (f x) → In y (concatMap f xs)
   in-concatMap f y x [] h m = absurd h

@@ -9,7 +9,7 @@ use Rattle.relation.specs.Relation.{states}
 use Rattle.plan_file.specs.Refusals.{refuse, fault}
 use Rattle.plan_file.specs.Views.{rulesOf, automatonOf}
 use Rattle.working_order.specs.Journal.{Row}
-use Rattle.working_order.specs.Order.{Verdict, Answer, check}
+use Rattle.working_order.specs.Order.{Answer, check}
 use Rattle.working_order.specs.Behind.{wordBehind}
 use Rattle.calls.specs.Base.{base, words}
 use Rattle.calls.specs.Replies.{Reply, refused, answered, unless}
@@ -41,18 +41,3 @@ journalAfter bs old B = keptBy old (checkOf bs (length old) B)
 -- the word that a broken answer shows: the one behind its row
 unfoldable pub shown : List ℕ → Answer ℕ → List ℕ
 shown bs a = wordBehind words (rulesOf bs) (a .journal) (a .row)
-
--- what an answer carries (document 01: joins, used rows, the current pass and the row)
-pub record Summary : Type 0 where
-  pub verdict : Verdict
-  pub joins : ℕ
-  pub used : ℕ
-  pub pass : ℕ
-  pub row : ℕ
-
-abbrev pub summary : Answer ℕ → Summary
-summary a = record { verdict = a .verdict; joins = a .joins; used = a .used; pass = a .pass; row = a .row }
-
-abbrev pub summarised : Reply (Answer ℕ) → Reply Summary
-summarised (refused r) = refused r
-summarised (answered a) = answered (summary a)

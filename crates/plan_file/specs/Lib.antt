@@ -4,3 +4,12 @@ pub mod Refusals
 pub mod Reading
 pub mod Views
 pub mod Valid
+pub mod Answers
+pub mod Entries
+pub mod Walk
+pub mod WalkLaws
+pub mod Rising
+pub mod Sorted
+pub mod EntryLaws
+pub mod StretchLaws
+pub mod Ranges

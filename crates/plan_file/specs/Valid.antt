@@ -1,21 +1,21 @@
 -- What the records of a file that is not refused pass, and that the states of its automaton are states. Assumes nothing.
 use mathlib.Core.Path.{_≡_, refl, sym, ap, _∙_, subst}
-use mathlib.Core.Logic.{_⊎_, inl, inr}
+use mathlib.Core.Logic.{inl, inr}
 use mathlib.Core.Bool.{Bool, true, false, not, _&&_, _||_, cond}
-use mathlib.Core.List.{List, [], _∷_}
+use mathlib.Core.List.{List}
 use Prim.Native.Nat.{ℕ, zero, suc, _+_, _%_, _≤_, _<_}
-use native.Mathlib.Nat.{le-refl, not-suc-le-zero, le-of-suc-le-suc, zero-lt-suc}
+use native.Mathlib.Nat.{le-refl, not-suc-le-zero, le-of-suc-le-suc}
 use native.Mathlib.Omega.{arith}
 use lib.Dec.{eqb, leb, ltb}
 use lib.ListN.{length}
 use borrow.Author.Tests.{eqb-true, eq-eqb, leb-false, ltb-false, not-false}
-use Rattle.basics.specs.Tests.{and-intro, or-neither}
+use Rattle.basics.specs.Tests.{or-neither}
 use Rattle.basics.specs.Lists.{In}
 use Rattle.relation.specs.Relation.{states}
 use Rattle.language.specs.Automaton.{Transition, Within}
 use Rattle.plan_file.specs.Limits.{recordLimit, terminals, nonterminals, symbolBytes}
 use Rattle.plan_file.specs.Records.{recordCount, recordAt, byte, kindAt, ruleKind, transitionKind, finalKind, countOf}
-use Rattle.plan_file.specs.Refusals.{Refusal, refuse, kindKnown, aboveRange, strayByte, exceeds, overLimit, lowest, faultBy, faultAt, orNext, faultFrom, fault}
+use Rattle.plan_file.specs.Refusals.{refuse, kindKnown, aboveRange, strayByte, exceeds, overLimit, lowest, faultBy, faultAt, orNext, faultFrom, fault}
 use Rattle.plan_file.specs.Views.{transitionOf, finalOf, consIf, collect, transitionsOf, finalsOf, automatonOf}
 
 -- none of the checks 3 to 7 refuses record i
@@ -84,7 +84,7 @@ collect-at {A} k g bs x (suc m) i h = by (eqb (kindAt bs i) k) refl h (collect-a
     by false t h′ ih = let r = ih h′ in (r .0, omega (arith, r .1), omega (arith, r .2), r .3, r .4)
 
 -- check 4, at a transition and at a final state
-transition-range : (r : List ℕ) → aboveRange r ≡ false → byte r 0 ≡ transitionKind → (byte r 1 < states) × (byte r 2 < terminals) × (byte r 3 < states)
+pub transition-range : (r : List ℕ) → aboveRange r ≡ false → byte r 0 ≡ transitionKind → (byte r 1 < states) × (byte r 2 < terminals) × (byte r 3 < states)
 unfolding aboveRange
 transition-range r a k =
     let P = eqb (byte r 0) ruleKind && ((leb nonterminals (byte r 1) || ltb 2 (byte r 2)) || ((ltb 0 (byte r 2) && leb symbolBytes (byte r 3)) || (ltb 1 (byte r 2) && leb symbolBytes (byte r 4)))) in
@@ -96,7 +96,7 @@ transition-range r a k =
     let w = or-neither (leb states (byte r 1)) (leb terminals (byte r 2)) (u .0) in
     (leb-false states (byte r 1) (w .0), leb-false terminals (byte r 2) (w .1), leb-false states (byte r 3) (u .1))
 
-final-range : (r : List ℕ) → aboveRange r ≡ false → byte r 0 ≡ finalKind → byte r 1 < states
+pub final-range : (r : List ℕ) → aboveRange r ≡ false → byte r 0 ≡ finalKind → byte r 1 < states
 unfolding aboveRange
 final-range r a k =
     let P = eqb (byte r 0) ruleKind && ((leb nonterminals (byte r 1) || ltb 2 (byte r 2)) || ((ltb 0 (byte r 2) && leb symbolBytes (byte r 3)) || (ltb 1 (byte r 2) && leb symbolBytes (byte r 4)))) in

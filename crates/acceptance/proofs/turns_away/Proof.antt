@@ -1,0 +1,52 @@
+-- The table and the mask are the file's, so the test is the definition's. Assumes nothing.
+use mathlib.Core.Path.{sym, ap, _∙_}
+use mathlib.Core.List.{List}
+use Prim.Native.Nat.{ℕ}
+use borrow.Author.Needs.{needs}
+use Rattle.relation.specs.Digits.{bit}
+use Rattle.relation.specs.Masks.{rejects-number}
+use Rattle.relation.specs.Relation.{states, rejects}
+use Rattle.relation.specs.Representation.{value}
+use Rattle.language.specs.WordRelation.{isFinal, rejected}
+use Rattle.plan_file.specs.Views.{transitionsOf, automatonOf}
+use Rattle.acceptance.specs.TableRelation.{tableRelation}
+use Rattle.acceptance.specs.TableRelationLaws.{by-letters}
+use Rattle.acceptance.proofs.turns_away.Statement.{statement}
+use Rattle.acceptance.proofs.turns_away.Tie as tie
+
+letter-relations-requires : tie.Need-letter-relations-requires
+letter-relations-requires c κs = search needs
+
+relation-by-requires : tie.Need-relation-by-requires
+relation-by-requires c κs = search needs
+
+final-states-requires : tie.Need-final-states-requires
+final-states-requires c κs = search needs
+
+rejects-requires : tie.Need-rejects-requires
+rejects-requires c κs = search needs
+
+returns : tie.Need-returns
+unfolding rejected
+returns c =
+    let s = c .before .before .before .before .before .before .before .before in
+    let bs = s .args .file .now in
+    let w = s .args .word .now in
+    let r = c .before .before .relation-by in
+    c .rejects .ensures
+    ∙ ap (λ (m : ℕ). rejects states (bit m) (value (r .result))) (c .before .final-states .ensures)
+    ∙ sym (rejects-number states (isFinal (automatonOf bs)) (value (r .result)))
+    ∙ ap (rejects states (isFinal (automatonOf bs)))
+    (r .ensures
+    ∙ ap (λ (t : List ℕ). tableRelation states t w) (c .before .before .before .before .letter-relations .ensures)
+    ∙ by-letters states (transitionsOf bs) w (s .pre))
+
+pub turns-away-spec : {M : Type 1} → statement M
+turns-away-spec =
+    tie.close
+    (tie.spec
+    letter-relations-requires
+    relation-by-requires
+    final-states-requires
+    rejects-requires
+    returns)

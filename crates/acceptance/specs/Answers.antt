@@ -1,0 +1,21 @@
+-- What the code's answer says, case by case, and what it promises. Definitions only. Assumes nothing.
+use mathlib.Core.Path.{_≡_}
+use mathlib.Core.List.{List}
+use Prim.Native.Nat.{ℕ}
+use Rattle.plan_file.specs.Answers.{refusalOf}
+use Rattle.calls.specs.Replies.{Reply, refused, answered}
+use Rattle.calls.specs.Judging.{Judgement, accepted, turnedAway, judgeOf}
+use Rattle.calls.specs.JudgingTruth.{Means}
+use Rattle.acceptance.specs.declared.Judged.{Judged}
+use Rattle.acceptance.specs.declared.Judged.the-variants.{Accepted, TurnedAway, Refused}
+
+-- the judgement, or the refusal with its number and the record's number
+abbrev pub judgedOf : Judged → Reply Judgement
+judgedOf Accepted = answered accepted
+judgedOf TurnedAway = answered turnedAway
+judgedOf (Refused r) = refused (refusalOf r)
+
+-- the answer on the file bs and the word w, and what it means: accepted exactly where there is an accepting path
+pub record Judging (bs w : List ℕ) (r : Judged) : Type 0 where
+  pub answer : judgedOf r ≡ judgeOf bs w
+  pub meaning : Means bs w (judgedOf r)

@@ -1,0 +1,105 @@
+-- The answers of judging: where the file or the word is refused, and where not. Assumes nothing.
+use mathlib.Core.Path.{_≡_, refl, sym, ap, _∙_, subst}
+use mathlib.Core.Bool.{Bool, true, false, _||_, cond}
+use mathlib.Core.List.{List}
+use Prim.Native.Nat.{ℕ, zero, suc, _+_, _≤_, _<_}
+use native.Mathlib.Numerals.{add-one}
+use native.Mathlib.Omega.{arith}
+use lib.Dec.{leb, ltb}
+use lib.ListN.{length, getD, drop}
+use lib.Seq.{drop-cons, drop-length}
+use borrow.Author.Tests.{le-leb, lt-leb, lt-ltb, le-ltb}
+use Rattle.basics.specs.Tests.{or-left, or-neither}
+use Rattle.relation.specs.Relation.{states}
+use Rattle.language.specs.WordRelation.{rejected}
+use Rattle.plan_file.specs.Limits.{terminals}
+use Rattle.plan_file.specs.Refusals.{Refusal, refuse, fault}
+use Rattle.plan_file.specs.Views.{automatonOf}
+use Rattle.calls.specs.Replies.{Reply, refused, answered, unless, unlessBy}
+use Rattle.calls.specs.Judging.{Judgement, judgementBy, wordLimit, wordFault, judgeOf}
+use Rattle.calls.specs.JudgingTruth.{Means, judge-means}
+use Rattle.acceptance.specs.declared.Judged.{Judged}
+use Rattle.acceptance.specs.Letters.{strays}
+use Rattle.acceptance.specs.Answers.{judgedOf, Judging}
+
+-- an answer that is the definition's means what that one means
+pub judged : (bs w : List ℕ) (r : Judged) → judgedOf r ≡ judgeOf bs w → Judging bs w r
+judged bs w r e = record { answer = e; meaning = subst (Means bs w) (sym e) (judge-means bs w) }
+
+-- ---- a refusal comes first where it has a number
+
+module _ {A : Type 0} (x : Refusal) (a : Reply A) where
+  unless-refused : (x .number ≡ 0 → ⊥) → refused x ≡ unless x a
+  unless-refused h = by (x .number) h
+    where
+      by : (f : ℕ) → (f ≡ 0 → ⊥) → refused x ≡ unlessBy f x a
+      by zero h = absurd (h refl)
+      by (suc f) h = refl
+
+  unless-none : x .number ≡ 0 → a ≡ unless x a
+  unless-none e = sym (ap (λ (f : ℕ). unlessBy f x a) e)
+
+-- the judgement, where nothing is refused
+abbrev judgement : List ℕ → List ℕ → Reply Judgement
+judgement bs w = answered (judgementBy (rejected states (automatonOf bs) w))
+
+-- number 11, and then the judgement
+abbrev afterFile : List ℕ → List ℕ → Reply Judgement
+afterFile bs w = unless (refuse (wordFault w) 0) (judgement bs w)
+
+module _ (bs w : List ℕ) where
+  pub file-refused : (fault bs .number ≡ 0 → ⊥) → refused (fault bs) ≡ judgeOf bs w
+  unfolding judgeOf
+  file-refused h = unless-refused (fault bs) (afterFile bs w) h
+
+  module _ (v : fault bs .number ≡ 0) where
+    rest : afterFile bs w ≡ judgeOf bs w
+    unfolding judgeOf
+    rest = unless-none (fault bs) (afterFile bs w) v
+
+    pub word-refused : (wordFault w ≡ 0 → ⊥) → refused (refuse (wordFault w) 0) ≡ judgeOf bs w
+    word-refused h = unless-refused (refuse (wordFault w) 0) (judgement bs w) h ∙ rest
+
+    pub word-judged : wordFault w ≡ 0 → judgement bs w ≡ judgeOf bs w
+    word-judged e = unless-none (refuse (wordFault w) 0) (judgement bs w) e ∙ rest
+
+-- ---- 11
+
+module _ (w : List ℕ) where
+  -- from letter i on there is a stray letter where there is one at all
+  abbrev pub From : ℕ → Type 0
+  From i = strays (drop i w) ≡ strays w
+
+  first : (i : ℕ) → i < length w → From i → (leb terminals (getD w i 0) || strays (drop (suc i) w)) ≡ strays w
+  first i h f = rw (drop-cons w i 0 h) at f
+
+  pub too-long : wordLimit < length w → 11 ≡ wordFault w
+  unfolding wordFault
+  too-long h = rw (lt-ltb wordLimit (length w) h)
+
+  module _ (h : length w ≤ wordLimit) where
+    by-letters : (b : Bool) → strays w ≡ b → cond b 11 0 ≡ wordFault w
+    unfolding wordFault
+    by-letters b e = rw (le-ltb wordLimit (length w) h, e)
+
+    pub beyond : (i : ℕ) → i < length w → From i → terminals ≤ getD w i 0 → 11 ≡ wordFault w
+    beyond i l f t = by-letters true (sym (first i l f) ∙ or-left (leb terminals (getD w i 0)) (strays (drop (suc i) w)) (le-leb terminals (getD w i 0) t))
+
+    pub none-beyond : From (length w) → 0 ≡ wordFault w
+    none-beyond f = by-letters false (sym f ∙ ap strays (drop-length w))
+
+  pub from-next : (i : ℕ) → i < length w → From i → getD w i 0 < terminals → From (i + 1)
+  from-next i l f t =
+      let e : leb terminals (getD w i 0) ≡ false = lt-leb terminals (getD w i 0) t in
+      ap (λ (k : ℕ). strays (drop k w)) (add-one i)
+      ∙ sym (ap (λ (b : Bool). b || strays (drop (suc i) w)) e)
+      ∙ first i l f
+
+  -- a word that is not refused has terminals alone
+  pub terminals-alone : wordFault w ≡ 0 → strays w ≡ false
+  unfolding wordFault
+  terminals-alone e = by (ltb wordLimit (length w) || strays w) refl e
+    where
+      by : (b : Bool) → (ltb wordLimit (length w) || strays w) ≡ b → _≡_ {A = ℕ} (cond b 11 0) 0 → strays w ≡ false
+      by true p q = absurd (let z : ⊥ = omega arith in z)
+      by false p q = or-neither (ltb wordLimit (length w)) (strays w) p .1

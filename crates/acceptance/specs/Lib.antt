@@ -1,0 +1,5 @@
+pub mod Answers
+pub mod Letters
+pub mod TableRelation
+pub mod TableRelationLaws
+pub mod Judgements

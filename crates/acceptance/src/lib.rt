@@ -1,0 +1,87 @@
+// Judging one word against the automaton of a file (document 01: a run against the order sheet).
+ghost use mathlib.Core.Path.{_≡_};
+ghost use mathlib.Core.Bool.{false};
+ghost use Rattle.relation.specs.Relation.{states};
+ghost use Rattle.relation.specs.Representation.{value};
+ghost use Rattle.language.specs.WordRelation.{rejected};
+ghost use Rattle.plan_file.specs.Views.{automatonOf};
+ghost use Rattle.calls.specs.Judging.{wordFault};
+ghost use Rattle.acceptance.specs.Answers.{Judging};
+ghost use Rattle.acceptance.specs.Letters.{strays};
+ghost use Rattle.acceptance.specs.TableRelation.{tableRelation};
+use plan_file::Refusal;
+use relation::Relation;
+
+const WORD_LIMIT: usize = 65534;
+
+const TERMINALS: u8 = 128;
+
+// A refusal has a number from 1 to 7 or 11.
+pub enum Judged {
+    Accepted,
+    TurnedAway,
+    Refused(Refusal),
+}
+
+// 11 where the word is too long or has a letter that is no terminal, else 0.
+fn word_fault(word: &[u8]) -> u64
+    ensures { λ r. ⌜ r ≡ wordFault (now (word .entry)) ⌝ }
+{
+    if WORD_LIMIT < word.len() {
+        return 11;
+    }
+    let mut i: usize = 0;
+    while i < word.len() {
+        if TERMINALS <= word[i] {
+            return 11;
+        }
+        i += 1;
+    }
+    0
+}
+
+// The relation of a word of terminals, by the table of their relations: one composition for each letter.
+fn relation_by(table: &[u64; 128], word: &[u8]) -> Relation
+    requires { ⌜ strays (now word) ≡ false ⌝ }
+    ensures { λ r. ⌜ value r ≡ tableRelation states (now (table .entry)) (now (word .entry)) ⌝ }
+{
+    let mut r = Relation::identity();
+    let mut i: usize = 0;
+    while i < word.len() {
+        let c = word[i] as usize;
+        let letter = Relation { bits: table[c] };
+        r = r.compose(letter);
+        i += 1;
+    }
+    r
+}
+
+// No pair from state 0 to a final state in the relation of the word.
+fn turns_away(file: &[u8], word: &[u8]) -> bool
+    requires { ⌜ strays (now word) ≡ false ⌝ }
+    ensures { λ r. ⌜ r ≡ rejected states (automatonOf (now (file .entry))) (now (word .entry)) ⌝ }
+{
+    let mut table = [0u64; 128];
+    tables::letter_relations(file, &mut table);
+    let r = relation_by(&table, word);
+    let finals = tables::final_states(file);
+    r.rejects(finals)
+}
+
+// The file's refusal, then 11, then whether a path on the word leads from state 0 to a final state.
+pub fn judge(file: &[u8], word: &[u8]) -> Judged
+    ensures { λ r. ⌜ Judging (now (file .entry)) (now (word .entry)) r ⌝ }
+{
+    let refusal = plan_file::file_refusal(file);
+    if refusal.number != 0 {
+        return Judged::Refused(refusal);
+    }
+    let number = word_fault(word);
+    if number != 0 {
+        return Judged::Refused(Refusal { number, place: 0 });
+    }
+    if turns_away(file, word) {
+        return Judged::TurnedAway;
+    }
+    Judged::Accepted
+}

@@ -1,0 +1,19 @@
+-- The search's answer, as the call's. Assumes nothing.
+use borrow.Author.Needs.{needs}
+use Rattle.bolfrega.proofs.as_checked.Statement.{statement}
+use Rattle.bolfrega.proofs.as_checked.Tie as tie
+
+enum-told : tie.Need-enum-told
+enum-told c = search needs
+
+enum-known-searched : tie.Need-enum-known-searched
+enum-known-searched c = search needs
+
+returns : tie.Need-returns
+returns c = rw (c .enum-told .given .1)
+
+returns-2 : tie.Need-returns-2
+returns-2 c = rw (c .before .searched .given .1)
+
+pub as-checked-spec : {M : Type 1} → statement M
+as-checked-spec = tie.close (tie.spec enum-told enum-known-searched returns returns-2)

@@ -1,0 +1,24 @@
+use mathlib.Core.Path.{sym}
+use lib.Seq.{length-take-le}
+use borrow.Author.Needs.{needs}
+use Rattle.plan_check.proofs.print_front.Statement.{statement}
+use Rattle.plan_check.proofs.print_front.Tie as tie
+use Rattle.plan_check.proofs.print_front.Reads as reads
+use Rattle.plan_check.proofs.print_front.Lts as lts
+use Rattle.plan_check.proofs.print_word.Reads as print-word-reads
+
+slice-aggregate-print-word : tie.Need-slice-aggregate-print-word
+slice-aggregate-print-word c = sym (length-take-le _ _ (c .before .if1 .taken))
+
+print-word-requires : tie.Need-print-word-requires
+print-word-requires c κs = search needs
+
+returns : tie.Need-returns
+returns c = search needs
+
+returns-2 : tie.Need-returns-2
+returns-2 c = search needs
+
+pub print-front-spec : {M : Type 1} → statement M
+print-front-spec =
+    tie.close (tie.spec slice-aggregate-print-word print-word-requires returns returns-2)

@@ -1,0 +1,60 @@
+-- The counts of the kinds; a record read as a rule, as a transition or as a final state, whatever its kind; lists of such readings.
+-- Definitions only. Assumes nothing.
+use mathlib.Core.Bool.{cond}
+use mathlib.Core.List.{List, [], _∷_}
+use Prim.Native.Nat.{ℕ, zero, suc}
+use lib.Dec.{leb}
+use Rattle.language.specs.Grammar.{Rule as GrammarRule}
+use Rattle.language.specs.Automaton.{Transition as AutomatonTransition}
+use Rattle.plan_file.specs.declared.Rule.{Rule}
+use Rattle.plan_file.specs.declared.Transition.{Transition}
+use Rattle.plan_file.specs.Records.{recordCount, recordAt, byte, ruleKind, transitionKind, finalKind, countOf}
+use Rattle.plan_file.specs.Views.{bodyOf, finalOf}
+
+-- ---- how many there are, of the whole records
+
+abbrev pub ruleCount : List ℕ → ℕ
+ruleCount bs = countOf bs ruleKind (recordCount bs)
+
+abbrev pub transitionCount : List ℕ → ℕ
+transitionCount bs = countOf bs transitionKind (recordCount bs)
+
+abbrev pub finalCount : List ℕ → ℕ
+finalCount bs = countOf bs finalKind (recordCount bs)
+
+-- ---- from bytes to the code's structs
+
+abbrev pub ruleIn : List ℕ → Rule
+ruleIn r = record { head = byte r 1; size = byte r 2; first = byte r 3; second = byte r 4 }
+
+abbrev pub transitionIn : List ℕ → Transition
+transitionIn r = record { source = byte r 1; letter = byte r 2; target = byte r 3 }
+
+-- the bytes of record i, zeros past the last whole record
+unfoldable pub wholeRecord : List ℕ → ℕ → List ℕ
+wholeRecord bs i = cond (leb (recordCount bs) i) (0 ∷ 0 ∷ 0 ∷ 0 ∷ 0 ∷ 0 ∷ 0 ∷ 0 ∷ []) (recordAt bs i)
+
+abbrev pub ruleAt : List ℕ → ℕ → Rule
+ruleAt bs i = ruleIn (wholeRecord bs i)
+
+abbrev pub transitionAt : List ℕ → ℕ → Transition
+transitionAt bs i = transitionIn (wholeRecord bs i)
+
+abbrev pub finalAt : List ℕ → ℕ → ℕ
+finalAt bs i = finalOf (wholeRecord bs i)
+
+-- ---- from the code's structs to the grammar and the automaton
+
+abbrev pub grammarRule : Rule → GrammarRule
+grammarRule r = record { head = r .head; body = bodyOf (r .size) (r .first) (r .second) }
+
+abbrev pub automatonTransition : Transition → AutomatonTransition
+automatonTransition t = record { source = t .source; letter = t .letter; target = t .target }
+
+-- ---- readings of neighbouring records
+
+module _ {A : Type 0} (g : ℕ → A) where
+  -- g at m numbers from i on
+  unfoldable pub every : ℕ → ℕ → List A
+  every zero i = []
+  every (suc m) i = g i ∷ every m (suc i)

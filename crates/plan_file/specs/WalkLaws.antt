@@ -1,0 +1,164 @@
+-- The walk over a file goes by steps with running counts: the laws behind the record step and the refusal of a file. Assumes nothing.
+use mathlib.Core.Path.{_≡_, refl, sym, ap, ap₂, _∙_}
+use mathlib.Core.Bool.{Bool, true, false, not, cond}
+use mathlib.Core.List.{List}
+use Prim.Native.Nat.{ℕ, zero, suc, _+_, _-_, _%_, _≤_, _<_}
+use native.Mathlib.Nat.{sub-zero, add-zero}
+use native.Mathlib.Numerals.{add-one}
+use native.Mathlib.Omega.{arith}
+use lib.Dec.{eqb, leb, ltb}
+use lib.ListN.{length}
+use borrow.Author.Tests.{leb-true, leb-false, eqb-true, eq-eqb, ne-eqb, le-leb}
+use Rattle.plan_file.specs.Limits.{recordLimit}
+use Rattle.plan_file.specs.Records.{recordCount, recordAt, kindAt, ruleKind, transitionKind, countOf, Record, ruleRecord, transitionRecord, finalRecord, recordBy, recordOf}
+use Rattle.plan_file.specs.Refusals.{Refusal, refuse, lowest, faultBy, faultAt, orNext, faultFrom, fault}
+use Rattle.plan_file.specs.Reading.{Step, gives, refuses, ended, stepBy, stepFrom}
+use Rattle.plan_file.specs.Walk.{rulesIn, transitionsIn, refusalIn, rest, after}
+
+-- ---- the counts
+
+module _ (bs : List ℕ) (k i : ℕ) where
+  pub count-yes : kindAt bs i ≡ k → countOf bs k i + 1 ≡ countOf bs k (i + 1)
+  unfolding countOf
+  count-yes e = rw (add-one i, eq-eqb (kindAt bs i) k e)
+
+  pub count-no : (kindAt bs i ≡ k → ⊥) → countOf bs k i ≡ countOf bs k (i + 1)
+  unfolding countOf
+  count-no e = rw (add-one i, ne-eqb (kindAt bs i) k e) (sym (add-zero (countOf bs k i)))
+
+-- they go by what the record says
+counts-next : (bs : List ℕ) (i : ℕ) → let r = recordOf (recordAt bs i) in
+    (countOf bs ruleKind (i + 1) ≡ countOf bs ruleKind i + rulesIn r) × (countOf bs transitionKind (i + 1) ≡ countOf bs transitionKind i + transitionsIn r)
+unfolding countOf
+counts-next bs i =
+    let k = kindAt bs i in
+    let p = by (eqb k ruleKind) (eqb k transitionKind) (λ e. ne-eqb k transitionKind (λ z. let f = eqb-true k ruleKind e in omega arith)) in
+    (rw (add-one i, p .0), rw (add-one i, p .1))
+  where
+    by : (a b : Bool) → (a ≡ true → b ≡ false) → let r = recordBy a b (recordAt bs i) in (cond a 1 0 ≡ rulesIn r) × (cond b 1 0 ≡ transitionsIn r)
+    by true b h = (refl, ap (λ (x : Bool). cond x 1 0) (h refl))
+    by false true h = (refl, refl)
+    by false false h = (refl, refl)
+
+one-at-most : (r : Record) → (rulesIn r ≤ 1) × (transitionsIn r ≤ 1)
+one-at-most (ruleRecord h n s t) = (omega arith, omega arith)
+one-at-most (transitionRecord a c b) = (omega arith, omega arith)
+one-at-most (finalRecord f) = (omega arith, omega arith)
+
+-- ---- a step
+
+-- past the last record the counts say nothing
+pub past : (bs : List ℕ) (i a b a′ b′ : ℕ) → recordCount bs ≤ i → stepFrom bs i a b ≡ stepFrom bs i a′ b′
+unfolding stepFrom
+past bs i a b a′ b′ h = rw (le-leb (recordCount bs) i h)
+
+-- what a step gives is the record at its place, and the next place
+record Gave (bs : List ℕ) (i : ℕ) (r : Record) (j : ℕ) : Type 0 where
+  pub said : r ≡ recordOf (recordAt bs i)
+  pub next : j ≡ i + 1
+  pub inside : i < recordCount bs
+
+gave : (bs : List ℕ) (i a b : ℕ) (r : Record) (j : ℕ) → stepFrom bs i a b ≡ gives r j → Gave bs i r j
+unfolding stepFrom
+gave bs i a b r j e =
+    by (not (eqb (length bs % 8) 0)) (ltb recordLimit (recordCount bs)) (leb (recordCount bs) i) (leb-false (recordCount bs) i) (faultBy bs i a b) e
+  where
+    s : Record
+    s = recordOf (recordAt bs i)
+
+    by : (x y z : Bool) → (z ≡ false → i < recordCount bs) → (f : ℕ)
+        → cond x (refuses (refuse 1 0)) (cond y (refuses (refuse 2 0)) (cond z ended (stepBy f i s))) ≡ gives r j → Gave bs i r j
+    by true y z q f e = absurd (let w : _≡_ {A = ℕ} 0 1 = cc in let v : ⊥ = omega arith in v)
+    by false true z q f e = absurd (let w : _≡_ {A = ℕ} 0 1 = cc in let v : ⊥ = omega arith in v)
+    by false false true q f e = absurd (let w : _≡_ {A = ℕ} 0 1 = cc in let v : ⊥ = omega arith in v)
+    by false false false q zero e = record { said = cc; next = cc; inside = q refl }
+    by false false false q (suc f) e = absurd (let w : _≡_ {A = ℕ} 0 1 = cc in let v : ⊥ = omega arith in v)
+
+-- ---- the walk
+
+rest-start : (bs : List ℕ) → rest bs 0 ≡ fault bs
+unfolding rest fault
+rest-start bs = rw (sub-zero (recordCount bs))
+
+-- what is left is a step, and what is left then
+rest-step : (bs : List ℕ) (i : ℕ) → rest bs i ≡ after (stepFrom bs i (countOf bs ruleKind i) (countOf bs transitionKind i)) (rest bs (i + 1))
+unfolding rest stepFrom faultFrom faultAt
+rest-step bs i = by (not (eqb (length bs % 8) 0)) (ltb recordLimit n) (leb n i) (leb-true n i) (leb-false n i)
+  where
+    n : ℕ
+    n = recordCount bs
+
+    r : Record
+    r = recordOf (recordAt bs i)
+
+    one : (f : ℕ) (x : Refusal) → orNext f i x ≡ after (stepBy f i r) x
+    one zero x = refl
+    one (suc f) x = refl
+
+    by : (a b e : Bool) → (e ≡ true → n ≤ i) → (e ≡ false → i < n)
+        → cond a (refuse 1 0) (cond b (refuse 2 0) (faultFrom bs (n - i) i))
+        ≡ after (cond a (refuses (refuse 1 0)) (cond b (refuses (refuse 2 0)) (cond e ended (stepBy (faultAt bs i) i r)))) (cond a (refuse 1 0) (cond b (refuse 2 0) (faultFrom bs (n - (i + 1)) (i + 1))))
+    by true b e p q = refl
+    by false true e p q = refl
+    by false false true p q = let z : n - i ≡ 0 = omega (arith, p refl) in ap (λ (m : ℕ). faultFrom bs m i) z
+    by false false false p q =
+        let z : n - i ≡ suc (n - (i + 1)) = omega (arith, q refl) in
+        ap (λ (m : ℕ). faultFrom bs m i) z ∙ one (faultAt bs i) (faultFrom bs (n - (i + 1)) (suc i)) ∙ ap (λ (m : ℕ). after (stepBy (faultAt bs i) i r) (faultFrom bs (n - (i + 1)) m)) (sym (add-one i))
+
+-- where a walk stands at place i, with the counts of the records before it
+pub record At (bs : List ℕ) (rules transitions i : ℕ) : Type 0 where
+  pub rules-are : rules ≡ countOf bs ruleKind i
+  pub transitions-are : transitions ≡ countOf bs transitionKind i
+  pub left : rest bs i ≡ fault bs
+  pub inside : i ≤ recordCount bs
+  pub few-rules : rules ≤ i
+  pub few-transitions : transitions ≤ i
+
+-- where it stands after a step that gave record r, at place j
+pub record Moved (bs : List ℕ) (rules transitions i : ℕ) (r : Record) (j : ℕ) : Type 0 where
+  pub inside : i < recordCount bs
+  pub on : i < j
+  pub rules-fit : rules + rulesIn r ≤ recordCount bs
+  pub transitions-fit : transitions + transitionsIn r ≤ recordCount bs
+  pub next : At bs (rules + rulesIn r) (transitions + transitionsIn r) j
+
+pub at-start : (bs : List ℕ) → At bs 0 0 0
+unfolding countOf
+at-start bs = record { rules-are = refl; transitions-are = refl; left = rest-start bs; inside = omega arith; few-rules = omega arith; few-transitions = omega arith }
+
+module _ (bs : List ℕ) (rules transitions i : ℕ) (h : At bs rules transitions i) where
+  -- the step with the running counts is the step at the place
+  same-step : stepFrom bs i rules transitions ≡ stepFrom bs i (countOf bs ruleKind i) (countOf bs transitionKind i)
+  same-step = ap₂ (λ (a b : ℕ). stepFrom bs i a b) (h .rules-are) (h .transitions-are)
+
+  -- a step that gives no record says what the file is refused with
+  pub at-stop : (s : Step) → s ≡ stepFrom bs i rules transitions → ((x : Refusal) → refusalIn s ≡ after s x) → refusalIn s ≡ fault bs
+  at-stop s e stop = stop (rest bs (i + 1)) ∙ ap (λ (t : Step). after t (rest bs (i + 1))) (e ∙ same-step) ∙ sym (rest-step bs i) ∙ h .left
+
+  pub at-moved : (r : Record) (j : ℕ) → stepFrom bs i rules transitions ≡ gives r j → Moved bs rules transitions i r j
+  at-moved r j e =
+      let g = gave bs i rules transitions r j e in
+      let n = counts-next bs i in
+      let o = one-at-most r in record {
+        inside = g .inside;
+        on = omega (arith, g .next);
+        rules-fit = omega (arith, g .inside, h .few-rules);
+        transitions-fit = omega (arith, g .inside, h .few-transitions);
+        next = rw (g .next) (record {
+          rules-are = ap₂ (λ (a b : ℕ). a + b) (h .rules-are) (ap rulesIn (g .said)) ∙ sym (n .0);
+          transitions-are = ap₂ (λ (a b : ℕ). a + b) (h .transitions-are) (ap transitionsIn (g .said)) ∙ sym (n .1);
+          left = sym (rest-step bs i ∙ ap (λ (t : Step). after t (rest bs (i + 1))) (sym same-step ∙ e)) ∙ h .left;
+          inside = omega (arith, g .inside);
+          few-rules = omega (arith, h .few-rules);
+          few-transitions = omega (arith, h .few-transitions);
+        });
+      }
+
+-- ---- the lowest number, and a refusal by a number
+
+pub lowest-same : {a a′ b b′ c c′ d d′ e e′ : Bool} → a ≡ a′ → b ≡ b′ → c ≡ c′ → d ≡ d′ → e ≡ e′ → lowest a b c d e ≡ lowest a′ b′ c′ d′ e′
+lowest-same p q r s t = λ i. lowest (p i) (q i) (r i) (s i) (t i)
+
+pub refuse-by : (f g i : ℕ) (r : Record) → (f ≡ 0 → ⊥) → f ≡ g → refuses (refuse f i) ≡ stepBy g i r
+refuse-by zero g i r z e = absurd (z refl)
+refuse-by (suc f) g i r z e = ap (λ (m : ℕ). stepBy m i r) e

@@ -1,0 +1,15 @@
+-- `search::empty_body` meets its contract: its relation is the identity. Assumes nothing.
+use borrow.Author.Needs.{needs}
+use Rattle.working_order.specs.Candidates.{bare}
+use Rattle.search.proofs.empty_body.Statement.{statement}
+use Rattle.search.proofs.empty_body.Tie as tie
+
+identity-requires : tie.Need-identity-requires
+identity-requires c κs = search needs
+
+returns : tie.Need-returns
+unfolding bare
+returns c = rw (c .identity .ensures)
+
+pub empty-body-spec : {M : Type 1} → statement M
+empty-body-spec = tie.close (tie.spec identity-requires returns)

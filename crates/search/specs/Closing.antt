@@ -1,0 +1,70 @@
+-- How a pass ends: the code's end of a pass is the working order's. Assumes nothing.
+use mathlib.Core.Path.{_≡_, refl, sym, ap, _∙_}
+use mathlib.Core.Bool.{Bool, true, false}
+use Prim.Native.Nat.{ℕ, _≤_}
+use native.Mathlib.Omega.{arith}
+use lib.Dec.{eqb}
+use lib.ListN.{length}
+use borrow.Author.Tests.{eqb-false}
+use Rattle.working_order.specs.Journal.{absent}
+use Rattle.working_order.specs.Order.{Verdict, holds, broken, full, spent, answer, closeBy, close}
+use Rattle.search.specs.Base as order
+use Rattle.search.specs.Rows.{Raw, firstRows}
+use Rattle.search.specs.Meanings.{progressOf, outcomeOf, countsIn, totalsOf, endBy, endOf, answerBy, answerOf, totalsIn}
+use Rattle.search.specs.RowLaws.{rows-length}
+use Rattle.search.specs.declared.Answer.{Answer}
+use Rattle.search.specs.declared.Counts.{Counts}
+use Rattle.search.specs.declared.Outcome.the-variants as outcome
+use Rattle.search.specs.declared.Outcome.{Outcome}
+use Rattle.search.specs.declared.PassEnd.the-variants.{Again, Done}
+use Rattle.search.specs.declared.PassEnd.{PassEnd}
+
+-- the answer of a pass that ends so, where N is the rest of the check
+abbrev pub endAnswer : PassEnd → Raw → (order.Progress → order.Answer) → order.Answer
+endAnswer (Again w) j N = N (progressOf w j)
+endAnswer (Done a) j N = answerOf a j
+
+abbrev pub endUsed : PassEnd → ℕ
+endUsed (Again w) = w .used
+endUsed (Done a) = totalsIn a .used
+
+module _ (u k : ℕ) (j : Raw) (N : order.Progress → order.Answer) where
+  answer-given : (v : Verdict) (i : ℕ) (w : Counts) → w .used ≤ length j → answerBy v i (totalsOf w k) j ≡ answer v k i (progressOf w j)
+  unfolding answer
+  answer-given v i w h = ap (λ (n : ℕ). record { verdict = v; joins = w .joins; used = n; pass = k; row = i; journal = firstRows (w .used) j }) (sym (rows-length (w .used) j h))
+
+  pub close-end : (r : Outcome) → countsIn r .used ≤ length j → endAnswer (endOf u k r) j N ≡ close k u N (outcomeOf r j)
+  close-end (outcome.Spent w) h = answer-given spent absent w h
+  close-end (outcome.Full w) h = answer-given full absent w h
+  close-end (outcome.Broken i w) h = answer-given broken i w h
+  close-end (outcome.Going w) h =
+      split (eqb (w .used) u) ∙ ap (λ (n : ℕ). closeBy (eqb n u) k N (progressOf w j)) (sym (rows-length (w .used) j h))
+    where
+      split : (b : Bool) → endAnswer (endBy b w k) j N ≡ closeBy b k N (progressOf w j)
+      split true = answer-given holds absent w h
+      split false = refl
+
+pub close-used : (u k : ℕ) (r : Outcome) → endUsed (endOf u k r) ≡ countsIn r .used
+close-used u k (outcome.Spent w) = refl
+close-used u k (outcome.Full w) = refl
+close-used u k (outcome.Broken i w) = refl
+close-used u k (outcome.Going w) = split (eqb (w .used) u)
+  where
+    split : (b : Bool) → endUsed (endBy b w k) ≡ w .used
+    split true = refl
+    split false = refl
+
+done-again : {w : Counts} {a : Answer} → Again w ≡ Done a → ⊥
+done-again e = let z : _≡_ {A = ℕ} 0 1 = cc in omega arith
+
+pub again-going : (u k : ℕ) (r : Outcome) (w′ : Counts) → endOf u k r ≡ Again w′ → (r ≡ outcome.Going w′) × (w′ .used ≡ u → ⊥)
+again-going u k (outcome.Spent w) w′ e = absurd (done-again (sym e))
+again-going u k (outcome.Full w) w′ e = absurd (done-again (sym e))
+again-going u k (outcome.Broken i w) w′ e = absurd (done-again (sym e))
+again-going u k (outcome.Going w) w′ e = split (eqb (w .used) u) refl e
+  where
+    split : (b : Bool) → eqb (w .used) u ≡ b → endBy b w k ≡ Again w′ → (outcome.Going w ≡ outcome.Going w′) × (w′ .used ≡ u → ⊥)
+    split true p q = absurd (done-again (sym q))
+    split false p q =
+        let x : w ≡ w′ = cc in
+        (ap outcome.Going x, λ y. eqb-false (w .used) u p (ap (λ (v : Counts). v .used) x ∙ y))

@@ -1,0 +1,38 @@
+-- By the record's kind. Assumes nothing.
+use mathlib.Core.Path.{sym, ap, _∙_}
+use borrow.Author.Needs.{needs}
+use borrow.Author.Tests.{not-true, not-false}
+use Rattle.relation.specs.Relation.{states}
+use Rattle.plan_file.specs.Views.{finalOf}
+use Rattle.plan_file.specs.EntryLaws.{whole}
+use Rattle.tables.specs.Tables.{withState}
+use Rattle.tables.proofs.read_final.Statement.{statement}
+use Rattle.tables.proofs.read_final.Tie as tie
+
+of-kind-requires : tie.Need-of-kind-requires
+of-kind-requires c κs = search needs
+
+returns : tie.Need-returns
+returns c = rw (sym (c .before .of-kind .ensures) ∙ not-true _ (c .if1 .taken))
+
+final-at-requires : tie.Need-final-at-requires
+final-at-requires c κs = search needs
+
+with-state-requires : tie.Need-with-state-requires
+with-state-requires c κs = search needs
+
+returns-2 : tie.Need-returns-2
+returns-2 c =
+    let s = c .before .before .before .before .before in
+    rw (sym (c .before .before .before .of-kind .ensures) ∙ not-false _ (c .before .before .if1 .left))
+    (c .with-state .ensures ∙ ap (withState states (s .args .mask)) (c .before .final-at .ensures ∙ sym (ap finalOf (whole (s .args .file .now) (s .args .i) (s .pre)))))
+
+pub read-final-spec : {M : Type 1} → statement M
+read-final-spec =
+    tie.close
+    (tie.spec
+    of-kind-requires
+    returns
+    final-at-requires
+    with-state-requires
+    returns-2)

@@ -1,0 +1,169 @@
+// What judging and the inclusion check look up in a file, read once from its bytes, whatever they are: the relation of each
+// terminal, the mask of final states, and the rules as rows of numbers.
+ghost use mathlib.Core.Path.{_≡_};
+ghost use mathlib.Core.Bool.{cond};
+ghost use Prim.Native.Nat.{_≤_, _<_};
+ghost use lib.Dec.{eqb};
+ghost use lib.ListN.{length, replicate};
+ghost use Rattle.relation.specs.Relation.{states};
+ghost use Rattle.relation.specs.Digits.{number};
+ghost use Rattle.language.specs.WordRelation.{isFinal};
+ghost use Rattle.plan_file.specs.Limits.{terminals, ruleLimit};
+ghost use Rattle.plan_file.specs.Records.{recordCount, recordAt, kindAt, ruleKind, transitionKind, finalKind};
+ghost use Rattle.plan_file.specs.Views.{transitionOf, finalOf, transitionsOf, automatonOf};
+ghost use Rattle.tables.specs.Tables.{letterTable, withTransition, withState, rowIn, rowsOf, rowsIn, withRow, written, RuleTable};
+use relation::Relation;
+
+const STATES: u8 = 8;
+
+const TERMINALS: u8 = 128;
+
+const RULE_LIMIT: usize = 256;
+
+const RULE_KIND: u8 = 1;
+
+const TRANSITION_KIND: u8 = 2;
+
+const FINAL_KIND: u8 = 3;
+
+// Record i is of the kind.
+fn of_kind(file: &[u8], i: usize, kind: u8) -> bool
+    requires { ⌜ i < recordCount (now file) ⌝ }
+    ensures { λ r. ⌜ r ≡ eqb (kindAt (now (file .entry)) i) kind ⌝ }
+{
+    file[i * 8] == kind
+}
+
+// ---- the relations of the terminals
+
+// No terminal has a pair.
+fn clear(table: &mut [u64; 128])
+    ensures { λ _. ⌜ now (table .exit) ≡ replicate terminals 0 ⌝ }
+{
+    *table = [0u64; 128];
+}
+
+// Takes record i in, where it is a transition on a terminal.
+fn read_transition(file: &[u8], i: usize, table: &mut [u64; 128])
+    requires { ⌜ (i < recordCount (now file)) × (length (now table) ≡ terminals) ⌝ }
+    ensures { λ _. ⌜ now (table .exit) ≡ cond (eqb (kindAt (now (file .entry)) i) transitionKind) (withTransition states (now (table .entry)) (transitionOf (recordAt (now (file .entry)) i))) (now (table .entry)) ⌝ }
+{
+    if !of_kind(file, i, TRANSITION_KIND) {
+        return;
+    }
+    let t = plan_file::transition_at(file, i);
+    let letter = t.letter;
+    if TERMINALS <= letter {
+        return;
+    }
+    let at = letter as usize;
+    let old = Relation { bits: table[at] };
+    let new = old.insert(t.source, t.target);
+    table[at] = new.bits;
+}
+
+// Entry c is the relation of terminal c.
+pub fn letter_relations(file: &[u8], table: &mut [u64; 128])
+    ensures { λ _. ⌜ now (table .exit) ≡ letterTable states (transitionsOf (now (file .entry))) ⌝ }
+{
+    clear(table);
+    let n = file.len() / 8;
+    let mut i: usize = 0;
+    while i < n {
+        read_transition(file, i, table);
+        i += 1;
+    }
+}
+
+// ---- the final states
+
+// The mask with a state; the same mask where it is no state.
+fn with_state(mask: u8, state: u8) -> u8
+    ensures { λ r. ⌜ r ≡ withState states mask state ⌝ }
+{
+    if STATES <= state {
+        return mask;
+    }
+    let place = state as u32;
+    let bit: u8 = 1 << place;
+    mask | bit
+}
+
+// The mask with what record i says, where it is a final state.
+fn read_final(file: &[u8], i: usize, mask: u8) -> u8
+    requires { ⌜ i < recordCount (now file) ⌝ }
+    ensures { λ r. ⌜ r ≡ cond (eqb (kindAt (now (file .entry)) i) finalKind) (withState states mask (finalOf (recordAt (now (file .entry)) i))) mask ⌝ }
+{
+    if !of_kind(file, i, FINAL_KIND) {
+        return mask;
+    }
+    with_state(mask, plan_file::final_at(file, i))
+}
+
+// Bit f is set where state f is final.
+pub fn final_states(file: &[u8]) -> u8
+    ensures { λ r. ⌜ r ≡ number states (isFinal (automatonOf (now (file .entry)))) ⌝ }
+{
+    let n = file.len() / 8;
+    let mut mask: u8 = 0;
+    let mut i: usize = 0;
+    while i < n {
+        mask = read_final(file, i, mask);
+        i += 1;
+    }
+    mask
+}
+
+// ---- the rules
+
+fn wide(x: u8) -> u64
+    ensures { λ r. ⌜ r ≡ x ⌝ }
+{
+    x as u64
+}
+
+// Head, body length, first and second symbol of record i, read as a rule.
+fn row_at(file: &[u8], i: usize) -> [u64; 4]
+    requires { ⌜ i < recordCount (now file) ⌝ }
+    ensures { λ r. ⌜ r ≡ rowIn (recordAt (now (file .entry)) i) ⌝ }
+{
+    let r = plan_file::rule_at(file, i);
+    [wide(r.head), wide(r.size), wide(r.first), wide(r.second)]
+}
+
+// Takes record i in after n rows, where it is a rule and fewer than the limit are written; gives the count of rows then.
+fn read_rule(file: &[u8], i: usize, rows: &mut [[u64; 4]], n: usize) -> usize
+    requires { ⌜ (i < recordCount (now file)) × (ruleLimit ≤ length (now rows)) ⌝ }
+    ensures { λ r. ⌜ rowsIn (now (rows .exit)) r ≡ cond (eqb (kindAt (now (file .entry)) i) ruleKind) (withRow (rowsIn (now (rows .entry)) n) (rowIn (recordAt (now (file .entry)) i))) (rowsIn (now (rows .entry)) n) ⌝ }
+{
+    if !of_kind(file, i, RULE_KIND) {
+        return n;
+    }
+    if RULE_LIMIT <= n {
+        return n;
+    }
+    rows[n] = row_at(file, i);
+    n + 1
+}
+
+// The first rules up to the limit, in file order; gives their count.
+fn read_rules(file: &[u8], rows: &mut [[u64; 4]]) -> usize
+    requires { ⌜ ruleLimit ≤ length (now rows) ⌝ }
+    ensures { λ n. ⌜ rowsIn (now (rows .exit)) n ≡ written (now (rows .entry)) (rowsOf (now (file .entry))) ⌝ }
+{
+    let count = file.len() / 8;
+    let mut n: usize = 0;
+    let mut i: usize = 0;
+    while i < count {
+        n = read_rule(file, i, rows, n);
+        i += 1;
+    }
+    n
+}
+
+// The first 256 rules in file order, each as a row of head, body length, first and second symbol; gives their count.
+pub fn rule_table(file: &[u8], table: &mut [[u64; 4]; 256]) -> usize
+    ensures { λ n. ⌜ RuleTable (now (file .entry)) (now (table .entry)) (now (table .exit)) n ⌝ }
+{
+    read_rules(file, table)
+}

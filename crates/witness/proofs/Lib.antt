@@ -1,0 +1,4 @@
+pub mod Handing
+pub mod Buffers
+pub mod Views
+pub mod Faults

@@ -1,0 +1,6 @@
+pub mod Forms
+pub mod Parts
+pub mod Writes
+pub mod FittingLaws
+pub mod BehindLaws
+pub mod OnFile

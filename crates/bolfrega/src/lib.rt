@@ -70,9 +70,9 @@ pub fn write(
 ) -> Writing
     ensures { λ r. ⌜ Writes (now (file .entry)) (map rowOf (now (journal .entry))) used row (now (buffer .entry)) (now (buffer .exit)) r ⌝ }
 {
-    let refusal = plan_file::file_refusal(file);
-    if refusal.number != 0 {
-        return Writing::Refused(refusal);
+    let refused = plan_file::file_refusal(file);
+    if refused.number != 0 {
+        return Writing::Refused(refused);
     }
     let mut rules = [[0u64; 4]; 256];
     let n = tables::rule_table(file, &mut rules);

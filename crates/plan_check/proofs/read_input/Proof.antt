@@ -1,13 +1,10 @@
+-- The part that is read into lies within the input. Assumes nothing.
 use mathlib.Core.Path.{sym}
 use native.Mathlib.Omega.{arith}
 use lib.Seq.{length-take-le}
 use borrow.Author.Needs.{needs}
 use Rattle.plan_check.proofs.read_input.Statement.{statement}
 use Rattle.plan_check.proofs.read_input.Tie as tie
-use Rattle.plan_check.proofs.read_input.Reads as reads
-use Rattle.plan_check.proofs.read_input.Lts as lts
-use Rattle.io.proofs.read_full.Reads as read-full-reads
-use Rattle.plan_check.proofs.drain.Reads as drain-reads
 
 returns : tie.Need-returns
 returns c = search needs

@@ -1,11 +1,9 @@
+-- The word is a part of the buffer. Assumes nothing.
 use mathlib.Core.Path.{sym}
 use lib.Seq.{length-take-le}
 use borrow.Author.Needs.{needs}
-use Rattle.plan_check.proofs.print_front.Statement.{statement}
-use Rattle.plan_check.proofs.print_front.Tie as tie
-use Rattle.plan_check.proofs.print_front.Reads as reads
-use Rattle.plan_check.proofs.print_front.Lts as lts
-use Rattle.plan_check.proofs.print_word.Reads as print-word-reads
+use Rattle.report.proofs.print_front.Statement.{statement}
+use Rattle.report.proofs.print_front.Tie as tie
 
 slice-aggregate-print-word : tie.Need-slice-aggregate-print-word
 slice-aggregate-print-word c = sym (length-take-le _ _ (c .before .if1 .taken))

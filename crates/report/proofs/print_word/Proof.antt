@@ -2,8 +2,8 @@
 use Prim.Native.Nat.{_≤_, _-_}
 use lib.ListN.{length}
 use borrow.Author.Needs.{needs}
-use Rattle.plan_check.proofs.print_word.Statement.{statement}
-use Rattle.plan_check.proofs.print_word.Tie as tie
+use Rattle.report.proofs.print_word.Statement.{statement}
+use Rattle.report.proofs.print_word.Tie as tie
 
 abbrev Inv-loop : tie.InvT-loop
 Inv-loop word i₀ t3 i = i ≤ length word

@@ -1,0 +1,17 @@
+-- `cases_inclusion::try_all` is safe and ends: the measure is what is left of the range, nothing has to hold from turn to turn, and
+-- each need is found by `search`. Assumes nothing.
+use Prim.Native.Nat.{_-_}
+use borrow.Author.Needs.{needs}
+use Rattle.cases_inclusion.proofs.try_all.Statement.{statement}
+use Rattle.cases_inclusion.proofs.try_all.Tie as tie
+
+abbrev Inv-loop : tie.InvT-loop
+Inv-loop tally₀ seed₀ number₀ tally seed number = Unit {0}
+
+abbrev μ-loop : tie.MeasureT-loop
+μ-loop tally₀ seed₀ number₀ tally seed number = 10000 - number
+
+pub try-all-spec : {M : Type 1} → statement M
+try-all-spec =
+    tie.close
+    (tie.spec Inv-loop μ-loop (λ c. search needs) (λ c κs. search needs) (λ c. search needs) (λ c. search needs) (λ c. search needs) (λ c. search needs))

@@ -1,0 +1,226 @@
+// The cases that document 01 marks P, as far as the library can be given rows and a budget, each as the check program prints it.
+// What should come stands in the file stdout; the judged runs are compared by cases_reading.
+
+// Plan A with sheet S.
+const PLAN_A: [u8; 64] = [
+    1,
+    0,
+    2,
+    129,
+    3,
+    0,
+    0,
+    0,
+    1,
+    1,
+    0,
+    0,
+    0,
+    0,
+    0,
+    0,
+    1,
+    1,
+    2,
+    1,
+    130,
+    0,
+    0,
+    0,
+    1,
+    2,
+    2,
+    2,
+    129,
+    0,
+    0,
+    0,
+    2,
+    0,
+    1,
+    1,
+    0,
+    0,
+    0,
+    0,
+    2,
+    0,
+    3,
+    2,
+    0,
+    0,
+    0,
+    0,
+    2,
+    1,
+    2,
+    0,
+    0,
+    0,
+    0,
+    0,
+    3,
+    2,
+    0,
+    0,
+    0,
+    0,
+    0,
+    0,
+];
+
+// Plan B with sheet S.
+const PLAN_B: [u8; 72] = [
+    1,
+    0,
+    2,
+    129,
+    3,
+    0,
+    0,
+    0,
+    1,
+    1,
+    0,
+    0,
+    0,
+    0,
+    0,
+    0,
+    1,
+    1,
+    2,
+    1,
+    130,
+    0,
+    0,
+    0,
+    1,
+    2,
+    1,
+    129,
+    0,
+    0,
+    0,
+    0,
+    1,
+    2,
+    2,
+    2,
+    129,
+    0,
+    0,
+    0,
+    2,
+    0,
+    1,
+    1,
+    0,
+    0,
+    0,
+    0,
+    2,
+    0,
+    3,
+    2,
+    0,
+    0,
+    0,
+    0,
+    2,
+    1,
+    2,
+    0,
+    0,
+    0,
+    0,
+    0,
+    3,
+    2,
+    0,
+    0,
+    0,
+    0,
+    0,
+    0,
+];
+
+// Only the rule "0 gives nothing", and the same with stage 0 finishing.
+const LONE: [u8; 8] = [1, 0, 0, 0, 0, 0, 0, 0];
+
+const LONE_FINAL: [u8; 16] = [1, 0, 0, 0, 0, 0, 0, 0, 3, 0, 0, 0, 0, 0, 0, 0];
+
+// Symbols 191 and 192; two equal records.
+const SYMBOL_191: [u8; 8] = [1, 0, 1, 191, 0, 0, 0, 0];
+
+const SYMBOL_192: [u8; 8] = [1, 0, 1, 192, 0, 0, 0, 0];
+
+const EQUAL: [u8; 16] = [1, 0, 0, 0, 0, 0, 0, 0, 1, 0, 0, 0, 0, 0, 0, 0];
+
+fn with_1024(file: &[u8], budget: u64) {
+    let mut journal = [[0u64; 8]; 1024];
+    report::report(file, &mut journal, budget);
+}
+
+fn with_3(file: &[u8]) {
+    let mut journal = [[0u64; 8]; 3];
+    report::report(file, &mut journal, 1000000);
+}
+
+fn with_4(file: &[u8]) {
+    let mut journal = [[0u64; 8]; 4];
+    report::report(file, &mut journal, 1000000);
+}
+
+// The journal's old contents do not matter.
+fn with_old_rows(file: &[u8]) {
+    let mut journal = [[7u64; 8]; 1024];
+    report::report(file, &mut journal, 1000000);
+}
+
+fn with_no_row(file: &[u8]) {
+    let mut journal = [[0u64; 8]; 0];
+    report::report(file, &mut journal, 1000000);
+}
+
+fn plan_a() {
+    let file = PLAN_A;
+    with_1024(&file, 1000000);
+    with_1024(&file, 11);
+    with_1024(&file, 12);
+    with_3(&file);
+    with_4(&file);
+    with_old_rows(&file);
+    with_no_row(&file);
+}
+
+fn plan_b() {
+    let file = PLAN_B;
+    with_1024(&file, 1000000);
+    with_old_rows(&file);
+}
+
+fn small_files() {
+    let none = [0u8; 0];
+    with_1024(&none, 0);
+    let lone = LONE;
+    with_1024(&lone, 1000000);
+    let last = LONE_FINAL;
+    with_1024(&last, 1000000);
+}
+
+fn symbols() {
+    let high = SYMBOL_191;
+    with_1024(&high, 1000000);
+    let above = SYMBOL_192;
+    with_1024(&above, 1000000);
+    let equal = EQUAL;
+    with_1024(&equal, 1000000);
+}
+
+fn main() {
+    plan_a();
+    plan_b();
+    small_files();
+    symbols();
+}

@@ -20,23 +20,23 @@ use Rattle.calls.specs.Checking.{journalFault, orderOn, checkOf, shown}
 use Rattle.calls.specs.Judging.{Judgement, accepted, turnedAway, wordFault, judgeOf}
 
 -- a record of kind k with the bytes 1 to 4
-abbrev entry : ℕ → ℕ → ℕ → ℕ → ℕ → List ℕ → List ℕ
+abbrev pub entry : ℕ → ℕ → ℕ → ℕ → ℕ → List ℕ → List ℕ
 entry k a b c d rest = k ∷ a ∷ b ∷ c ∷ d ∷ 0 ∷ 0 ∷ 0 ∷ rest
 
 -- sheet S: 0 on 1 to 1, 0 on 3 to 2, 1 on 2 to 0; finishing 2
-sheetS : List ℕ
+unfoldable pub sheetS : List ℕ
 sheetS = entry 2 0 1 1 0 (entry 2 0 3 2 0 (entry 2 1 2 0 0 (entry 3 2 0 0 0 [])))
 
 -- 0 gives (procedure 1) 3; 1 gives nothing; 1 gives 1 (procedure 2); 2 gives 2 (procedure 1)
-planA : List ℕ → List ℕ
+unfoldable pub planA : List ℕ → List ℕ
 planA rest = entry 1 0 2 129 3 (entry 1 1 0 0 0 (entry 1 1 2 1 130 (entry 1 2 2 2 129 rest)))
 
 -- and 2 gives (procedure 1)
-planB : List ℕ → List ℕ
+unfoldable pub planB : List ℕ → List ℕ
 planB rest = entry 1 0 2 129 3 (entry 1 1 0 0 0 (entry 1 1 2 1 130 (entry 1 2 1 129 0 (entry 1 2 2 2 129 rest))))
 
 -- only "0 gives nothing"
-lone : List ℕ → List ℕ
+unfoldable pub lone : List ℕ → List ℕ
 lone rest = entry 1 0 0 0 0 rest
 
 -- what the check program prints

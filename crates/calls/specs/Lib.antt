@@ -11,3 +11,4 @@ pub mod Promising
 pub mod JournalTruth
 pub mod JudgingTruth
 pub mod Cases
+pub mod Examples

@@ -5,6 +5,7 @@ pub mod Order
 pub mod Behind
 pub mod Fitting
 pub mod Derivation
+pub mod Example
 pub mod Carrying
 pub mod Coverage
 pub mod Walking

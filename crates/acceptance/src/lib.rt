@@ -72,7 +72,7 @@ fn turns_away(file: &[u8], word: &[u8]) -> bool
 pub fn judge(file: &[u8], word: &[u8]) -> Judged
     ensures { λ r. ⌜ Judging (now (file .entry)) (now (word .entry)) r ⌝ }
 {
-    let refusal = plan_file::file_refusal(file);
+    let refusal = walk::file_refusal(file);
     if refusal.number != 0 {
         return Judged::Refused(refusal);
     }

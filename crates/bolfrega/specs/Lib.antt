@@ -1,3 +1,7 @@
-pub mod Answers
+pub mod Codes
+pub mod Told
 pub mod Contracts
-pub mod Bridge
+pub mod Telling
+pub mod ZeroRows
+pub mod LowNumbers
+pub mod HostTruth

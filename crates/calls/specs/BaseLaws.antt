@@ -1,18 +1,17 @@
 -- The laws of the base check, and what derivations of words and of relations have to do with each other (document 000, Lemma 3).
 -- Assumes nothing.
 use mathlib.Core.Path.{_≡_, refl, sym, ap, ap₂, _∙_, subst}
-use mathlib.Core.Logic.{_⊎_, inl, inr}
-use mathlib.Core.Bool.{Bool, true, _&&_}
+use mathlib.Core.Logic.{inl}
+use mathlib.Core.Bool.{true}
 use mathlib.Core.List.{List, [], _∷_, _++_, append-nil}
 use Prim.Native.Nat.{ℕ, zero, suc}
-use lib.Dec.{eqb}
-use lib.ListN.{length, length-append}
+use lib.ListN.{length-append}
 use Rattle.basics.specs.Tests.{and-intro, and-fst, and-snd}
-use Rattle.basics.specs.Lists.{In, in-one}
+use Rattle.basics.specs.Lists.{in-one}
 use Rattle.relation.specs.Relation.{identity, compose, contained, rejects}
 use Rattle.relation.specs.DigitLaws.{subset-refl, subset-trans}
 use Rattle.relation.specs.RelationLaws.{compose-mono, rejects-contained}
-use Rattle.language.specs.Grammar.{Symbol, terminal, nonterminal, Body, empty, one, two, symbols, Rule, initial}
+use Rattle.language.specs.Grammar.{Symbol, terminal, nonterminal, Body, empty, one, two, symbols, Rule}
 use Rattle.language.specs.Spelling.{SpellsSymbol, Spells, DerivesWithin}
 use Rattle.language.specs.Automaton.{Automaton}
 use Rattle.language.specs.WordRelation.{letterRelation, wordRelation, isFinal}

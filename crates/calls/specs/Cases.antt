@@ -1,16 +1,15 @@
 -- The cases that document 01 marks P, as one table about the definitions, from file bytes. Assumes nothing.
 use mathlib.Core.Path.{_≡_, refl}
-use mathlib.Core.Bool.{Bool, true, false, not, _&&_, _||_, cond}
-use mathlib.Core.List.{List, [], _∷_, _++_, map}
-use Prim.Native.Nat.{ℕ, zero, suc, _+_, _*_, min}
-use lib.ListN.{length, getD}
+use mathlib.Core.List.{List, [], _∷_, map}
+use Prim.Native.Nat.{ℕ}
+use lib.ListN.{getD}
 use Rattle.relation.specs.Digits.{bit, number, some, count, subset}
 use Rattle.relation.specs.Relation.{states, has, table, identity, compose, pairs, rejects}
 use Rattle.language.specs.WordRelation.{moves, letterRelation, wordRelation, isFinal, rejected}
 use Rattle.plan_file.specs.Records.{countOf}
-use Rattle.plan_file.specs.Refusals.{Refusal, kindKnown, aboveRange, strayByte, risesFrom, exceeds, overLimit, faultBy, faultAt, faultFrom, fault}
+use Rattle.plan_file.specs.Refusals.{kindKnown, aboveRange, strayByte, risesFrom, exceeds, overLimit, faultBy, faultAt, faultFrom, fault}
 use Rattle.plan_file.specs.Views.{collect, rulesOf, transitionsOf, finalsOf, automatonOf}
-use Rattle.working_order.specs.Journal.{Row, noRow, absent, capped, live, liveOf}
+use Rattle.working_order.specs.Journal.{noRow, capped, live, liveOf}
 use Rattle.working_order.specs.Candidates.{liveRows, sole, paired, bare, choices, bodyCandidates, passCandidates}
 use Rattle.working_order.specs.Order.{Verdict, holds, broken, full, spent, Answer, born, answer, dropped, larger, retire, added, decide, consider, walk, onePass, passes, check}
 use Rattle.working_order.specs.Behind.{symbolWord, bodyWord, rowWord, wordsFrom, wordsOf, wordBehind}

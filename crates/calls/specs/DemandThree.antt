@@ -2,9 +2,8 @@
 -- verdict. Its reader needs document 000 only: words are derived by rewriting, and accepted by a path. Definitions only. Assumes nothing.
 use mathlib.Core.Path.{_≡_}
 use mathlib.Core.Logic.{_↔_}
-use mathlib.Core.Bool.{false}
 use mathlib.Core.List.{List}
-use Prim.Native.Nat.{ℕ, suc, _+_, _*_, _≤_, _<_}
+use Prim.Native.Nat.{ℕ, _+_, _*_, _≤_, _<_}
 use lib.ListN.{length}
 use Rattle.relation.specs.Relation.{states}
 use Rattle.language.specs.Grammar.{initial}
@@ -12,7 +11,7 @@ use Rattle.language.specs.Rewriting.{Language}
 use Rattle.language.specs.Spelling.{DerivesWithin}
 use Rattle.language.specs.Automaton.{Accepts, TurnsAway}
 use Rattle.plan_file.specs.Views.{rulesOf, automatonOf}
-use Rattle.working_order.specs.Order.{Answer, Verdict, holds, broken, full, spent}
+use Rattle.working_order.specs.Order.{Answer, holds, broken, full, spent}
 use Rattle.working_order.specs.Halting.{Stops}
 use Rattle.calls.specs.Base.{base}
 use Rattle.calls.specs.Checking.{journalLimit, checkOf, shown}

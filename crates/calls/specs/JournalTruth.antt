@@ -1,5 +1,5 @@
 -- What holds of the rows that a check leaves in the journal, on the bytes of any file. Assumes nothing.
-use mathlib.Core.Path.{_≡_, subst}
+use mathlib.Core.Path.{_≡_}
 use mathlib.Core.Bool.{true}
 use mathlib.Core.List.{List, []}
 use Prim.Native.Nat.{ℕ, _<_}
@@ -9,7 +9,6 @@ use Rattle.language.specs.Spelling.{DerivesWithin}
 use Rattle.language.specs.WordRelation.{wordRelation}
 use Rattle.plan_file.specs.Views.{rulesOf, automatonOf}
 use Rattle.working_order.specs.Journal.{Row, noRow, capped}
-use Rattle.working_order.specs.Order.{check}
 use Rattle.working_order.specs.Behind.{wordsOf, wordBehind}
 use Rattle.working_order.specs.Fitting.{rowFits}
 use Rattle.working_order.specs.SideBySide.{side-at}

@@ -1,14 +1,13 @@
 -- A judgement is the truth about paths (demand 2): accepted exactly when a path leads from state 0 to a final state. Assumes nothing.
-use mathlib.Core.Path.{_≡_, refl, sym, ap, _∙_}
+use mathlib.Core.Path.{_≡_, refl}
 use mathlib.Core.Bool.{Bool, true, false}
 use mathlib.Core.List.{List}
 use Prim.Native.Nat.{ℕ, zero, suc}
-use native.Mathlib.Omega.{arith}
 use Rattle.relation.specs.Relation.{states}
 use Rattle.language.specs.Automaton.{Accepts, TurnsAway}
 use Rattle.language.specs.WordRelation.{rejected}
 use Rattle.language.specs.Paths.{turns-away, accepts}
-use Rattle.plan_file.specs.Refusals.{Refusal, fault}
+use Rattle.plan_file.specs.Refusals.{fault}
 use Rattle.plan_file.specs.Views.{automatonOf}
 use Rattle.plan_file.specs.Valid.{automaton-within}
 use Rattle.calls.specs.Replies.{Reply, refused, answered, unlessBy}

@@ -1,16 +1,16 @@
 -- A check that answers keeps the promises of demand 3. Assumes nothing.
-use mathlib.Core.Path.{_≡_, refl, sym, ap, _∙_, subst}
+use mathlib.Core.Path.{_≡_, refl, sym, ap, _∙_}
 use mathlib.Core.Bool.{Bool, true, false, _||_, cond}
 use mathlib.Core.List.{List}
-use Prim.Native.Nat.{ℕ, zero, suc, _≤_, _<_}
+use Prim.Native.Nat.{ℕ, zero, suc, _≤_}
 use native.Mathlib.Nat.{suc-ne-zero}
 use native.Mathlib.Omega.{arith}
 use lib.Dec.{eqb, ltb}
 use borrow.Author.Tests.{eqb-false, ltb-false, ne-eqb, le-ltb}
 use Rattle.basics.specs.Tests.{or-neither}
 use Rattle.plan_file.specs.Refusals.{Refusal, refuse, fault}
-use Rattle.working_order.specs.Order.{Answer, full, spent}
-use Rattle.calls.specs.Replies.{Reply, refused, answered, unlessBy}
+use Rattle.working_order.specs.Order.{Answer}
+use Rattle.calls.specs.Replies.{Reply, answered, unlessBy}
 use Rattle.calls.specs.Checking.{journalLimit, journalFault, orderOn, checkOf}
 use Rattle.calls.specs.DemandThree.{Promises}
 use Rattle.calls.specs.Truth.{one-verdict, counted, least-height, stable}

@@ -1,6 +1,6 @@
 -- A call answers or refuses (document 01, "Numbers a call may refuse with"). Definitions only. Assumes nothing.
 use Prim.Native.Nat.{ℕ, zero, suc}
-use Rattle.plan_file.specs.Refusals.{Refusal, refuse}
+use Rattle.plan_file.specs.Refusals.{Refusal}
 
 pub data Reply (A : Type 0) : Type 0 where
   refused : Refusal → Reply A

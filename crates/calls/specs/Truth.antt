@@ -1,17 +1,15 @@
 -- Demand 3 and stability, on the bytes of a file that is not refused, for every journal length and every budget. Assumes nothing.
 use mathlib.Core.Path.{_≡_, refl, sym, ap, _∙_, subst}
-use mathlib.Core.Logic.{_↔_}
-use mathlib.Core.Bool.{Bool, true, false, _&&_}
-use mathlib.Core.List.{List, [], _∷_}
+use mathlib.Core.Bool.{false}
+use mathlib.Core.List.{List}
 use Prim.Native.Nat.{ℕ, suc, _+_, _*_, _≤_, _<_}
 use native.Mathlib.Nat.{le-refl, le-trans, le-of-eq, mul-comm, mul-assoc, mul-one}
 use native.Mathlib.Numerals.{add-one}
 use native.Mathlib.Omega.{arith}
-use lib.Dec.{eqb}
 use lib.ListN.{length}
 use borrow.Author.Tests.{eqb-true}
 use Rattle.basics.specs.Tests.{and-fst, and-snd}
-use Rattle.relation.specs.Relation.{states, compose, rejects}
+use Rattle.relation.specs.Relation.{states, rejects}
 use Rattle.language.specs.Grammar.{initial}
 use Rattle.language.specs.Spelling.{DerivesWithin}
 use Rattle.language.specs.Agreement.{language}
@@ -21,12 +19,9 @@ use Rattle.language.specs.Paths.{turns-away, accepts}
 use Rattle.plan_file.specs.Refusals.{fault}
 use Rattle.plan_file.specs.Views.{rulesOf, automatonOf}
 use Rattle.plan_file.specs.Valid.{automaton-within}
-use Rattle.working_order.specs.Algebra.{Algebra}
-use Rattle.working_order.specs.Journal.{Row}
 use Rattle.working_order.specs.Order.{Answer, Verdict, holds, broken, full, spent, check}
 use Rattle.working_order.specs.Behind.{wordBehind}
-use Rattle.working_order.specs.Halting.{Stops}
-use Rattle.working_order.specs.Truth.{SaysBy, Says, check-says, holds-calm, shownRow}
+use Rattle.working_order.specs.Truth.{SaysBy, check-says, holds-calm, shownRow}
 use Rattle.working_order.specs.Counting.{Exact, StopsBy, check-exact, never-spent}
 use Rattle.working_order.specs.Stability.{Firm, check-mono}
 use Rattle.calls.specs.Base.{starts, base, words}

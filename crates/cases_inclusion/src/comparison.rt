@@ -1,12 +1,11 @@
 // One file: the answer of the inclusion check held against the unpruned search, and against its answers with other journals and budgets.
-use crate::random::draw;
-use crate::rows;
-use crate::unpruned;
 use acceptance::Judged;
-use bolfrega::Checked;
-use bolfrega::Writing;
+use checker::Checked;
+use checker::Writing;
+use random_files::Trial;
 use search::Answer;
 use search::Totals;
+use unpruned::rows;
 
 pub const REFUSED: u64 = 0;
 
@@ -53,7 +52,7 @@ fn told(answer: Answer) -> Reply {
 }
 
 fn ask(file: &[u8], journal: &mut [[u64; 8]], budget: u64) -> Reply {
-    let checked = bolfrega::check(file, journal, budget);
+    let checked = checker::check(file, journal, budget);
     match checked {
         Checked::Refused(_) => Reply {
             verdict: REFUSED,
@@ -94,7 +93,7 @@ fn shown(file: &[u8], journal: &[[u64; 8]], used: usize, row: usize) -> bool {
     }
     let held = journal[row];
     let mut buffer = [0u8; 4096];
-    let writing = bolfrega::write(file, journal, used, row, &mut buffer);
+    let writing = checker::write(file, journal, used, row, &mut buffer);
     let Writing::Length(size) = writing else {
         return false;
     };
@@ -175,36 +174,6 @@ fn first_failing(verdict: bool, relations: bool, more: bool, old: bool, less: bo
         return 5;
     }
     0
-}
-
-// What else is tried on a file: old contents of each journal row, a small count of rows, a small budget.
-pub struct Trial {
-    pub old: [u64; 8],
-    pub few: usize,
-    pub budget: u64,
-}
-
-// A row that a check could take for one of its own: of nonterminal 0 or 1, live or retired, with no pair or few.
-fn draw_row(seed: &mut u64) -> [u64; 8] {
-    let x = draw(seed, 1024);
-    [
-        x % 2,
-        x / 2 % 8,
-        x / 16 % 4 * 65537,
-        x,
-        x / 2,
-        x,
-        1,
-        x / 64 % 2,
-    ]
-}
-
-// 1 to 6 rows and 0 to 40 joins.
-pub fn draw_trial(seed: &mut u64) -> Trial {
-    let old = draw_row(seed);
-    let few = draw(seed, 6) as usize + 1;
-    let budget = draw(seed, 41);
-    Trial { old, few, budget }
 }
 
 // What came of a file: the verdict and the used rows, the verdict with few rows and a small budget, and the first comparison that failed.

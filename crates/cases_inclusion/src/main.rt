@@ -1,5 +1,6 @@
-// Compares the inclusion check with an unpruned search that shares no code with it, on small files made from a fixed seed. The search
-// (unpruned.rt) finds all relations of all words of each nonterminal and discards none. Of each file (comparison.rt):
+// Compares the inclusion check with an unpruned search that shares no code with it, on small files made from a fixed seed (the crate
+// random_files). The search (the crate unpruned) finds all relations of all words of each nonterminal and discards none. Of each file
+// (comparison.rt):
 //
 // 1. With 1,024 rows and a budget of 1,000,000 the file is not refused, and the verdict is holds or broken as the search says. The word
 //    behind a broken answer's row is as long as the row says, is turned away by judging, and has the row's relation.
@@ -14,13 +15,9 @@
 // there are relations, of broken ones; of full, spent and other answers under 5; of files with more relations than the search has room
 // for, which are skipped; and of mismatches, each of which is also written with the file's number and the comparison that fails.
 mod comparison;
-mod files;
-mod random;
-mod rows;
-mod unpruned;
 
 use comparison::Outcome;
-use comparison::Trial;
+use random_files::Trial;
 use unpruned::Verdict;
 
 const FILES: u64 = 10000;
@@ -114,8 +111,8 @@ fn try_file(number: u64, buffer: &[u8; 192], size: usize, trial: Trial, tally: &
 // Makes the next file and what is tried on it.
 fn try_next(number: u64, seed: &mut u64, tally: &mut [u64; 9]) {
     let mut buffer = [0u8; 192];
-    let size = files::next(seed, &mut buffer);
-    let trial = comparison::draw_trial(seed);
+    let size = random_files::next(seed, &mut buffer);
+    let trial = random_files::draw_trial(seed);
     try_file(number, &buffer, size, trial, tally);
 }
 

@@ -4,7 +4,6 @@ use mathlib.Core.Logic.{_↔_}
 use mathlib.Core.List.{List, [], _∷_, _++_, map, append-assoc, append-nil}
 use Prim.Native.Nat.{ℕ, zero, suc, _≤_}
 use native.Mathlib.Decide.{le-ind}
-use Rattle.basics.specs.Lists.{In}
 use Rattle.language.specs.Grammar.{Symbol, terminal, nonterminal, symbols, Rule}
 use Rattle.language.specs.Rewriting.{Step, Steps, done, more, Language}
 use Rattle.language.specs.Spelling.{SpellsSymbol, Spells, DerivesWithin, Derives}

@@ -2,11 +2,8 @@
 use Rattle.plan_file.specs.declared.Refusal.{Refusal as RefusalAnswer}
 use Rattle.plan_file.specs.declared.Record.{Record as RecordAnswer}
 use Rattle.plan_file.specs.declared.Record.the-variants.{Rule, Transition, Final}
-use Rattle.plan_file.specs.declared.Step.{Step as StepAnswer}
-use Rattle.plan_file.specs.declared.Step.the-variants.{Gives, Refused, Ended}
 use Rattle.plan_file.specs.Records.{Record, ruleRecord, transitionRecord, finalRecord}
 use Rattle.plan_file.specs.Refusals.{Refusal, refuse}
-use Rattle.plan_file.specs.Reading.{Step, gives, refuses, ended}
 
 abbrev pub refusalOf : RefusalAnswer → Refusal
 refusalOf x = refuse (x .number) (x .place)
@@ -15,9 +12,3 @@ abbrev pub saidBy : RecordAnswer → Record
 saidBy (Rule r) = ruleRecord (r .head) (r .size) (r .first) (r .second)
 saidBy (Transition t) = transitionRecord (t .source) (t .letter) (t .target)
 saidBy (Final f) = finalRecord f
-
--- the cursor's place is that of the next record
-abbrev pub stepOf : StepAnswer → Step
-stepOf (Gives r c) = gives (saidBy r) (c .place)
-stepOf (Refused x) = refuses (refusalOf x)
-stepOf Ended = ended

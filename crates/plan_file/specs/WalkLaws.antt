@@ -2,12 +2,13 @@
 use mathlib.Core.Path.{_≡_, refl, sym, ap, ap₂, _∙_}
 use mathlib.Core.Bool.{Bool, true, false, not, cond}
 use mathlib.Core.List.{List}
-use Prim.Native.Nat.{ℕ, zero, suc, _+_, _-_, _%_, _≤_, _<_}
+use Prim.Native.Nat.{ℕ, zero, suc, _+_, _-_, _*_, _%_, _≤_, _<_}
 use native.Mathlib.Nat.{sub-zero, add-zero}
 use native.Mathlib.Numerals.{add-one}
 use native.Mathlib.Omega.{arith}
 use lib.Dec.{eqb, leb, ltb}
-use lib.ListN.{length}
+use lib.ListN.{length, take, length-take}
+use lib.Seq.{getD-take}
 use borrow.Author.Tests.{leb-true, leb-false, eqb-true, eq-eqb, ne-eqb, le-leb}
 use Rattle.plan_file.specs.Limits.{recordLimit}
 use Rattle.plan_file.specs.Records.{recordCount, recordAt, kindAt, ruleKind, transitionKind, countOf, Record, ruleRecord, transitionRecord, finalRecord, recordBy, recordOf}
@@ -25,6 +26,15 @@ module _ (bs : List ℕ) (k i : ℕ) where
   pub count-no : (kindAt bs i ≡ k → ⊥) → countOf bs k i ≡ countOf bs k (i + 1)
   unfolding countOf
   count-no e = rw (add-one i, ne-eqb (kindAt bs i) k e) (sym (add-zero (countOf bs k i)))
+
+-- the first i records, alone, count as they do in the file
+pub count-before : (bs : List ℕ) (k i : ℕ) → i ≤ recordCount bs → countOf (take (i * 8) bs) k (recordCount (take (i * 8) bs)) ≡ countOf bs k i
+unfolding countOf
+count-before bs k i h = let e : recordCount (take (i * 8) bs) ≡ i = simp (length-take) (omega arith) in ap (countOf (take (i * 8) bs) k) e ∙ up-to i (omega arith)
+  where
+    up-to : (j : ℕ) → j ≤ i → countOf (take (i * 8) bs) k j ≡ countOf bs k j
+    up-to zero l = refl
+    up-to (suc j) l = ap₂ (λ (a b : ℕ). a + cond (eqb b k) 1 0) (up-to j (omega arith)) (getD-take (i * 8) bs (j * 8) 0 (omega arith))
 
 -- they go by what the record says
 counts-next : (bs : List ℕ) (i : ℕ) → let r = recordOf (recordAt bs i) in

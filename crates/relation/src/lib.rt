@@ -1,5 +1,6 @@
 // Relations on the states of an automaton as one word: the pair (a, b) is bit a * 8 + b.
 ghost use mathlib.Core.Path.{_≡_};
+ghost use Prim.Native.Nat.{_<_};
 ghost use lib.Dec.{eqb};
 ghost use Rattle.relation.specs.Digits.{bit};
 ghost use Rattle.relation.specs.Relation.{states, identity, compose, contained, single, insert, pairs, rejects};
@@ -11,6 +12,9 @@ const STATES: u32 = 8;
 const COLUMN: u64 = 0x0101_0101_0101_0101;
 
 const ROW: u64 = 255;
+
+// A prime.
+const DIGESTS: u64 = 32749;
 
 pub struct Relation {
     pub bits: u64,
@@ -96,6 +100,13 @@ impl Relation {
         ensures { λ r. ⌜ r ≡ pairs states (value self) ⌝ }
     {
         u64::count_ones(self.bits)
+    }
+
+    // A small number of the relation: equal relations have the same, and others seldom do.
+    pub fn digest(self) -> usize
+        ensures { λ r. ⌜ r < 32749 ⌝ }
+    {
+        (self.bits % DIGESTS) as usize
     }
 
     // No pair (0, f) with f final; state f is final where bit f of the mask is set.

@@ -1,6 +1,6 @@
 // Prints the answer of a check as document 01, "The check program", has it: the lines that the check program writes.
-use bolfrega::Checked;
-use bolfrega::Writing;
+use checker::Checked;
+use checker::Writing;
 use libc::STDOUT_FILENO;
 use relation::Relation;
 use search::Answer;
@@ -63,7 +63,7 @@ fn print_front(buffer: &[u8], n: usize) {
 // Line 3: the run behind the row, or what refuses to write it.
 fn print_run(file: &[u8], journal: &[[u64; 8]], used: usize, row: usize) {
     let mut buffer = [0u8; RUN];
-    let writing = bolfrega::write(file, journal, used, row, &mut buffer);
+    let writing = checker::write(file, journal, used, row, &mut buffer);
     match writing {
         Writing::Refused(refusal) => print_refused(refusal.number),
         Writing::Length(n) => print_front(&buffer, n),
@@ -100,7 +100,7 @@ fn print_answer(file: &[u8], journal: &[[u64; 8]], answer: Answer) {
 
 // Checks the file over the journal with the budget, and prints what came.
 pub fn report(file: &[u8], journal: &mut [[u64; 8]], budget: u64) {
-    let checked = bolfrega::check(file, journal, budget);
+    let checked = checker::check(file, journal, budget);
     match checked {
         Checked::Refused(refusal) => print_refused(refusal.number),
         Checked::Answered(answer) => print_answer(file, journal, answer),

@@ -6,9 +6,9 @@ use native.Mathlib.Omega.{arith}
 use denote.Enum.Declared.{tagOf}
 use types.Run.{OneOf}
 use Rattle.search.specs.Remaining.{Ends}
-use Rattle.search.specs.declared.Outcome.the-variants.{Going, Spent, Full, Broken}
-use Rattle.search.specs.declared.Outcome.{Outcome}
-use Rattle.search.proofs.Outcome.{the-type}
+use Rattle.deciding.specs.declared.Outcome.the-variants.{Going, Spent, Full, Broken}
+use Rattle.deciding.specs.declared.Outcome.{Outcome}
+use Rattle.deciding.proofs.Outcome.{the-type}
 
 pub ends-of : (r : Outcome) → OneOf (1 ∷ 2 ∷ 3 ∷ []) (tagOf the-type r) → Ends r
 ends-of (Going w) (inl e) = absurd (omega arith)

@@ -8,14 +8,15 @@ use lib.ListN.{length}
 use borrow.Author.Tests.{eqb-false}
 use Rattle.working_order.specs.Journal.{absent}
 use Rattle.working_order.specs.Order.{Verdict, holds, broken, full, spent, answer, closeBy, close}
-use Rattle.search.specs.Base as order
-use Rattle.search.specs.Rows.{Raw, firstRows}
-use Rattle.search.specs.Meanings.{progressOf, outcomeOf, countsIn, totalsOf, endBy, endOf, answerBy, answerOf, totalsIn}
-use Rattle.search.specs.RowLaws.{rows-length}
+use Rattle.rows.specs.Base as order
+use Rattle.journal.specs.Rows.{Raw, firstRows}
+use Rattle.deciding.specs.Meanings.{progressOf, outcomeOf, countsIn}
+use Rattle.search.specs.Meanings.{totalsOf, endBy, endOf, answerBy, answerOf, totalsIn}
+use Rattle.journal.specs.RowLaws.{rows-length}
 use Rattle.search.specs.declared.Answer.{Answer}
-use Rattle.search.specs.declared.Counts.{Counts}
-use Rattle.search.specs.declared.Outcome.the-variants as outcome
-use Rattle.search.specs.declared.Outcome.{Outcome}
+use Rattle.deciding.specs.declared.Counts.{Counts}
+use Rattle.deciding.specs.declared.Outcome.the-variants as outcome
+use Rattle.deciding.specs.declared.Outcome.{Outcome}
 use Rattle.search.specs.declared.PassEnd.the-variants.{Again, Done}
 use Rattle.search.specs.declared.PassEnd.{PassEnd}
 

@@ -8,33 +8,12 @@ use Rattle.working_order.specs.Order.{check}
 use Rattle.calls.specs.Checking.{journalFault, keptBy}
 use Rattle.calls.specs.Replies.{Reply, refused, answered, unless}
 use Rattle.calls.specs.Rows.{rowOf, entryOf}
-use Rattle.search.specs.Base as order
-use Rattle.search.specs.Rows.{Raw, firstRows}
-use Rattle.search.specs.Meanings.{baseOf, outcomeOf, countsIn, answerOf, totalsIn, replyOf}
+use Rattle.rows.specs.Base as order
+use Rattle.rows.specs.Meanings.{baseOf}
+use Rattle.journal.specs.Rows.{Raw}
+use Rattle.search.specs.Meanings.{answerOf, totalsIn, replyOf}
 use Rattle.search.specs.declared.Answer.{Answer}
-use Rattle.search.specs.declared.Counts.{Counts}
-use Rattle.search.specs.declared.Outcome.{Outcome}
 use Rattle.search.specs.declared.Searched.{Searched}
-use Rattle.search.specs.declared.Terms.{Terms}
-
--- the first u rows are these, and the others as they were
-pub record Stored (u : ℕ) (rows : List order.Row) (old new : Raw) : Type 0 where
-  pub front : firstRows u new ≡ rows
-  pub beyond : drop u new ≡ drop u old
-
--- where a part of a pass may begin
-pub record Ready (t : Terms) (w : Counts) (j : Raw) : Type 0 where
-  pub room : w .used ≤ length j
-  pub paid : w .joins ≤ t .budget
-  pub begun : t .start ≤ w .used
-
--- a part of a pass that began at w gave r: it is what the working order gives, and the rows beyond those used are as they were
-pub record Answers (B : ℕ) (given : order.Outcome) (w : Counts) (old new : Raw) (r : Outcome) : Type 0 where
-  pub answer : outcomeOf r new ≡ given
-  pub beyond : drop (countsIn r .used) new ≡ drop (countsIn r .used) old
-  pub grows : w .used ≤ countsIn r .used
-  pub room : countsIn r .used ≤ length old
-  pub paid : countsIn r .joins ≤ B
 
 -- the passes gave r
 pub record Checked (given : order.Answer) (old new : Raw) (r : Answer) : Type 0 where

@@ -13,8 +13,8 @@ use Rattle.language.specs.WordRelation.{letterRelation, isFinal}
 use Rattle.working_order.specs.Order.{check}
 use Rattle.calls.specs.Base.{baseBy, base}
 use Rattle.calls.specs.Rows.{entryOf}
-use Rattle.search.specs.Rows.{Raw}
-use Rattle.search.specs.Meanings.{letterIn}
+use Rattle.journal.specs.Rows.{Raw}
+use Rattle.rows.specs.Meanings.{letterIn}
 use Rattle.search.specs.Contracts.{orderOf}
 
 pub order-on : (A : Automaton) (letters : List ℕ) (rules : Raw) (finals J B : ℕ) → ((c : ℕ) → value (letterIn letters c) ≡ letterRelation states (A .transitions) c)

@@ -8,23 +8,27 @@ use lib.Arith.{lt-of-le-ne}
 use lib.ListN.{length, drop}
 use Rattle.basics.specs.Lists.{drop-later-same}
 use Rattle.working_order.specs.Candidates.{passCandidates}
-use Rattle.working_order.specs.Order.{going, close, onePass, passes, check}
+use Rattle.working_order.specs.Order.{close, onePass, passes, check}
 use Rattle.calls.specs.Rows.{entryOf}
-use Rattle.search.specs.Base as order
-use Rattle.search.specs.Rows.{Raw, firstRows}
-use Rattle.search.specs.Meanings.{formsOf, baseOf, progressOf, countsIn, endOf, totalsIn}
-use Rattle.search.specs.Walks.{asOf, walkIn, fromRule}
-use Rattle.search.specs.Contracts.{Answers, Checked, orderOf}
-use Rattle.search.specs.RowLaws.{rows-length}
-use Rattle.search.specs.Old.{Old, old-asOf, old-walk}
+use Rattle.rows.specs.Base as order
+use Rattle.journal.specs.Rows.{Raw, firstRows}
+use Rattle.rows.specs.Meanings.{formsOf, baseOf}
+use Rattle.deciding.specs.Meanings.{progressOf, countsIn}
+use Rattle.search.specs.Meanings.{endOf, totalsIn}
+use Rattle.deciding.specs.Walks.{walkIn}
+use Rattle.search.specs.Walks.{passIn}
+use Rattle.deciding.specs.Contracts.{Answers}
+use Rattle.search.specs.Contracts.{Checked, orderOf}
+use Rattle.journal.specs.Covers.{Covering}
+use Rattle.journal.specs.RowLaws.{rows-length}
 use Rattle.search.specs.Closing.{endAnswer, endUsed, close-end, close-used, again-going}
 use Rattle.search.specs.declared.Answer.{Answer}
-use Rattle.search.specs.declared.Counts.{Counts}
-use Rattle.search.specs.declared.Outcome.the-variants as outcome
-use Rattle.search.specs.declared.Outcome.{Outcome}
+use Rattle.deciding.specs.declared.Counts.{Counts}
+use Rattle.deciding.specs.declared.Outcome.the-variants as outcome
+use Rattle.deciding.specs.declared.Outcome.{Outcome}
 use Rattle.search.specs.declared.PassEnd.the-variants.{Again, Done}
 use Rattle.search.specs.declared.PassEnd.{PassEnd}
-use Rattle.search.specs.declared.Terms.{Terms}
+use Rattle.deciding.specs.declared.Terms.{Terms}
 
 module _ (letters : List ℕ) (rules : List (List ℕ)) (finals B : ℕ) where
   -- passes from one on, where f bounds their number
@@ -38,7 +42,6 @@ module _ (letters : List ℕ) (rules : List (List ℕ)) (finals B : ℕ) where
     pub beyond : drop (w .used) j ≡ drop (w .used) j₀
     pub room : w .used ≤ length j₀
     pub paid : w .joins ≤ B
-    pub old : Old k (firstRows (w .used) j)
     pub first : 1 ≤ k
     pub count : k ≤ w .used + 1
 
@@ -51,7 +54,6 @@ module _ (letters : List ℕ) (rules : List (List ℕ)) (finals B : ℕ) where
         beyond = refl;
         room = omega arith;
         paid = omega arith;
-        old = tt;
         first = omega arith;
         count = omega arith;
       }
@@ -61,20 +63,14 @@ module _ {letters : List ℕ} {rules : List (List ℕ)} {finals B : ℕ} {target
   terms = record { budget = B; finals = finals; pass = k; start = w .used }
 
   abbrev res : order.Outcome
-  res = fromRule terms (length j) letters (asOf terms (firstRows (w .used) j)) rules 0 (progressOf w j)
+  res = passIn terms letters rules w j
 
   hu : w .used ≤ length j
   hu = subst (λ (n : ℕ). w .used ≤ n) (sym (a .same)) (a .room)
 
   pass-eq : res ≡ onePass (baseOf letters finals) (map entryOf rules) (length j₀) B k (progressOf w j)
-  unfolding fromRule onePass
-  pass-eq =
-      ap₂ (λ (n : ℕ) (A : List order.Row). walkIn terms n (passCandidates (formsOf letters) A 0 (map entryOf rules)) (progressOf w j))
-      (a .same) (old-asOf terms (firstRows (w .used) j) (sym (rows-length (w .used) j hu)) (a .old))
-
-  old-res : (s′ : order.Progress) → going s′ ≡ res → Old (suc k) (s′ .rows)
-  unfolding fromRule
-  old-res s′ e = old-walk terms (length j) (passCandidates (formsOf letters) (asOf terms (firstRows (w .used) j)) 0 (map entryOf rules)) (progressOf w j) s′ e (a .old)
+  unfolding onePass
+  pass-eq = ap (λ (n : ℕ). walkIn terms n (passCandidates (formsOf letters) (firstRows (w .used) j) 0 (map entryOf rules)) (progressOf w j)) (a .same)
 
   module _ {j′ : Raw} (s : length j′ ≡ length j) {r : Outcome} (x : Answers B res w j j′ r) where
     N : order.Progress → order.Answer
@@ -107,6 +103,9 @@ module _ {letters : List ℕ} {rules : List (List ℕ)} {finals B : ℕ} {target
       abbrev xg : Answers B res w j j′ (outcome.Going w′)
       xg = subst (λ (z : Outcome). Answers B res w j j′ z) went x
 
+      pub pass-covered : {covers : List ℕ} → Covering (firstRows (countsIn r .used) j′) covers → Covering (firstRows (w′ .used) j′) covers
+      pass-covered {covers} h = subst (λ (z : Outcome). Covering (firstRows (countsIn z .used) j′) covers) went h
+
       pub pass-grew : w .used < w′ .used
       pass-grew = lt-of-le-ne (xg .grows) (λ p. again-going (w .used) k r w′ e .1 (sym p))
 
@@ -124,7 +123,6 @@ module _ {letters : List ℕ} {rules : List (List ℕ)} {finals B : ℕ} {target
             beyond = xg .beyond ∙ drop-later-same (w .used) (w′ .used) j j₀ (xg .grows) (a .beyond);
             room = pass-room;
             paid = xg .paid;
-            old = subst (λ (m : ℕ). Old m (firstRows (w′ .used) j′)) (sym (add-one k)) (old-res (progressOf w′ j′) (xg .answer));
             first = omega arith;
             count = omega (arith, pass-grew, a .count);
           }

@@ -5,13 +5,13 @@ use native.Mathlib.Nat.{le-refl, le-trans}
 use lib.ListN.{length, drop}
 use Rattle.basics.specs.Lists.{drop-later-same}
 use Rattle.working_order.specs.Order.{going, andThen}
-use Rattle.search.specs.Base as order
-use Rattle.search.specs.Rows.{Raw}
-use Rattle.search.specs.Meanings.{progressOf, outcomeOf, countsIn}
-use Rattle.search.specs.Contracts.{Answers}
-use Rattle.search.specs.declared.Counts.{Counts}
-use Rattle.search.specs.declared.Outcome.the-variants.{Going}
-use Rattle.search.specs.declared.Outcome.{Outcome}
+use Rattle.rows.specs.Base as order
+use Rattle.journal.specs.Rows.{Raw}
+use Rattle.deciding.specs.Meanings.{progressOf, outcomeOf, countsIn}
+use Rattle.deciding.specs.Contracts.{Answers}
+use Rattle.deciding.specs.declared.Counts.{Counts}
+use Rattle.deciding.specs.declared.Outcome.the-variants.{Going}
+use Rattle.deciding.specs.declared.Outcome.{Outcome}
 
 -- the loop began at w₀ and j₀, and stands at w and j; what is left gives rest, which is the target
 pub record Remaining (B : ℕ) (target rest : order.Outcome) (w₀ : Counts) (j₀ : Raw) (w : Counts) (j : Raw) : Type 0 where

@@ -12,8 +12,8 @@ use Rattle.plan_file.specs.Refusals.{refuse}
 use Rattle.calls.specs.Checking.{journalLimit, journalFault}
 use Rattle.calls.specs.Replies.{answered, unless}
 use Rattle.calls.specs.Rows.{rowOf}
-use Rattle.search.specs.Base as order
-use Rattle.search.specs.Rows.{Raw, firstRows}
+use Rattle.rows.specs.Base as order
+use Rattle.journal.specs.Rows.{Raw, firstRows}
 use Rattle.search.specs.Meanings.{answerOf, totalsIn}
 use Rattle.search.specs.Contracts.{Checked, orderOf, searchOf, Searches}
 use Rattle.search.specs.declared.Answer.the-variants.{Holds, Broken, Full, Spent}

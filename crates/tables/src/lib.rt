@@ -51,7 +51,7 @@ fn read_transition(file: &[u8], i: usize, table: &mut [u64; 128])
     if !of_kind(file, i, TRANSITION_KIND) {
         return;
     }
-    let t = plan_file::transition_at(file, i);
+    let t = views::transition_at(file, i);
     let letter = t.letter;
     if TERMINALS <= letter {
         return;
@@ -97,7 +97,7 @@ fn read_final(file: &[u8], i: usize, mask: u8) -> u8
     if !of_kind(file, i, FINAL_KIND) {
         return mask;
     }
-    with_state(mask, plan_file::final_at(file, i))
+    with_state(mask, views::final_at(file, i))
 }
 
 // Bit f is set where state f is final.
@@ -116,23 +116,17 @@ pub fn final_states(file: &[u8]) -> u8
 
 // ---- the rules
 
-fn wide(x: u8) -> u64
-    ensures { λ r. ⌜ r ≡ x ⌝ }
-{
-    x as u64
-}
-
 // Head, body length, first and second symbol of record i, read as a rule.
-fn row_at(file: &[u8], i: usize) -> [u64; 4]
+fn row_at(file: &[u8], i: usize) -> [u8; 4]
     requires { ⌜ i < recordCount (now file) ⌝ }
     ensures { λ r. ⌜ r ≡ rowIn (recordAt (now (file .entry)) i) ⌝ }
 {
-    let r = plan_file::rule_at(file, i);
-    [wide(r.head), wide(r.size), wide(r.first), wide(r.second)]
+    let r = views::rule_at(file, i);
+    [r.head, r.size, r.first, r.second]
 }
 
 // Takes record i in after n rows, where it is a rule and fewer than the limit are written; gives the count of rows then.
-fn read_rule(file: &[u8], i: usize, rows: &mut [[u64; 4]], n: usize) -> usize
+fn read_rule(file: &[u8], i: usize, rows: &mut [[u8; 4]], n: usize) -> usize
     requires { ⌜ (i < recordCount (now file)) × (ruleLimit ≤ length (now rows)) ⌝ }
     ensures { λ r. ⌜ rowsIn (now (rows .exit)) r ≡ cond (eqb (kindAt (now (file .entry)) i) ruleKind) (withRow (rowsIn (now (rows .entry)) n) (rowIn (recordAt (now (file .entry)) i))) (rowsIn (now (rows .entry)) n) ⌝ }
 {
@@ -147,7 +141,7 @@ fn read_rule(file: &[u8], i: usize, rows: &mut [[u64; 4]], n: usize) -> usize
 }
 
 // The first rules up to the limit, in file order; gives their count.
-fn read_rules(file: &[u8], rows: &mut [[u64; 4]]) -> usize
+fn read_rules(file: &[u8], rows: &mut [[u8; 4]]) -> usize
     requires { ⌜ ruleLimit ≤ length (now rows) ⌝ }
     ensures { λ n. ⌜ rowsIn (now (rows .exit)) n ≡ written (now (rows .entry)) (rowsOf (now (file .entry))) ⌝ }
 {
@@ -162,7 +156,7 @@ fn read_rules(file: &[u8], rows: &mut [[u64; 4]]) -> usize
 }
 
 // The first 256 rules in file order, each as a row of head, body length, first and second symbol; gives their count.
-pub fn rule_table(file: &[u8], table: &mut [[u64; 4]; 256]) -> usize
+pub fn rule_table(file: &[u8], table: &mut [[u8; 4]; 256]) -> usize
     ensures { λ n. ⌜ RuleTable (now (file .entry)) (now (table .entry)) (now (table .exit)) n ⌝ }
 {
     read_rules(file, table)

@@ -20,7 +20,7 @@ use Rattle.calls.specs.Writing.{longWord, rowFault, roomFault, writtenBy}
 use Rattle.plan_file.specs.Refusals.{refuse}
 use Rattle.witness.specs.declared.Part.the-variants.{Older}
 use Rattle.witness.specs.declared.Written.the-variants.{Word, Refused}
-use Rattle.witness.specs.Forms.{noForms}
+use Rattle.fitting.specs.Forms.{noForms}
 use Rattle.witness.specs.Parts.{Ready, Wrote}
 use Rattle.witness.specs.Writes.{tooLong, firstOf, writeFault, writeBy, Writes}
 use Rattle.witness.specs.FittingLaws.{FitThrough, fit-through}

@@ -18,7 +18,7 @@ use Rattle.witness.specs.declared.Part.{Part}
 use Rattle.witness.specs.declared.Part.the-variants.{Terminal, Older}
 use Rattle.witness.specs.declared.Parts.{Parts}
 use Rattle.witness.specs.declared.Parts.the-variants.{Nothing, One, Two}
-use Rattle.witness.specs.Forms.{noForms}
+use Rattle.fitting.specs.Forms.{noForms}
 use Rattle.witness.specs.Parts.{partOf, bodyParts, partsOf, partWord, partsWord, PartFits, Ready}
 use Rattle.witness.specs.FittingLaws.{FitThrough, PointersFit, lower, bodyAt, fitting}
 use Rattle.witness.specs.BehindLaws.{behind-body, len-behind}

@@ -1,18 +1,17 @@
 -- The definitions on decoded rows and rules, read off the rows of numbers. Assumes nothing.
 use mathlib.Core.Path.{_≡_, sym, ap, ap₂, _∙_, subst}
-use mathlib.Core.Bool.{Bool, true, false, _&&_, cond}
+use mathlib.Core.Bool.{Bool, true, false, cond}
 use mathlib.Core.List.{List, [], map}
-use Prim.Native.Nat.{ℕ, _+_, _<_}
-use lib.Dec.{eqb, ltb}
+use Prim.Native.Nat.{ℕ, _<_}
+use lib.Dec.{eqb}
 use lib.ListN.{length, getD, length-map, List·getD-map}
 use borrow.Author.Tests.{eq-eqb, ne-eqb}
 use Rattle.language.specs.Grammar.{Rule, noRule}
-use Rattle.plan_file.specs.Views.{symbolOf, bodyBy, bodyOf}
-use Rattle.working_order.specs.Journal.{Row, absent, capped}
-use Rattle.working_order.specs.Fitting.{pointerFits, symbolLen, bodyFits, rowFits}
+use Rattle.working_order.specs.Journal.{Row}
+use Rattle.working_order.specs.Fitting.{rowFits}
 use Rattle.witness.specs.declared.Parts.the-variants.{Nothing}
 use Rattle.calls.specs.Rows.{rowOf, entryOf}
-use Rattle.witness.specs.Forms.{noForms}
+use Rattle.fitting.specs.Forms.{noForms}
 use Rattle.witness.specs.Parts.{bodyParts, partsOf}
 use Rattle.witness.specs.FittingLaws.{fitting}
 
@@ -34,31 +33,9 @@ module _ (rules J : List (List ℕ)) (i : ℕ) where
   pub parts-some : (getD (getD J i []) 5 0 ≡ 0 → ⊥) → bodyParts (entryOf (getD rules (getD (getD J i []) 1 0) []) .body) (getD (getD J i []) 3 0) (getD (getD J i []) 4 0) ≡ partsOf (map entryOf rules) (map rowOf J) i
   parts-some e = parts-by false (ne-eqb (at J i 5) 0 e)
 
-  pub fits-at : rowFits noForms (map rowOf J) (map entryOf rules) i
-      ≡ ((ltb (at J i 1) (length rules) && eqb (at rules (at J i 1) 0) (at J i 0)) && bodyFits noForms (map rowOf J) i (entryOf (getD rules (at J i 1) []) .body) (at J i 3) (at J i 4) (at J i 5))
-  unfolding rowFits
-  fits-at =
-      ap (λ (r : Row ℕ). (ltb (r .rule) (length (map entryOf rules)) && eqb (getD (map entryOf rules) (r .rule) noRule .head) (r .head)) && bodyFits noForms (map rowOf J) i (getD (map entryOf rules) (r .rule) noRule .body) (r .left) (r .right) (r .len)) (List·getD-map rowOf J i [])
-      ∙ ap₂ (λ (n : ℕ) (x : Rule). (ltb (at J i 1) n && eqb (x .head) (at J i 0)) && bodyFits noForms (map rowOf J) i (x .body) (at J i 3) (at J i 4) (at J i 5)) (length-map rules entryOf) (List·getD-map entryOf rules (at J i 1) [])
-
   -- the rule of a row that fits is there
   pub inside-at : i < length (map rowOf J) → rowFits noForms (map rowOf J) (map entryOf rules) i ≡ true → (i < length J) × (getD (getD J i []) 1 0 < length rules)
   inside-at k f = (
     subst (λ (n : ℕ). i < n) (length-map J rowOf) k,
     subst (λ (n : ℕ). at J i 1 < n) (length-map rules entryOf) (subst (λ (r : Row ℕ). r .rule < length (map entryOf rules)) (List·getD-map rowOf J i []) (fitting noForms (map rowOf J) (map entryOf rules) i f .inside)),
   )
-
--- a body of one symbol, and of two, where the tests and lengths of its symbols are at hand
-module _ (rows : List (Row ℕ)) (i n a b l r k : ℕ) (f : Bool) (x : ℕ) (p : f ≡ pointerFits noForms rows i (symbolOf a) l) (q : x ≡ symbolLen noForms rows (symbolOf a) l) (z : n ≡ 0 → ⊥) where
-  pub fits-one : n ≡ 1 → ((f && eqb r absent) && eqb k x) ≡ bodyFits noForms rows i (bodyOf n a b) l r k
-  unfolding bodyFits
-  fits-one o =
-      ap₂ (λ (f : Bool) (x : ℕ). (f && eqb r absent) && eqb k x) p q
-      ∙ sym (ap₂ (λ (x y : Bool). bodyFits noForms rows i (bodyBy x y a b) l r k) (ne-eqb n 0 z) (eq-eqb n 1 o))
-
-  pub fits-two : (g : Bool) (y m : ℕ) → g ≡ pointerFits noForms rows i (symbolOf b) r → y ≡ symbolLen noForms rows (symbolOf b) r → m ≡ capped (x + y) → (n ≡ 1 → ⊥)
-      → ((f && g) && eqb k m) ≡ bodyFits noForms rows i (bodyOf n a b) l r k
-  unfolding bodyFits
-  fits-two g y m p′ q′ e o =
-      ap₂ (λ (t : Bool) (m : ℕ). t && eqb k m) (ap₂ (λ (f g : Bool). f && g) p p′) (e ∙ ap₂ (λ (x y : ℕ). capped (x + y)) q q′)
-      ∙ sym (ap₂ (λ (x y : Bool). bodyFits noForms rows i (bodyBy x y a b) l r k) (ne-eqb n 0 z) (ne-eqb n 1 o))

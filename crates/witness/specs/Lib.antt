@@ -1,4 +1,3 @@
-pub mod Forms
 pub mod Parts
 pub mod Writes
 pub mod FittingLaws

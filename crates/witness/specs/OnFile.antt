@@ -17,7 +17,7 @@ use Rattle.calls.specs.Checking.{journalFault}
 use Rattle.calls.specs.Replies.{Reply, refused, answered, unless, unlessBy}
 use Rattle.calls.specs.Writing.{rowFault, roomFault, wordOf, writeOf, writtenBy, bufferAfter}
 use Rattle.witness.specs.declared.Written.{Written}
-use Rattle.witness.specs.Forms.{noForms}
+use Rattle.fitting.specs.Forms.{noForms}
 use Rattle.witness.specs.FittingLaws.{fit-same}
 use Rattle.witness.specs.Writes.{firstOf, writeFault, writeBy, replyOf, Writes}
 

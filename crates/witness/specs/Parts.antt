@@ -15,7 +15,7 @@ use Rattle.witness.specs.declared.Part.{Part}
 use Rattle.witness.specs.declared.Part.the-variants.{Terminal, Older}
 use Rattle.witness.specs.declared.Parts.{Parts}
 use Rattle.witness.specs.declared.Parts.the-variants.{Nothing, One, Two}
-use Rattle.witness.specs.Forms.{noForms}
+use Rattle.fitting.specs.Forms.{noForms}
 
 -- a symbol and its pointer
 abbrev pub partOf : Symbol → ℕ → Part

@@ -16,7 +16,7 @@ use Rattle.calls.specs.Replies.{Reply, refused, answered, unless}
 use Rattle.calls.specs.Writing.{longWord, rowFault, roomFault, writtenBy}
 use Rattle.witness.specs.declared.Written.{Written}
 use Rattle.witness.specs.declared.Written.the-variants.{Word, Refused}
-use Rattle.witness.specs.Forms.{noForms}
+use Rattle.fitting.specs.Forms.{noForms}
 
 -- 10 refuses a word of n steps
 abbrev pub tooLong : ℕ → ℕ → Bool

@@ -4,12 +4,10 @@ ghost use Prim.Native.Nat.{_+_, _<_};
 ghost use mathlib.Core.List.{[], map};
 ghost use lib.ListN.{length, getD};
 ghost use Rattle.plan_file.specs.Views.{symbolOf};
-ghost use Rattle.working_order.specs.Journal.{capped};
-ghost use Rattle.working_order.specs.Fitting.{pointerFits, symbolLen, bodyFits, rowFits, rowsFit};
 ghost use Rattle.calls.specs.Checking.{journalFault};
 ghost use Rattle.calls.specs.Writing.{rowFault};
 ghost use Rattle.calls.specs.Rows.{rowOf, entryOf};
-ghost use Rattle.witness.specs.Forms.{noForms};
+ghost use Rattle.fitting.specs.Forms.{noForms};
 ghost use Rattle.witness.specs.Parts.{partOf, bodyParts, partsOf, partWord, Ready, Wrote};
 ghost use Rattle.witness.specs.Writes.{tooLong, writeFault, Writes};
 
@@ -30,16 +28,16 @@ enum Parts {
     Two(Part, Part),
 }
 
-fn symbol_part(symbol: u64, pointer: u64) -> Part
+fn symbol_part(symbol: u8, pointer: u64) -> Part
     ensures { λ r. ⌜ r ≡ partOf (symbolOf symbol) pointer ⌝ }
 {
     if symbol < 128 {
-        return Part::Terminal(symbol as u8);
+        return Part::Terminal(symbol);
     }
     Part::Older(pointer as usize)
 }
 
-fn body_parts(rule: [u64; 4], left: u64, right: u64) -> Parts
+fn body_parts(rule: [u8; 4], left: u64, right: u64) -> Parts
     ensures { λ r. ⌜ r ≡ bodyParts (entryOf rule .body) left right ⌝ }
 {
     let symbols = rule[1];
@@ -51,7 +49,7 @@ fn body_parts(rule: [u64; 4], left: u64, right: u64) -> Parts
 }
 
 // A row of length 0 hands over to nothing, however many rules stand behind it.
-fn row_parts(journal: &[[u64; 8]], rules: &[[u64; 4]], row: usize) -> Parts
+fn row_parts(journal: &[[u64; 8]], rules: &[[u8; 4]], row: usize) -> Parts
     requires { ⌜ (row < length (now journal)) × (getD (getD (now journal) row []) 1 0 < length (now rules)) ⌝ }
     ensures { λ r. ⌜ r ≡ partsOf (map entryOf (now (rules .entry))) (map rowOf (now (journal .entry))) row ⌝ }
 {
@@ -67,7 +65,7 @@ fn row_parts(journal: &[[u64; 8]], rules: &[[u64; 4]], row: usize) -> Parts
 // ---- writing
 
 // Writes the word behind a row: the first symbol's, and the second's into what remains of the buffer.
-fn write_row(journal: &[[u64; 8]], rules: &[[u64; 4]], row: usize, buffer: &mut [u8]) -> usize
+fn write_row(journal: &[[u64; 8]], rules: &[[u8; 4]], row: usize, buffer: &mut [u8]) -> usize
     requires { ⌜ Ready (map entryOf (now rules)) (map rowOf (now journal)) (Part.Older row) (length (now buffer)) ⌝ }
     ensures { λ n. ⌜ Wrote (partWord (map entryOf (now (rules .entry))) (map rowOf (now (journal .entry))) (Part.Older row)) (now (buffer .entry)) (now (buffer .exit)) n ⌝ }
 {
@@ -84,7 +82,7 @@ fn write_row(journal: &[[u64; 8]], rules: &[[u64; 4]], row: usize, buffer: &mut 
 }
 
 // Writes a symbol: a terminal as itself, a nonterminal as the word behind the older row.
-fn write_symbol(journal: &[[u64; 8]], rules: &[[u64; 4]], x: Part, buffer: &mut [u8]) -> usize
+fn write_symbol(journal: &[[u64; 8]], rules: &[[u8; 4]], x: Part, buffer: &mut [u8]) -> usize
     requires { ⌜ Ready (map entryOf (now rules)) (map rowOf (now journal)) x (length (now buffer)) ⌝ }
     ensures { λ n. ⌜ Wrote (partWord (map entryOf (now (rules .entry))) (map rowOf (now (journal .entry))) x) (now (buffer .entry)) (now (buffer .exit)) n ⌝ }
 {
@@ -95,107 +93,6 @@ fn write_symbol(journal: &[[u64; 8]], rules: &[[u64; 4]], x: Part, buffer: &mut 
         }
         Part::Older(i) => write_row(journal, rules, i, buffer),
     }
-}
-
-// ---- rows that fit
-
-// The sum, where 65,535 means that or more.
-fn capped_sum(a: u64, b: u64) -> u64
-    ensures { λ r. ⌜ r ≡ capped (a + b) ⌝ }
-{
-    if a < 65535 {
-        if b < 65535 - a {
-            return a + b;
-        }
-    }
-    65535
-}
-
-// The pointer of a symbol in row i: a lower row of its nonterminal, or 65,535 at a terminal.
-fn pointer_fits(journal: &[[u64; 8]], i: usize, symbol: u64, pointer: u64) -> bool
-    requires { ⌜ i < length (now journal) ⌝ }
-    ensures { λ r. ⌜ r ≡ pointerFits noForms (map rowOf (now (journal .entry))) i (symbolOf symbol) pointer ⌝ }
-{
-    if symbol < 128 {
-        return pointer == 65535;
-    }
-    let p = pointer as usize;
-    if p < i {
-        let row = journal[p];
-        return row[0] == symbol - 128;
-    }
-    false
-}
-
-// The length of a symbol: of a nonterminal the length in the row that it points to.
-fn symbol_length(journal: &[[u64; 8]], symbol: u64, pointer: u64) -> u64
-    ensures { λ r. ⌜ r ≡ symbolLen noForms (map rowOf (now (journal .entry))) (symbolOf symbol) pointer ⌝ }
-{
-    if symbol < 128 {
-        return 1;
-    }
-    let p = pointer as usize;
-    if p < journal.len() {
-        let row = journal[p];
-        return row[5];
-    }
-    0
-}
-
-// The pointers and the length of row i fit its rule's body.
-fn body_fits(
-    journal: &[[u64; 8]],
-    i: usize,
-    rule: [u64; 4],
-    left: u64,
-    right: u64,
-    len: u64,
-) -> bool
-    requires { ⌜ i < length (now journal) ⌝ }
-    ensures { λ r. ⌜ r ≡ bodyFits noForms (map rowOf (now (journal .entry))) i (entryOf rule .body) left right len ⌝ }
-{
-    let symbols = rule[1];
-    if symbols == 0 {
-        return ((left == 65535) & (right == 65535)) & (len == 0);
-    }
-    let a = rule[2];
-    let first = pointer_fits(journal, i, a, left);
-    let n = symbol_length(journal, a, left);
-    if symbols == 1 {
-        return (first & (right == 65535)) & (len == n);
-    }
-    let b = rule[3];
-    let second = pointer_fits(journal, i, b, right);
-    let m = symbol_length(journal, b, right);
-    (first & second) & (len == capped_sum(n, m))
-}
-
-// Row i fits the rules.
-fn row_fits(journal: &[[u64; 8]], rules: &[[u64; 4]], i: usize) -> bool
-    requires { ⌜ i < length (now journal) ⌝ }
-    ensures { λ r. ⌜ r ≡ rowFits noForms (map rowOf (now (journal .entry))) (map entryOf (now (rules .entry))) i ⌝ }
-{
-    let row = journal[i];
-    let k = row[1] as usize;
-    if k < rules.len() {
-        let rule = rules[k];
-        return (rule[0] == row[0]) & body_fits(journal, i, rule, row[3], row[4], row[5]);
-    }
-    false
-}
-
-// The rows 0 through i fit the rules.
-fn rows_fit(journal: &[[u64; 8]], rules: &[[u64; 4]], i: usize) -> bool
-    requires { ⌜ i < length (now journal) ⌝ }
-    ensures { λ r. ⌜ r ≡ rowsFit noForms (map rowOf (now (journal .entry))) (map entryOf (now (rules .entry))) (i + 1) ⌝ }
-{
-    let mut fit = true;
-    let mut j: usize = 0;
-    while j <= i {
-        fit = fit & row_fits(journal, rules, j);
-        j += 1;
-    }
-    fit
 }
 
 // ---- refusals
@@ -211,7 +108,7 @@ fn journal_fault(rows: usize) -> u64
 }
 
 // 9: the row is not below the used count, or that count exceeds the journal, or some row from 0 through it does not fit.
-fn row_fault(journal: &[[u64; 8]], rules: &[[u64; 4]], used: usize, row: usize) -> u64
+fn row_fault(journal: &[[u64; 8]], rules: &[[u8; 4]], used: usize, row: usize) -> u64
     ensures { λ r. ⌜ r ≡ rowFault noForms (map entryOf (now (rules .entry))) (map rowOf (now (journal .entry))) used row ⌝ }
 {
     if used <= row {
@@ -220,7 +117,7 @@ fn row_fault(journal: &[[u64; 8]], rules: &[[u64; 4]], used: usize, row: usize) 
     if journal.len() < used {
         return 9;
     }
-    if rows_fit(journal, rules, row) {
+    if fitting::rows_fit(journal, rules, row) {
         return 0;
     }
     9
@@ -234,13 +131,7 @@ fn too_long(n: u64, room: usize) -> bool
 }
 
 // The first of 8, 9 and 10 that refuses, or 0.
-fn write_fault(
-    journal: &[[u64; 8]],
-    rules: &[[u64; 4]],
-    used: usize,
-    row: usize,
-    room: usize,
-) -> u64
+fn write_fault(journal: &[[u64; 8]], rules: &[[u8; 4]], used: usize, row: usize, room: usize) -> u64
     ensures { λ r. ⌜ r ≡ writeFault (map entryOf (now (rules .entry))) (map rowOf (now (journal .entry))) used row room ⌝ }
 {
     let eight = journal_fault(journal.len());
@@ -269,7 +160,7 @@ pub enum Written {
 // Writes the word behind a row of the journal, of which so many rows are used, or refuses and leaves the buffer as it is.
 pub fn write_word(
     journal: &[[u64; 8]],
-    rules: &[[u64; 4]],
+    rules: &[[u8; 4]],
     used: usize,
     row: usize,
     buffer: &mut [u8],

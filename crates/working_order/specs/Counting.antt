@@ -7,13 +7,13 @@ use native.Mathlib.Nat.{le-refl, le-trans, le-of-eq, le-suc, suc-mul, mul-le-mul
 use native.Mathlib.Omega.{arith}
 use lib.Dec.{eqb}
 use lib.ListN.{length, length-append, length-map}
-use borrow.Author.Tests.{eqb-true, eqb-false}
+use borrow.Author.Tests.{eqb-false}
 use Rattle.basics.specs.Lists.{concatMap, length-concatMap}
 use Rattle.language.specs.Grammar.{Symbol, terminal, nonterminal, Body, empty, one, two, Rule}
 use Rattle.working_order.specs.Algebra.{Algebra}
 use Rattle.working_order.specs.Candidates.{Choice, Candidate, liveRows, sole, paired, choices, bodyCandidates, passCandidates}
-use Rattle.working_order.specs.Journal.{Row, absent, capped, liveOf}
-use Rattle.working_order.specs.Order.{Progress, start, Verdict, holds, broken, full, spent, Outcome, going, stopped, Answer, andThen, answer, added, consider, walk, closeBy, close, onePass, passes, check}
+use Rattle.working_order.specs.Journal.{Row, absent, liveOf}
+use Rattle.working_order.specs.Order.{Progress, start, Verdict, holds, broken, full, spent, Outcome, going, stopped, Answer, answer, closeBy, close, onePass, passes, check}
 use Rattle.working_order.specs.Truth.{length-added}
 use Rattle.working_order.specs.Walking.{Post}
 use Rattle.working_order.specs.Halting.{Went, Halt, Begun, Stops, walk-went}

@@ -7,9 +7,9 @@ use Prim.Native.Nat.{ℕ, _+_}
 use lib.Dec.{eqb}
 use Rattle.language.specs.Grammar.{terminal, nonterminal, one, two, Rule}
 use Rattle.working_order.specs.Algebra.{Algebra}
-use Rattle.working_order.specs.Journal.{absent, capped, live, liveOf}
+use Rattle.working_order.specs.Journal.{capped, live, liveOf}
 use Rattle.working_order.specs.Candidates.{liveRows, sole, paired, bare, choices, bodyCandidates, passCandidates}
-use Rattle.working_order.specs.Order.{Verdict, holds, Answer, born, answer, dropped, larger, retire, added, decide, consider, walk, onePass, passes, check}
+use Rattle.working_order.specs.Order.{Verdict, holds, born, answer, dropped, larger, retire, added, decide, consider, walk, onePass, passes, check}
 
 abbrev pub toy : Algebra ℕ
 toy = record { forms = record { ofEmpty = 0; ofTerminal = λ c. c; ofPair = λ x y. (x + y) ∷ [] }; below = eqb; breaks = λ x e. false }

@@ -1,18 +1,17 @@
 -- Where a walk through candidates stops, and how far it has come: each candidate formed is one join. Assumes nothing.
-use mathlib.Core.Path.{_≡_, refl, sym, ap, _∙_, subst}
-use mathlib.Core.Bool.{Bool, true, false}
+use mathlib.Core.Path.{_≡_, refl, ap, _∙_}
+use mathlib.Core.Bool.{true, false}
 use mathlib.Core.List.{List, [], _∷_, _++_}
 use Prim.Native.Nat.{ℕ, zero, suc, _+_, _≤_}
 use native.Mathlib.Nat.{le-refl}
 use native.Mathlib.Omega.{arith}
-use lib.Dec.{eqb}
 use lib.ListN.{length}
 use borrow.Author.Tests.{eqb-true, eqb-false}
 use Rattle.language.specs.Grammar.{Rule}
 use Rattle.working_order.specs.Algebra.{Algebra}
 use Rattle.working_order.specs.Candidates.{Candidate, passCandidates}
-use Rattle.working_order.specs.Journal.{Row, absent}
-use Rattle.working_order.specs.Order.{Progress, start, Verdict, holds, broken, full, spent, Outcome, going, stopped, Answer, andThen, dropped, added, consider, walk, onePass}
+use Rattle.working_order.specs.Journal.{absent}
+use Rattle.working_order.specs.Order.{Progress, start, Verdict, holds, broken, full, spent, Outcome, going, stopped, Answer, andThen, dropped, consider, walk, onePass}
 use Rattle.working_order.specs.Walking.{Post, counted, grown, step-post}
 use Rattle.working_order.specs.Truth.{length-added}
 

@@ -10,18 +10,12 @@ use Rattle.acceptance.specs.Judgements.{judged, file-refused, word-refus
 use Rattle.acceptance.proofs.judge.Statement.{statement}
 use Rattle.acceptance.proofs.judge.Tie as tie
 
-file-refusal-requires : tie.Need-file-refusal-requires
-file-refusal-requires c κs = search needs
-
 returns : tie.Need-returns
 returns c =
     let a = c .before .before .before .before .before .args in
     let e = c .before .before .file-refusal .ensures in
     judged (a .file .now) (a .word .now) _
     (ap refused e ∙ file-refused (a .file .now) (a .word .now) (λ z. c .if1 .taken (ap (λ (x : Refusal). x .number) e ∙ z)))
-
-word-fault-requires : tie.Need-word-fault-requires
-word-fault-requires c κs = search needs
 
 returns-2 : tie.Need-returns-2
 returns-2 c =
@@ -56,9 +50,9 @@ pub judge-spec : {M : Type 1} → statement M
 judge-spec =
     tie.close
     (tie.spec
-    file-refusal-requires
+    (λ c κs. search needs)
     returns
-    word-fault-requires
+    (λ c κs. search needs)
     returns-2
     turns-away-requires
     returns-3

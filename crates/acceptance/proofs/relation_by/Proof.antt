@@ -16,9 +16,6 @@ Inv-loop table word r₀ i₀ r i = (i ≤ length word) × Upto states table wor
 abbrev μ-loop : tie.MeasureT-loop
 μ-loop table word r₀ i₀ r i = length word - i
 
-identity-requires : tie.Need-identity-requires Inv-loop μ-loop
-identity-requires c κs = search needs
-
 loop-holds : tie.Need-loop-holds Inv-loop μ-loop
 loop-holds c =
     let s = c .before .before in
@@ -38,9 +35,6 @@ element-copy-out-t13 c =
     let l = c .before .before .loop in
     let s = c .before .before .before .before .before in
     upto-letter states (s .args .table .now) (s .args .word .now) (l .i) (value (l .r)) (l .inv .1) (c .before .loop-test .taken)
-
-compose-requires : tie.Need-compose-requires Inv-loop μ-loop
-compose-requires c κs = search needs
 
 add-i : tie.Need-add-i Inv-loop μ-loop
 add-i c = omega arith
@@ -71,13 +65,13 @@ relation-by-spec =
     (tie.spec
     Inv-loop
     μ-loop
-    identity-requires
+    (λ c κs. search needs)
     loop-holds
     shared-slice-read-c
     cast-c
     mul-t7
     element-copy-out-t13
-    compose-requires
+    (λ c κs. search needs)
     add-i
     loop-less
     loop-again

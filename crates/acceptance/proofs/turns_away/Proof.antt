@@ -14,18 +14,6 @@ use Rattle.acceptance.specs.TableRelationLaws.{by-letters}
 use Rattle.acceptance.proofs.turns_away.Statement.{statement}
 use Rattle.acceptance.proofs.turns_away.Tie as tie
 
-letter-relations-requires : tie.Need-letter-relations-requires
-letter-relations-requires c κs = search needs
-
-relation-by-requires : tie.Need-relation-by-requires
-relation-by-requires c κs = search needs
-
-final-states-requires : tie.Need-final-states-requires
-final-states-requires c κs = search needs
-
-rejects-requires : tie.Need-rejects-requires
-rejects-requires c κs = search needs
-
 returns : tie.Need-returns
 unfolding rejected
 returns c =
@@ -45,8 +33,8 @@ pub turns-away-spec : {M : Type 1} → statement M
 turns-away-spec =
     tie.close
     (tie.spec
-    letter-relations-requires
-    relation-by-requires
-    final-states-requires
-    rejects-requires
+    (λ c κs. search needs)
+    (λ c κs. search needs)
+    (λ c κs. search needs)
+    (λ c κs. search needs)
     returns)

@@ -8,15 +8,6 @@ use Rattle.report.proofs.print_front.Tie as tie
 slice-aggregate-print-word : tie.Need-slice-aggregate-print-word
 slice-aggregate-print-word c = sym (length-take-le _ _ (c .before .if1 .taken))
 
-print-word-requires : tie.Need-print-word-requires
-print-word-requires c κs = search needs
-
-returns : tie.Need-returns
-returns c = search needs
-
-returns-2 : tie.Need-returns-2
-returns-2 c = search needs
-
 pub print-front-spec : {M : Type 1} → statement M
 print-front-spec =
-    tie.close (tie.spec slice-aggregate-print-word print-word-requires returns returns-2)
+    tie.close (tie.spec slice-aggregate-print-word (λ c κs. search needs) (λ c. search needs) (λ c. search needs))

@@ -5,17 +5,11 @@ use borrow.Author.Needs.{needs}
 use borrow.Author.Tests.{eq-eqb, ne-eqb}
 use Rattle.search.specs.Meanings.{endBy, endOf}
 use Rattle.search.specs.declared.Answer.the-variants.{Holds, Broken, Full, Spent}
-use Rattle.search.specs.declared.Outcome.the-variants as outcome
+use Rattle.deciding.specs.declared.Outcome.the-variants as outcome
 use Rattle.search.specs.declared.PassEnd.the-variants.{Done}
 use Rattle.search.specs.declared.Totals.{Totals}
 use Rattle.search.proofs.close_pass.Statement.{statement}
 use Rattle.search.proofs.close_pass.Tie as tie
-
-enum-known-outcome : tie.Need-enum-known-outcome
-enum-known-outcome c = search needs
-
-sum-up-requires : tie.Need-sum-up-requires
-sum-up-requires c κs = search needs
 
 returns : tie.Need-returns
 returns c =
@@ -23,24 +17,6 @@ returns c =
     let o = c .before .before .before .before .outcome .given in
     ap (λ (n : Totals). Done (Holds n)) (c .sum-up .ensures)
     ∙ sym (ap (endOf (a .start) (a .pass)) (o .1) ∙ ap (λ (b : Bool). endBy b (o .0 .0) (a .pass)) (eq-eqb (o .0 .0 .used) (a .start) (c .before .if1 .taken)))
-
-enum-known-outcome-2 : tie.Need-enum-known-outcome-2
-enum-known-outcome-2 c = search needs
-
-sum-up-requires-2 : tie.Need-sum-up-requires-2
-sum-up-requires-2 c κs = search needs
-
-enum-known-outcome-3 : tie.Need-enum-known-outcome-3
-enum-known-outcome-3 c = search needs
-
-sum-up-requires-3 : tie.Need-sum-up-requires-3
-sum-up-requires-3 c κs = search needs
-
-enum-known-outcome-4 : tie.Need-enum-known-outcome-4
-enum-known-outcome-4 c = search needs
-
-sum-up-requires-4 : tie.Need-sum-up-requires-4
-sum-up-requires-4 c κs = search needs
 
 returns-2 : tie.Need-returns-2
 returns-2 c =
@@ -68,15 +44,15 @@ pub close-pass-spec : {M : Type 1} → statement M
 close-pass-spec =
     tie.close
     (tie.spec
-    enum-known-outcome
-    sum-up-requires
+    (λ c. search needs)
+    (λ c κs. search needs)
     returns
-    enum-known-outcome-2
-    sum-up-requires-2
-    enum-known-outcome-3
-    sum-up-requires-3
-    enum-known-outcome-4
-    sum-up-requires-4
+    (λ c. search needs)
+    (λ c κs. search needs)
+    (λ c. search needs)
+    (λ c κs. search needs)
+    (λ c. search needs)
+    (λ c κs. search needs)
     returns-2
     returns-3
     returns-4

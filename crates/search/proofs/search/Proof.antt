@@ -15,16 +15,10 @@ returns-2 c =
     let a = c .before .before .args in
     searches-refused (a .letters .now) (a .rules .now) (a .finals) (a .budget) (a .journal .now) (fault-many (length (a .journal .now)) (c .if2 .taken))
 
-check-requires : tie.Need-check-requires
-check-requires c κs = search needs
-
-same-length : tie.Need-same-length
-same-length c = search needs
-
 returns-3 : tie.Need-returns-3
 returns-3 c =
     let a = c .before .before .before .before .before .args in
     searches-answered (a .letters .now) (a .rules .now) (a .finals) (a .budget) (a .journal .now) (no-fault (length (a .journal .now)) (c .before .before .before .before .if1 .left) (c .before .before .before .if2 .left)) (c .before .check .ensures)
 
 pub search-spec : {M : Type 1} → statement M
-search-spec = tie.close (tie.spec returns returns-2 check-requires same-length returns-3)
+search-spec = tie.close (tie.spec returns returns-2 (λ c κs. search needs) (λ c. search needs) returns-3)

@@ -23,9 +23,6 @@ abbrev μ-loop : tie.MeasureT-loop
 loop-holds : tie.Need-loop-holds Inv-loop μ-loop
 loop-holds c = (omega arith, mask-none states ∙ sym (ap (maskOf states) (none-yet finalKind finalOf (c .before .args .file .now))))
 
-read-final-requires : tie.Need-read-final-requires Inv-loop μ-loop
-read-final-requires c κs = search needs
-
 add-i : tie.Need-add-i Inv-loop μ-loop
 add-i c = omega arith
 
@@ -44,4 +41,4 @@ returns c = let e : c .before .loop .i ≡ length (c .before .before .before .ar
 pub final-states-spec : {M : Type 1} → statement M
 final-states-spec =
     tie.close
-    (tie.spec Inv-loop μ-loop loop-holds read-final-requires add-i loop-less loop-again returns)
+    (tie.spec Inv-loop μ-loop loop-holds (λ c κs. search needs) add-i loop-less loop-again returns)

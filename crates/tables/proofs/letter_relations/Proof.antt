@@ -19,9 +19,6 @@ Inv-loop file table₀ n i₀ table i = (i ≤ length file / 8) × (table ≡ le
 abbrev μ-loop : tie.MeasureT-loop
 μ-loop file table₀ n i₀ table i = length file / 8 - i
 
-clear-requires : tie.Need-clear-requires Inv-loop μ-loop
-clear-requires c κs = search needs
-
 loop-holds : tie.Need-loop-holds Inv-loop μ-loop
 loop-holds c =
     (omega arith, c .clear .ensures ∙ letters-none states ∙ sym (ap (letterTable states) (none-yet transitionKind transitionOf (c .before .before .before .args .file .now))))
@@ -54,7 +51,7 @@ letter-relations-spec =
     (tie.spec
     Inv-loop
     μ-loop
-    clear-requires
+    (λ c κs. search needs)
     loop-holds
     read-transition-requires
     add-i

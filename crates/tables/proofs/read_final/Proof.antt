@@ -9,17 +9,8 @@ use Rattle.tables.specs.Tables.{withState}
 use Rattle.tables.proofs.read_final.Statement.{statement}
 use Rattle.tables.proofs.read_final.Tie as tie
 
-of-kind-requires : tie.Need-of-kind-requires
-of-kind-requires c κs = search needs
-
 returns : tie.Need-returns
 returns c = rw (sym (c .before .of-kind .ensures) ∙ not-true _ (c .if1 .taken))
-
-final-at-requires : tie.Need-final-at-requires
-final-at-requires c κs = search needs
-
-with-state-requires : tie.Need-with-state-requires
-with-state-requires c κs = search needs
 
 returns-2 : tie.Need-returns-2
 returns-2 c =
@@ -31,8 +22,8 @@ pub read-final-spec : {M : Type 1} → statement M
 read-final-spec =
     tie.close
     (tie.spec
-    of-kind-requires
+    (λ c κs. search needs)
     returns
-    final-at-requires
-    with-state-requires
+    (λ c κs. search needs)
+    (λ c κs. search needs)
     returns-2)

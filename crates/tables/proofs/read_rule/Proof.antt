@@ -9,26 +9,11 @@ use Rattle.tables.specs.Tables.{rowsIn}
 use Rattle.tables.proofs.read_rule.Statement.{statement}
 use Rattle.tables.proofs.read_rule.Tie as tie
 
-of-kind-requires : tie.Need-of-kind-requires
-of-kind-requires c κs = search needs
-
 returns : tie.Need-returns
 returns c = rw (sym (c .before .of-kind .ensures) ∙ not-true _ (c .if1 .taken))
 
 returns-2 : tie.Need-returns-2
 returns-2 c = rw (sym (c .before .before .of-kind .ensures) ∙ not-false _ (c .before .if1 .left), le-ltb _ _ (c .if2 .taken))
-
-row-at-requires : tie.Need-row-at-requires
-row-at-requires c κs = search needs
-
-mul-t8 : tie.Need-mul-t8
-mul-t8 c = search needs
-
-slice-set-from-rows : tie.Need-slice-set-from-rows
-slice-set-from-rows c = search needs
-
-add-result : tie.Need-add-result
-add-result c = search needs
 
 same-length : tie.Need-same-length
 same-length c = simp length-set
@@ -43,12 +28,12 @@ pub read-rule-spec : {M : Type 1} → statement M
 read-rule-spec =
     tie.close
     (tie.spec
-    of-kind-requires
+    (λ c κs. search needs)
     returns
     returns-2
-    row-at-requires
-    mul-t8
-    slice-set-from-rows
-    add-result
+    (λ c κs. search needs)
+    (λ c. search needs)
+    (λ c. search needs)
+    (λ c. search needs)
     same-length
     returns-3)

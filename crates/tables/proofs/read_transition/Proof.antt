@@ -14,14 +14,8 @@ use Rattle.tables.specs.Tables.{withTransition}
 use Rattle.tables.proofs.read_transition.Statement.{statement}
 use Rattle.tables.proofs.read_transition.Tie as tie
 
-of-kind-requires : tie.Need-of-kind-requires
-of-kind-requires c κs = search needs
-
 returns : tie.Need-returns
 returns c = rw (sym (c .before .of-kind .ensures) ∙ not-true _ (c .if1 .taken))
-
-transition-at-requires : tie.Need-transition-at-requires
-transition-at-requires c κs = search needs
 
 returns-2 : tie.Need-returns-2
 returns-2 c =
@@ -30,24 +24,6 @@ returns-2 c =
     rw (sym (c .before .before .before .of-kind .ensures) ∙ not-false _ (c .before .before .if1 .left))
     (sym (set-out (s .args .table .now) _ _ (omega (arith, c .if2 .taken, s .pre .1)))
     ∙ ap (λ (t : Transition). withTransition states (s .args .table .now) (automatonTransition t)) e)
-
-cast-at : tie.Need-cast-at
-cast-at c = search needs
-
-mul-t11 : tie.Need-mul-t11
-mul-t11 c = search needs
-
-element-copy-out-t14 : tie.Need-element-copy-out-t14
-element-copy-out-t14 c = search needs
-
-insert-requires : tie.Need-insert-requires
-insert-requires c κs = search needs
-
-mul-table : tie.Need-mul-table
-mul-table c = search needs
-
-element-write-table : tie.Need-element-write-table
-element-write-table c = search needs
 
 returns-3 : tie.Need-returns-3
 unfolding value
@@ -62,14 +38,14 @@ pub read-transition-spec : {M : Type 1} → statement M
 read-transition-spec =
     tie.close
     (tie.spec
-    of-kind-requires
+    (λ c κs. search needs)
     returns
-    transition-at-requires
+    (λ c κs. search needs)
     returns-2
-    cast-at
-    mul-t11
-    element-copy-out-t14
-    insert-requires
-    mul-table
-    element-write-table
+    (λ c. search needs)
+    (λ c. search needs)
+    (λ c. search needs)
+    (λ c κs. search needs)
+    (λ c. search needs)
+    (λ c. search needs)
     returns-3)

@@ -4,13 +4,10 @@ use Rattle.tables.specs.RuleLaws.{all-written}
 use Rattle.tables.proofs.rule_table.Statement.{statement}
 use Rattle.tables.proofs.rule_table.Tie as tie
 
-read-rules-requires : tie.Need-read-rules-requires
-read-rules-requires c κs = search needs
-
 returns : tie.Need-returns
 returns c =
     let a = c .before .before .before .args in
     all-written (a .file .now) (a .table .now) _ (c .read-rules .result) (c .before .read-rules-arg .given .0 .1) (c .read-rules .ensures)
 
 pub rule-table-spec : {M : Type 1} → statement M
-rule-table-spec = tie.close (tie.spec read-rules-requires returns)
+rule-table-spec = tie.close (tie.spec (λ c κs. search needs) returns)

@@ -15,9 +15,6 @@ returns-2 : tie.Need-returns-2
 unfolding rowFault
 returns-2 c = rw (lt-ltb _ _ (c .before .if1 .left), length-map, lt-ltb _ _ (c .if2 .taken))
 
-rows-fit-requires : tie.Need-rows-fit-requires
-rows-fit-requires c κs = search needs
-
 returns-3 : tie.Need-returns-3
 unfolding rowFault
 returns-3 c =
@@ -29,4 +26,4 @@ returns-4 c =
     rw (lt-ltb _ _ (c .before .before .before .if1 .left), length-map, le-ltb _ _ (c .before .before .if2 .left), sym (c .before .rows-fit .ensures) ∙ c .if3 .left)
 
 pub row-fault-spec : {M : Type 1} → statement M
-row-fault-spec = tie.close (tie.spec returns returns-2 rows-fit-requires returns-3 returns-4)
+row-fault-spec = tie.close (tie.spec returns returns-2 (λ c κs. search needs) returns-3 returns-4)

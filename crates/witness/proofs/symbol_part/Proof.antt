@@ -1,11 +1,7 @@
 -- A symbol's part. Assumes nothing.
 use borrow.Author.Tests.{lt-ltb, le-ltb}
-use borrow.Author.Needs.{needs}
 use Rattle.witness.proofs.symbol_part.Statement.{statement}
 use Rattle.witness.proofs.symbol_part.Tie as tie
-
-cast-t4 : tie.Need-cast-t4
-cast-t4 c = search needs
 
 returns : tie.Need-returns
 returns c = simp (lt-ltb _ _ (c .if1 .taken))
@@ -14,4 +10,4 @@ returns-2 : tie.Need-returns-2
 returns-2 c = simp (le-ltb _ _ (c .if1 .left))
 
 pub symbol-part-spec : {M : Type 1} → statement M
-symbol-part-spec = tie.close (tie.spec cast-t4 returns returns-2)
+symbol-part-spec = tie.close (tie.spec returns returns-2)

@@ -17,14 +17,8 @@ use Rattle.witness.proofs.write_fault.Tie as tie
 as-many : (J : List (List ℕ)) (f : ℕ) → f ≡ journalFault (length J) → f ≡ journalFault (length (map rowOf J))
 as-many J f e = e ∙ ap journalFault (sym (length-map J rowOf))
 
-journal-fault-requires : tie.Need-journal-fault-requires
-journal-fault-requires c κs = search needs
-
 returns : tie.Need-returns
 returns c = eight-first _ _ _ _ _ _ (as-many (c .before .before .args .journal .now) _ (c .before .journal-fault .ensures)) (c .if1 .taken)
-
-row-fault-requires : tie.Need-row-fault-requires
-row-fault-requires c κs = search needs
 
 returns-2 : tie.Need-returns-2
 returns-2 c = nine-next _ _ _ _ _ _ (sym (as-many (c .before .before .before .before .args .journal .now) _ (c .before .before .before .journal-fault .ensures)) ∙ c .before .before .if1 .left) (c .before .row-fault .ensures) (c .if2 .taken)
@@ -38,12 +32,6 @@ shared-slice-copy-out-named : tie.Need-shared-slice-copy-out-named
 shared-slice-copy-out-named c =
     let a = c .before .before .before .before .args in
     let h = named (map entryOf (a .rules .now)) (map rowOf (a .journal .now)) (a .used) (a .row) (sym (c .before .row-fault .ensures) ∙ c .if2 .left) .inside in omega (arith, h, length-map (a .journal .now) rowOf)
-
-array-read-too-long : tie.Need-array-read-too-long
-array-read-too-long c = search needs
-
-too-long-requires : tie.Need-too-long-requires
-too-long-requires c κs = search needs
 
 returns-3 : tie.Need-returns-3
 returns-3 c =
@@ -61,13 +49,13 @@ pub write-fault-spec : {M : Type 1} → statement M
 write-fault-spec =
     tie.close
     (tie.spec
-    journal-fault-requires
+    (λ c κs. search needs)
     returns
-    row-fault-requires
+    (λ c κs. search needs)
     returns-2
     mul-named
     shared-slice-copy-out-named
-    array-read-too-long
-    too-long-requires
+    (λ c. search needs)
+    (λ c κs. search needs)
     returns-3
     returns-4)

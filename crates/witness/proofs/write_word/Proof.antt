@@ -5,17 +5,11 @@ use Rattle.witness.proofs.Faults.{ready, gives-refusal, gives-word}
 use Rattle.witness.proofs.write_word.Statement.{statement}
 use Rattle.witness.proofs.write_word.Tie as tie
 
-write-fault-requires : tie.Need-write-fault-requires
-write-fault-requires c κs = search needs
-
 returns : tie.Need-returns
 returns c = gives-refusal _ _ _ _ _ _ (c .before .write-fault .ensures) (c .if1 .taken)
 
 write-row-requires : tie.Need-write-row-requires
 write-row-requires c κs = ready _ _ _ _ _ (sym (c .before .before .write-fault .ensures) ∙ c .before .if1 .left)
-
-same-length : tie.Need-same-length
-same-length c = search needs
 
 returns-2 : tie.Need-returns-2
 returns-2 c =
@@ -23,4 +17,4 @@ returns-2 c =
 
 pub write-word-spec : {M : Type 1} → statement M
 write-word-spec =
-    tie.close (tie.spec write-fault-requires returns write-row-requires same-length returns-2)
+    tie.close (tie.spec (λ c κs. search needs) returns write-row-requires (λ c. search needs) returns-2)

@@ -9,9 +9,6 @@ use Rattle.relation.specs.Representation.{value, value-lt}
 use Rattle.relation.proofs.Relation.insert.Statement.{statement}
 use Rattle.relation.proofs.Relation.insert.Tie as tie
 
-single-requires : tie.Need-single-requires
-single-requires c κs = search needs
-
 returns : tie.Need-returns
 unfolding value
 returns c =
@@ -20,4 +17,4 @@ returns c =
     ∙ insert-or states (value (e .self)) (e .a) (e .b) (value-lt (e .self) (omega arith))
 
 pub insert-spec : {M : Type 1} → statement M
-insert-spec = tie.close (tie.spec single-requires returns)
+insert-spec = tie.close (tie.spec (λ c κs. search needs) returns)

@@ -1,0 +1,312 @@
+//! The benchmark files. Each is made anew in every run, and is the same in each.
+//!
+//! Many rest on groups of mappings of the eight stages: no mapping contains another, so that a group of n gives n live rows, and the
+//! number of joins can be told beforehand.
+
+use plain::making::{procedure, Making, Numbers};
+
+/// A file and what it is checked with.
+pub struct Case {
+    pub name: String,
+    pub file: Vec<u8>,
+    pub rows: usize,
+    pub budget: u64,
+}
+
+impl Case {
+    fn new(name: &str, making: &Making) -> Case {
+        Case {
+            name: name.to_string(),
+            file: making.bytes(),
+            rows: 4_096,
+            budget: 10_000_000,
+        }
+    }
+
+    fn rows(self, rows: usize) -> Case {
+        Case { rows, ..self }
+    }
+
+    fn budget(self, budget: u64) -> Case {
+        Case { budget, ..self }
+    }
+}
+
+/// A mapping of the eight stages.
+type Mapping = [u8; 8];
+
+/// Every order of the eight stages is made from these two: 40,320 of them.
+const ORDERS: [Mapping; 2] = [[1, 2, 3, 4, 5, 6, 7, 0], [1, 0, 2, 3, 4, 5, 6, 7]];
+/// Every order of six stages: 720.
+const ORDERS_OF_SIX: [Mapping; 2] = [[1, 2, 3, 4, 5, 0, 6, 7], [1, 0, 2, 3, 4, 5, 6, 7]];
+/// The 336 mappings (at + b) / (ct + d) of 0 to 6 and infinity (stage 7), modulo 7: t + 1, 3t and -1 / t make them.
+const PROJECTIVE: [Mapping; 3] = [[1, 2, 3, 4, 5, 6, 0, 7], [0, 3, 6, 2, 5, 1, 4, 7], [7, 6, 3, 2, 5, 4, 1, 0]];
+/// The 24 turns of a cube, on its corners: a quarter turn and a turn about a diagonal make them.
+const TURNS: [Mapping; 2] = [[2, 0, 3, 1, 6, 4, 7, 5], [0, 2, 4, 6, 1, 3, 5, 7]];
+/// With the mirror image, the 48 symmetries of a cube.
+const CUBE: [Mapping; 3] = [TURNS[0], TURNS[1], [7, 6, 5, 4, 3, 2, 1, 0]];
+/// The 8 turns of a ring.
+const RING: [Mapping; 1] = [[1, 2, 3, 4, 5, 6, 7, 0]];
+
+/// All files of the table.
+pub fn all() -> Vec<Case> {
+    vec![
+        plan_a(),
+        plan_b(),
+        nothing_but_codes(),
+        chain(),
+        Case::new("ring-64", &ring(256)),
+        Case::new("cube-largest", &cube_largest()),
+        Case::new("left-linear", &left_linear()),
+        Case::new("group-336", &closed(&PROJECTIVE)),
+        Case::new("group-720", &closed(&ORDERS_OF_SIX)),
+        Case::new("broken-late", &broken_late()),
+        Case::new("retired", &retired(1, 1)),
+        Case::new("retired-most", &retired(2, 2)),
+        Case::new("retired-chain", &retired_and_chain()),
+        Case::new("random-small", &random_relations(0, 3, 9, 60)),
+        Case::new("random-middle", &random_relations(4, 3, 12, 130)),
+        Case::new("random-large", &random_relations(2, 6, 20, 240)),
+        Case::new("full-1024", &closed(&ORDERS)).rows(1_024),
+        Case::new("full-4096", &closed(&ORDERS)),
+        Case::new("full-largest", &random_largest()),
+        Case::new("full-retired", &retired(2, 1)),
+        Case::new("spent-group", &closed(&ORDERS_OF_SIX)).budget(300_000),
+        Case::new("spent-largest", &cube_largest()).budget(200_000),
+    ]
+}
+
+/// The same file with more and more rows: each check ends full.
+pub fn by_rows() -> Vec<Case> {
+    let sizes = [64, 256, 1_024, 4_096];
+    sizes
+        .map(|rows| Case::new(&format!("{rows} rows"), &closed(&ORDERS)).rows(rows))
+        .into()
+}
+
+/// More and more rules over 64 procedures.
+pub fn by_rules() -> Vec<Case> {
+    let sizes = [64, 128, 192, 256];
+    sizes.map(|rules| Case::new(&format!("{rules} rules"), &ring(rules))).into()
+}
+
+/// The same plan, and more and more moves on codes that it doesn't use.
+pub fn by_moves() -> Vec<Case> {
+    let with = |codes: u8| {
+        let mut making = closed(&PROJECTIVE);
+        for code in 3..codes {
+            making.mapping(code, ORDERS[0]);
+        }
+        Case::new(&format!("{} moves", making.count(2)), &making)
+    };
+    [3, 32, 64, 128].map(with).into()
+}
+
+/// Plan A of document 01 with its sheet S.
+fn plan_a() -> Case {
+    Case::new("plan-a", &sheet_and_plan_a())
+}
+
+/// Plan B of document 01 with its sheet S.
+fn plan_b() -> Case {
+    Case::new("plan-b", sheet_and_plan_a().rule(2, &[procedure(1)]))
+}
+
+fn sheet_and_plan_a() -> Making {
+    let mut making = Making::new();
+    making.step(0, 1, 1).step(0, 3, 2).step(1, 2, 0).finishing(2);
+    making
+        .rule(0, &[procedure(1), 3])
+        .rule(1, &[])
+        .rule(1, &[1, procedure(2)])
+        .rule(2, &[2, procedure(1)]);
+    making
+}
+
+/// 128 codes, each in two rules of its own: two passes, and two live rows for each of 64 procedures.
+fn nothing_but_codes() -> Case {
+    let mut making = Making::new();
+    for code in 0..128 {
+        making
+            .mapping(code, RING[0])
+            .rule(code % 64, &[code, code])
+            .rule(code % 64, &[code]);
+    }
+    finish_everywhere(&mut making);
+    Case::new("codes", &making)
+}
+
+/// A long chain: 64 procedures with one live row each, which come one to a pass.
+fn chain() -> Case {
+    let mut making = Making::new();
+    for code in 0..128 {
+        making.mapping(code, RING[0]).rule(63, &[code]);
+    }
+    for head in 0..63 {
+        making
+            .rule(head, &[procedure(head + 1), head])
+            .rule(head, &[head, procedure(head + 1)]);
+    }
+    finish_everywhere(&mut making);
+    Case::new("chain-64", &making)
+}
+
+/// 64 procedures with up to eight live rows each: pairs of procedures at random, over the turns of a ring.
+fn ring(rules: usize) -> Making {
+    let mut making = Making::new();
+    making.mapping(0, RING[0]);
+    pairs_at_random(&mut making, 7, rules, |_| 0);
+    finish_everywhere(&mut making);
+    making
+}
+
+/// The largest file that holds: 256 rules, 64 procedures, 1,024 moves, 48 live rows for each procedure.
+fn cube_largest() -> Making {
+    let symmetries = generated(&CUBE);
+    let mut numbers = Numbers::new(8);
+    let mut making = Making::new();
+    for code in 0..128 {
+        making.mapping(code, numbers.pick(&symmetries));
+    }
+    pairs_at_random(&mut making, 9, 256, |numbers| numbers.byte(128));
+    finish_everywhere(&mut making);
+    making
+}
+
+/// Rules that add a code on the right, 126 of them, over 720 live rows.
+fn left_linear() -> Making {
+    let orders = generated(&ORDERS_OF_SIX);
+    let mut numbers = Numbers::new(10);
+    let mut making = Making::new();
+    making.rule(1, &[]);
+    for code in 0..126 {
+        making.mapping(code, numbers.pick(&orders)).rule(1, &[procedure(1), code]);
+    }
+    making
+}
+
+/// One procedure that gives each product of the mappings, as one live row each.
+fn closed(mappings: &[Mapping]) -> Making {
+    let mut making = Making::new();
+    for (code, &mapping) in (0..).zip(mappings) {
+        making.mapping(code, mapping).rule(1, &[code]);
+    }
+    making.rule(1, &[procedure(1), procedure(1)]);
+    making
+}
+
+/// A check that is broken late: procedure 0 takes the products only after some passes.
+fn broken_late() -> Making {
+    let mut making = closed(&PROJECTIVE);
+    delay(&mut making, 9);
+    making.rule(0, &[procedure(20), procedure(1)]);
+    (0..7).for_each(|stage| {
+        making.finishing(stage);
+    });
+    making
+}
+
+/// Many rows that retire: at first each code has some moves too many, and the codes without them come some passes later. In the end
+/// the 24 turns of a cube are live.
+fn retired(passes: u8, too_many: u8) -> Making {
+    let mut making = Making::new();
+    for (code, &turn) in (0..).zip(&TURNS) {
+        making.mapping(code, turn).rule(1, &[procedure(20), code]);
+        making.mapping(64 + code, turn).rule(1, &[64 + code]);
+        for from in code..code + too_many {
+            making.step(from, 64 + code, from + 3);
+        }
+    }
+    making.rule(1, &[procedure(1), procedure(1)]);
+    delay(&mut making, passes);
+    making
+}
+
+/// More than a thousand rows retire, and then come many passes over few live rows.
+fn retired_and_chain() -> Making {
+    let mut making = retired(1, 1);
+    for head in 30..63 {
+        making.rule(head, &[procedure(head + 1)]);
+    }
+    making.rule(63, &[]);
+    making
+}
+
+/// Lets procedure 20 give nothing, from a pass on.
+fn delay(making: &mut Making, passes: u8) {
+    for head in 20..20 + passes {
+        making.rule(head, &[procedure(head + 1)]);
+    }
+    making.rule(20 + passes, &[]);
+}
+
+/// A few procedures over codes whose moves are drawn at random: rows that cover and retire each other, until an empty effect covers all.
+fn random_relations(seed: u64, procedures: usize, codes: u8, moves: usize) -> Making {
+    let mut numbers = Numbers::new(seed);
+    let mut making = Making::new();
+    for _ in 0..moves {
+        making.step(numbers.byte(8), numbers.byte(codes.into()), numbers.byte(8));
+    }
+    let mut one = || 1 + numbers.byte(procedures);
+    for code in 0..codes {
+        making.rule(one(), &[code]);
+    }
+    for _ in 0..3 * procedures {
+        making.rule(one(), &[procedure(one()), procedure(one())]);
+    }
+    making
+}
+
+/// 256 rules, 64 procedures and 1,024 moves at random.
+fn random_largest() -> Making {
+    let mut numbers = Numbers::new(3);
+    let mut making = Making::new();
+    for code in 0..128 {
+        making.mapping(code, std::array::from_fn(|_| numbers.byte(8)));
+    }
+    pairs_at_random(&mut making, 11, 256, |numbers| numbers.byte(128));
+    finish_everywhere(&mut making);
+    making
+}
+
+/// Rules over 64 procedures: a code for procedure 63, and pairs of procedures or a procedure and a code.
+fn pairs_at_random(making: &mut Making, seed: u64, rules: usize, code: impl Fn(&mut Numbers) -> u8) {
+    let mut numbers = Numbers::new(seed);
+    making.rule(63, &[code(&mut numbers)]);
+    for head in 0..63 {
+        // Each procedure gives something.
+        making.rule(head, &[procedure(head + 1), code(&mut numbers)]);
+    }
+    while making.count(1) < rules {
+        let (head, left, right) = (numbers.byte(64), numbers.byte(64), numbers.byte(64));
+        if numbers.once_in(4) {
+            let code = code(&mut numbers);
+            making.rule(head, &[procedure(left), code]);
+        } else {
+            making.rule(head, &[procedure(left), procedure(right)]);
+        }
+    }
+}
+
+/// Makes every stage finishing, so that no mapping is rejecting.
+fn finish_everywhere(making: &mut Making) {
+    (0..8).for_each(|stage| {
+        making.finishing(stage);
+    });
+}
+
+/// Every product of some mappings.
+fn generated(mappings: &[Mapping]) -> Vec<Mapping> {
+    let mut found = mappings.to_vec();
+    let mut at = 0;
+    while at < found.len() {
+        for mapping in mappings {
+            let product = found[at].map(|stage| mapping[usize::from(stage)]);
+            if !found.contains(&product) {
+                found.push(product);
+            }
+        }
+        at += 1;
+    }
+    found
+}

@@ -1,0 +1,144 @@
+// The order in which a pass takes its candidates: rules in file order, the left symbol outer, the right one inner, rows rising. The rows
+// that were live when the pass began are gathered in a table of lists: cell i has the row after row i in the list of its nonterminal, and
+// cell 4,096 + x the first row of nonterminal x.
+use rows::Place;
+ghost use mathlib.Core.Path.{_≡_};
+ghost use Prim.Native.Nat.{_<_};
+ghost use Rattle.plan_file.specs.Views.{symbolOf};
+ghost use Rattle.calls.specs.Rows.{rowOf, entryOf};
+ghost use Rattle.rows.specs.Forming.{some, leftPart, rightPart};
+ghost use Rattle.places.specs.Lists.{afterIn, linked};
+ghost use Rattle.places.specs.Places.{Begins, Opens, Follows};
+
+const ROWS: usize = 4096;
+
+const HEADS: u64 = 256;
+
+const HEAD: usize = 0;
+
+// The position of a symbol that is no row.
+const ABSENT: usize = 65535;
+
+// No position is left.
+const END: usize = 65536;
+
+const TERMINALS: u8 = 128;
+
+// ---- the lists
+
+// Row i goes in front of the list of its nonterminal, if it is live.
+pub fn link(lists: &mut [usize; 4352], i: usize, row: [u64; 8])
+    ensures { λ r. ⌜ now (lists .exit) ≡ linked (now (lists .entry)) i (rowOf row) ⌝ }
+{
+    if i < ROWS {
+        if row[HEAD] < HEADS {
+            if rows::live(row) {
+                let cell = ROWS + row[HEAD] as usize;
+                lists[i] = lists[cell];
+                lists[cell] = i;
+            }
+        }
+    }
+}
+
+// The position after this one.
+fn after(lists: &[usize; 4352], i: usize) -> usize
+    ensures { λ r. ⌜ r ≡ afterIn (now (lists .entry)) i ⌝ }
+{
+    if i < ROWS {
+        return lists[i];
+    }
+    END
+}
+
+// ---- the places of a rule
+
+// The first position of a symbol.
+fn first_of(lists: &[usize; 4352], symbol: u8) -> usize
+    ensures { λ r. ⌜ Begins (now (lists .entry)) (some (symbolOf symbol)) r ⌝ }
+{
+    if symbol < TERMINALS {
+        return ABSENT;
+    }
+    let cell = ROWS + (symbol - TERMINALS) as usize;
+    lists[cell]
+}
+
+// The first position of each part of the body of rule r.
+fn beginning(lists: &[usize; 4352], rule: [u8; 4], r: usize) -> Place
+    ensures { λ p. ⌜ (p .rule ≡ r) × Begins (now (lists .entry)) (leftPart (entryOf rule .body)) (p .left) × Begins (now (lists .entry)) (rightPart (entryOf rule .body)) (p .right) ⌝ }
+{
+    let size = rule[1];
+    if size == 0 {
+        return Place {
+            rule: r,
+            left: ABSENT,
+            right: ABSENT,
+        };
+    }
+    let left = first_of(lists, rule[2]);
+    if size == 1 {
+        return Place {
+            rule: r,
+            left,
+            right: ABSENT,
+        };
+    }
+    let right = first_of(lists, rule[3]);
+    Place {
+        rule: r,
+        left,
+        right,
+    }
+}
+
+// ---- the places of a pass
+
+// The first place from rule r on; past the last rule where there is none.
+pub fn first_place(lists: &[usize; 4352], rules: &[[u8; 4]], r: usize) -> Place
+    ensures { λ p. ⌜ Opens (now (lists .entry)) (now (rules .entry)) r p ⌝ }
+{
+    let mut r = r;
+    while r < rules.len() {
+        let rule = rules[r];
+        let place = beginning(lists, rule, r);
+        if (place.left != END) & (place.right != END) {
+            return place;
+        }
+        r += 1;
+    }
+    Place {
+        rule: r,
+        left: END,
+        right: END,
+    }
+}
+
+// The place after this one.
+pub fn next_place(lists: &[usize; 4352], rules: &[[u8; 4]], place: Place) -> Place
+    ensures { λ p. ⌜ Follows (now (lists .entry)) (now (rules .entry)) place p ⌝ }
+{
+    let r = place.rule;
+    if rules.len() <= r {
+        return place;
+    }
+    let right = after(lists, place.right);
+    if right != END {
+        return Place {
+            rule: r,
+            left: place.left,
+            right,
+        };
+    }
+    let left = after(lists, place.left);
+    if left != END {
+        let rule = rules[r];
+        let start = beginning(lists, rule, r);
+        return Place {
+            rule: r,
+            left,
+            right: start.right,
+        };
+    }
+    first_place(lists, rules, r + 1)
+}

@@ -1,0 +1,4 @@
+mod Behind
+pub mod CallStep
+pub mod MetByWalk
+pub mod Readers

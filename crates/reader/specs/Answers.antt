@@ -1,0 +1,17 @@
+-- What the code's step says, case by case, in the terms of the definitions. Definitions only. Assumes nothing.
+use Prim.Native.Nat.{ℕ}
+use Rattle.plan_file.specs.Answers.{refusalOf, saidBy}
+use Rattle.plan_file.specs.Reading.{Step, gives, refuses, ended}
+use Rattle.reader.specs.declared.Step.{Step as StepAnswer}
+use Rattle.reader.specs.declared.Step.the-variants.{Gives, Refused, Ended}
+
+abbrev pub stepOf : StepAnswer → Step
+stepOf (Gives r i) = gives (saidBy r) i
+stepOf (Refused x) = refuses (refusalOf x)
+stepOf Ended = ended
+
+-- where a reader that stands at a place stands after a step: a record moves it on, a refusal or the end leaves it (document 01, "Records")
+abbrev pub placeAfter : Step → ℕ → ℕ
+placeAfter (gives r i) place = i
+placeAfter (refuses x) place = place
+placeAfter ended place = place

@@ -1,0 +1,167 @@
+// Reading a plan file record by record: the step, from any place.
+ghost use mathlib.Core.Path.{_≡_};
+ghost use Prim.Native.Nat.{_<_};
+ghost use Rattle.plan_file.specs.Reading.{stepFrom, stepAt};
+ghost use Rattle.plan_file.specs.Records.{recordCount};
+ghost use Rattle.plan_file.specs.Refusals as refusals;
+ghost use Rattle.reader.specs.Answers.{stepOf, placeAfter};
+use plan_file::Record;
+use plan_file::Refusal;
+
+const RECORD_LIMIT: usize = 1288;
+
+// The file's bytes, and the place of the next record.
+pub struct Reader<'a> {
+    pub file: &'a [u8],
+    pub place: usize,
+}
+
+// A record with the place of the next, the refusal that stopped the reader, or the end of the file.
+pub enum Step {
+    Gives(Record, usize),
+    Refused(Refusal),
+    Ended,
+}
+
+// ---- a record in its file
+
+fn exceeds(file: &[u8], i: usize) -> bool
+    requires { ⌜ i < recordCount (now file) ⌝ }
+    ensures { λ x. ⌜ x ≡ refusals.exceeds (now (file .entry)) i ⌝ }
+{
+    if i == 0 {
+        return true;
+    }
+    record_checks::rises(
+        record_bytes::whole_record(file, i - 1),
+        record_bytes::whole_record(file, i),
+    )
+}
+
+// The number that refuses record i, before which so many rules and transitions stand, or 0.
+fn fault_by(file: &[u8], i: usize, rules: usize, transitions: usize) -> u64
+    requires { ⌜ i < recordCount (now file) ⌝ }
+    ensures { λ x. ⌜ x ≡ refusals.faultBy (now (file .entry)) i rules transitions ⌝ }
+{
+    let r = record_bytes::whole_record(file, i);
+    record_checks::lowest(
+        !record_checks::kind_known(r),
+        record_checks::above_range(r),
+        record_checks::stray_byte(r),
+        !exceeds(file, i),
+        record_checks::over_limit(r, rules, transitions),
+    )
+}
+
+// The step at a place before which so many rules and transitions stand.
+pub fn step_from(file: &[u8], place: usize, rules: usize, transitions: usize) -> Step
+    ensures { λ x. ⌜ stepOf x ≡ stepFrom (now (file .entry)) place rules transitions ⌝ }
+{
+    if file.len() % 8 != 0 {
+        return Step::Refused(Refusal {
+            number: 1,
+            place: 0,
+        });
+    }
+    let records = file.len() / 8;
+    if RECORD_LIMIT < records {
+        return Step::Refused(Refusal {
+            number: 2,
+            place: 0,
+        });
+    }
+    if records <= place {
+        return Step::Ended;
+    }
+    let f = fault_by(file, place, rules, transitions);
+    if f != 0 {
+        return Step::Refused(Refusal {
+            number: f,
+            place: place,
+        });
+    }
+    Step::Gives(
+        record_bytes::record_of(record_bytes::whole_record(file, place)),
+        place + 1,
+    )
+}
+
+// The records before the place are counted by their kind alone, and not checked again.
+fn step_counted(file: &[u8], place: usize) -> Step
+    ensures { λ x. ⌜ stepOf x ≡ stepAt (now (file .entry)) place ⌝ }
+{
+    if file.len() / 8 <= place {
+        return step_from(file, place, 0, 0);
+    }
+    let before = &file[..place * 8];
+    let rules = views::rule_count(before);
+    let transitions = views::transition_count(before);
+    step_from(file, place, rules, transitions)
+}
+
+// The place after a step: that of the next record, or the same where the step gave none.
+fn place_after(s: Step, place: usize) -> usize
+    ensures { λ x. ⌜ x ≡ placeAfter (stepOf s) place ⌝ }
+{
+    match s {
+        Step::Gives(_, next) => next,
+        Step::Refused(_) => place,
+        Step::Ended => place,
+    }
+}
+
+// ---- the reader: thin functions, each proved by hand
+
+impl<'a> Reader<'a> {
+    pub fn new(file: &'a [u8]) -> Reader<'a>
+        ensures { λ r. ⌜ (r .file ≡ file .entry) × (r .place ≡ 0) ⌝ }
+    {
+        Reader { file, place: 0 }
+    }
+
+    pub fn position(self) -> usize
+        ensures { λ n. ⌜ n ≡ self .entry .place ⌝ }
+    {
+        self.place
+    }
+
+    pub fn step(self) -> Step
+        ensures { λ x. ⌜ stepOf x ≡ stepAt (now (self .entry .file)) (self .entry .place) ⌝ }
+    {
+        step_counted(self.file, self.place)
+    }
+
+    // The step where so many rules and transitions stand before the place.
+    pub fn step_after(self, rules: usize, transitions: usize) -> Step
+        ensures { λ x. ⌜ stepOf x ≡ stepFrom (now (self .entry .file)) (self .entry .place) rules transitions ⌝ }
+    {
+        step_from(self.file, self.place, rules, transitions)
+    }
+
+    // The reader where it stands after a step.
+    pub fn moved(self, s: Step) -> Reader<'a>
+        ensures { λ r. ⌜ (r .file ≡ self .entry .file) × (r .place ≡ placeAfter (stepOf s) (self .entry .place)) ⌝ }
+    {
+        Reader {
+            file: self.file,
+            place: place_after(s, self.place),
+        }
+    }
+
+    // Steps and moves on: after a record the reader stands one further, else where it was.
+    pub fn advance(&mut self) -> Step
+        ensures { λ x. ⌜ (stepOf x ≡ stepAt (now (now (self .entry) .file)) (now (self .entry) .place)) × (now (self .exit) .file ≡ now (self .entry) .file)
+            × (now (self .exit) .place ≡ placeAfter (stepOf x) (now (self .entry) .place)) ⌝ }
+    {
+        let s = step_counted(self.file, self.place);
+        self.place = place_after(s, self.place);
+        s
+    }
+}
+
+// The step of a reader at a place of a file.
+pub fn step_at(file: &[u8], place: usize) -> Step
+    ensures { λ x. ⌜ stepOf x ≡ stepAt (now (file .entry)) place ⌝ }
+{
+    Reader { file, place }.step()
+}

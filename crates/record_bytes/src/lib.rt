@@ -1,0 +1,74 @@
+// The bytes of a file's records, and what a record's bytes say.
+ghost use mathlib.Core.Path.{_≡_};
+ghost use Prim.Native.Nat.{_<_};
+ghost use Rattle.plan_file.specs.Answers.{saidBy};
+ghost use Rattle.plan_file.specs.Entries.{ruleIn, transitionIn, wholeRecord};
+ghost use Rattle.plan_file.specs.Records.{recordCount, recordAt, recordOf};
+use plan_file::RULE_KIND;
+use plan_file::Record;
+use plan_file::Rule;
+use plan_file::TRANSITION_KIND;
+use plan_file::Transition;
+
+fn bytes_at(file: &[u8], i: usize) -> [u8; 8]
+    requires { ⌜ i < recordCount (now file) ⌝ }
+    ensures { λ x. ⌜ x ≡ recordAt (now (file .entry)) i ⌝ }
+{
+    let at = i * 8;
+    [
+        file[at],
+        file[at + 1],
+        file[at + 2],
+        file[at + 3],
+        file[at + 4],
+        file[at + 5],
+        file[at + 6],
+        file[at + 7],
+    ]
+}
+
+// The bytes of record i, zeros past the last whole record.
+pub fn whole_record(file: &[u8], i: usize) -> [u8; 8]
+    ensures { λ x. ⌜ x ≡ wholeRecord (now (file .entry)) i ⌝ }
+{
+    if file.len() / 8 <= i {
+        return [0u8; 8];
+    }
+    bytes_at(file, i)
+}
+
+// The bytes read as a rule, whatever their kind.
+pub fn rule_of(r: [u8; 8]) -> Rule
+    ensures { λ x. ⌜ x ≡ ruleIn r ⌝ }
+{
+    Rule {
+        head: r[1],
+        size: r[2],
+        first: r[3],
+        second: r[4],
+    }
+}
+
+// The bytes read as a transition, whatever their kind.
+pub fn transition_of(r: [u8; 8]) -> Transition
+    ensures { λ x. ⌜ x ≡ transitionIn r ⌝ }
+{
+    Transition {
+        source: r[1],
+        letter: r[2],
+        target: r[3],
+    }
+}
+
+// What the bytes say, by their kind.
+pub fn record_of(r: [u8; 8]) -> Record
+    ensures { λ x. ⌜ saidBy x ≡ recordOf r ⌝ }
+{
+    if r[0] == RULE_KIND {
+        return Record::Rule(rule_of(r));
+    }
+    if r[0] == TRANSITION_KIND {
+        return Record::Transition(transition_of(r));
+    }
+    Record::Final(r[1])
+}

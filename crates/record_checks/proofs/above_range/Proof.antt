@@ -1,0 +1,14 @@
+-- `above_range` meets its contract: the body is the definition's text. Assumes nothing.
+use mathlib.Core.Path.{refl}
+use borrow.Author.Needs.{needs}
+use Rattle.plan_file.specs.Refusals.{aboveRange}
+use Rattle.record_checks.proofs.above_range.Statement.{statement}
+use Rattle.record_checks.proofs.above_range.Tie as tie
+
+returns : tie.Need-returns
+unfolding aboveRange
+returns c = refl
+
+pub above-range-spec : {M : Type 1} → statement M
+above-range-spec =
+    tie.close (tie.spec (λ c. search needs) (λ c. search needs) (λ c. search needs) (λ c. search needs) (λ c. search needs) returns)

@@ -1,0 +1,97 @@
+// Checks 3 to 7 of one record's bytes (document 01, "Numbers a call may refuse with"), each a test of its own.
+ghost use mathlib.Core.Path.{_≡_};
+ghost use Rattle.plan_file.specs.Refusals as refusals;
+use plan_file::FINAL_KIND;
+use plan_file::RULE_KIND;
+use plan_file::TRANSITION_KIND;
+
+const RULE_LIMIT: usize = 256;
+
+const TRANSITION_LIMIT: usize = 1024;
+
+const TERMINALS: u8 = 128;
+
+const NONTERMINALS: u8 = 64;
+
+const SYMBOL_BYTES: u8 = 192;
+
+const STATES: u8 = 8;
+
+// Check 3.
+pub fn kind_known(r: [u8; 8]) -> bool
+    ensures { λ x. ⌜ x ≡ refusals.kindKnown r ⌝ }
+{
+    (0 < r[0]) & (r[0] < 4)
+}
+
+// Check 4.
+pub fn above_range(r: [u8; 8]) -> bool
+    ensures { λ x. ⌜ x ≡ refusals.aboveRange r ⌝ }
+{
+    let kind = r[0];
+    let b1 = r[1];
+    let b2 = r[2];
+    let b3 = r[3];
+    ((kind == RULE_KIND)
+        & (((NONTERMINALS <= b1) | (2 < b2))
+            | (((0 < b2) & (SYMBOL_BYTES <= b3)) | ((1 < b2) & (SYMBOL_BYTES <= r[4])))))
+        | (((kind == TRANSITION_KIND) & (((STATES <= b1) | (TERMINALS <= b2)) | (STATES <= b3)))
+            | ((kind == FINAL_KIND) & (STATES <= b1)))
+}
+
+// Check 5.
+pub fn stray_byte(r: [u8; 8]) -> bool
+    ensures { λ x. ⌜ x ≡ refusals.strayByte r ⌝ }
+{
+    let kind = r[0];
+    let b2 = r[2];
+    let b3 = r[3];
+    let b4 = r[4];
+    let last = ((0 < r[5]) | (0 < r[6])) | (0 < r[7]);
+    ((kind == RULE_KIND) & ((((b2 < 1) & (0 < b3)) | ((b2 < 2) & (0 < b4))) | last))
+        | (((kind == TRANSITION_KIND) & ((0 < b4) | last))
+            | ((kind == FINAL_KIND) & ((((0 < b2) | (0 < b3)) | (0 < b4)) | last)))
+}
+
+// Check 6, of a record and the next: the last byte first, and each byte before it decides over those after it.
+pub fn rises(r: [u8; 8], s: [u8; 8]) -> bool
+    ensures { λ x. ⌜ x ≡ refusals.rises r s ⌝ }
+{
+    let mut less = r[7] < s[7];
+    let mut j: usize = 7;
+    while 0 < j {
+        j -= 1;
+        less = (r[j] < s[j]) | ((r[j] == s[j]) & less);
+    }
+    less
+}
+
+// Check 7, where so many rules and transitions stand before the record.
+pub fn over_limit(r: [u8; 8], rules: usize, transitions: usize) -> bool
+    ensures { λ x. ⌜ x ≡ refusals.overLimit r rules transitions ⌝ }
+{
+    ((r[0] == RULE_KIND) & (rules == RULE_LIMIT))
+        | ((r[0] == TRANSITION_KIND) & (transitions == TRANSITION_LIMIT))
+}
+
+// The lowest number, of 3 to 7, whose condition holds, or 0.
+pub fn lowest(a: bool, b: bool, c: bool, d: bool, e: bool) -> u64
+    ensures { λ x. ⌜ x ≡ refusals.lowest a b c d e ⌝ }
+{
+    if a {
+        return 3;
+    }
+    if b {
+        return 4;
+    }
+    if c {
+        return 5;
+    }
+    if d {
+        return 6;
+    }
+    if e {
+        return 7;
+    }
+    0
+}

@@ -1,0 +1,10 @@
+-- `rows::breaks` meets its contract: the tests are those of the definition. Assumes nothing.
+use borrow.Author.Needs.{needs}
+use Rattle.rows.proofs.breaks.Statement.{statement}
+use Rattle.rows.proofs.breaks.Tie as tie
+
+returns : tie.Need-returns
+returns c = rw (c .rejects .ensures)
+
+pub breaks-spec : {M : Type 1} → statement M
+breaks-spec = tie.close (tie.spec (λ c κs. search needs) returns)

@@ -1,0 +1,12 @@
+-- `rows::one_symbol` meets its contract: the fields are those of the definition. Assumes nothing.
+use mathlib.Core.Path.{refl}
+use Rattle.working_order.specs.Candidates.{sole}
+use Rattle.rows.proofs.one_symbol.Statement.{statement}
+use Rattle.rows.proofs.one_symbol.Tie as tie
+
+returns : tie.Need-returns
+unfolding sole
+returns c = refl
+
+pub one-symbol-spec : {M : Type 1} → statement M
+one-symbol-spec = tie.close (tie.spec returns)

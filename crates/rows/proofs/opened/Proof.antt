@@ -1,0 +1,13 @@
+-- `rows::opened` meets its contract: the fields are those of the definition. Assumes nothing.
+use mathlib.Core.Path.{refl}
+use borrow.Author.Needs.{needs}
+use Rattle.working_order.specs.Order.{born}
+use Rattle.rows.proofs.opened.Statement.{statement}
+use Rattle.rows.proofs.opened.Tie as tie
+
+returns : tie.Need-returns
+unfolding born
+returns c = refl
+
+pub opened-spec : {M : Type 1} → statement M
+opened-spec = tie.close (tie.spec (λ c. search needs) returns)

@@ -1,0 +1,63 @@
+-- A candidate formed at one place of a pass, from the rule and the two rows of that place. Definitions only. Assumes nothing.
+use mathlib.Core.Bool.{Bool, _&&_}
+use mathlib.Core.List.{List}
+use Prim.Native.Nat.{ℕ}
+use Rattle.relation.specs.Relation.{contained}
+use Rattle.relation.specs.Representation.{value}
+use Rattle.language.specs.Grammar.{Symbol, terminal, nonterminal, Body, empty, one, two, Rule}
+use Rattle.working_order.specs.Candidates.{sole}
+use Rattle.working_order.specs.Journal.{absent, liveOf}
+use Rattle.rows.specs.Base.{Row, Choice, Candidate, emptyBody, joined}
+use Rattle.rows.specs.Meanings.{letterIn}
+use Rattle.rows.specs.declared.Place.{Place}
+
+-- a live row of the candidate's nonterminal with a contained relation
+unfoldable pub isBelow : Candidate → Row → Bool
+isBelow c r = liveOf (c .head) r && contained (r .effect) (c .effect)
+
+-- the row, retired in pass k
+abbrev pub retiredIn : ℕ → Row → Row
+retiredIn k r =
+    record { head = r .head; rule = r .rule; effect = r .effect; left = r .left; right = r .right; len = r .len; birth = r .birth; retired = k }
+
+-- row i as a choice
+abbrev pub rowChoice : ℕ → Row → Choice
+rowChoice i r = record { effect = r .effect; pointer = i; len = r .len }
+
+-- a terminal is taken by its relation, a nonterminal by row i
+abbrev pub symbolChoice : List ℕ → Symbol → ℕ → Row → Choice
+symbolChoice letters (terminal c) i r = record { effect = value (letterIn letters c); pointer = absent; len = 1 }
+symbolChoice letters (nonterminal x) i r = rowChoice i r
+
+-- the two parts of a body; a part without a symbol is taken in one way, which nothing reads
+pub data Part : Type 0 where
+  none : Part
+  some : Symbol → Part
+
+abbrev pub leftPart : Body → Part
+leftPart empty = none
+leftPart (one s) = some s
+leftPart (two s t) = some s
+
+abbrev pub rightPart : Body → Part
+rightPart empty = none
+rightPart (one s) = none
+rightPart (two s t) = some t
+
+abbrev pub noChoice : Choice
+noChoice = record { effect = 0; pointer = absent; len = 0 }
+
+abbrev pub partChoice : List ℕ → Part → ℕ → Row → Choice
+partChoice letters none i r = noChoice
+partChoice letters (some s) i r = symbolChoice letters s i r
+
+-- in rule r of the nonterminal x, with a choice for each part of the body
+abbrev pub combined : ℕ → ℕ → Body → Choice → Choice → Candidate
+combined x r empty c d = emptyBody x r
+combined x r (one s) c d = sole x r c
+combined x r (two s t) c d = joined x r c d
+
+-- at a place, whose rule is x and whose rows are these
+abbrev pub formedBy : List ℕ → Rule → Place → Row → Row → Candidate
+formedBy letters x p left right =
+    combined (x .head) (p .rule) (x .body) (partChoice letters (leftPart (x .body)) (p .left) left) (partChoice letters (rightPart (x .body)) (p .right) right)

@@ -1,0 +1,235 @@
+// One row, one way to take a symbol, and one candidate of the working order, each by value. A row is eight numbers: head, rule, relation,
+// left, right, length, birth, retired. A rule is four: its head, its body's size and the bytes of its symbols.
+use relation::Relation;
+ghost use mathlib.Core.Path.{_≡_};
+ghost use Prim.Native.Nat.{_+_, _<_};
+ghost use Rattle.relation.specs.Relation.{contained};
+ghost use Rattle.plan_file.specs.Views.{symbolOf};
+ghost use Rattle.working_order.specs.Candidates.{sole};
+ghost use Rattle.working_order.specs.Journal.{capped, live};
+ghost use Rattle.working_order.specs.Order.{larger, born};
+ghost use Rattle.calls.specs.Rows.{relationIn, rowOf, entryOf};
+ghost use Rattle.rows.specs.Base.{emptyBody, joined, breaking};
+ghost use Rattle.rows.specs.Meanings.{candidateOf, choiceOf};
+ghost use Rattle.rows.specs.Forming.{isBelow, retiredIn, symbolChoice, formedBy};
+
+const HEAD: usize = 0;
+
+const RELATION: usize = 2;
+
+const LEN: usize = 5;
+
+const RETIRED: usize = 7;
+
+// A pointer that names no row, and the length that means this or more.
+const ABSENT: u64 = 65535;
+
+const TERMINALS: u8 = 128;
+
+// What would become a row.
+pub struct Candidate {
+    pub head: u8,
+    pub rule: u64,
+    pub relation: Relation,
+    pub left: u64,
+    pub right: u64,
+    pub len: u64,
+}
+
+// Where a candidate stands in a pass: its rule, and the rows of its two symbols.
+pub struct Place {
+    pub rule: usize,
+    pub left: usize,
+    pub right: usize,
+}
+
+// A nonterminal and a rule of it.
+struct Origin {
+    head: u8,
+    rule: u64,
+}
+
+// One way to take a symbol.
+struct Choice {
+    relation: Relation,
+    pointer: u64,
+    len: u64,
+}
+
+// ---- a row and a candidate
+
+fn relation_of(row: [u64; 8]) -> Relation
+    ensures { λ r. ⌜ r ≡ relationIn row ⌝ }
+{
+    Relation {
+        bits: row[RELATION],
+    }
+}
+
+// The row has not retired.
+pub fn live(row: [u64; 8]) -> bool
+    ensures { λ r. ⌜ r ≡ live (rowOf row) ⌝ }
+{
+    row[RETIRED] == 0
+}
+
+// The row is live, of the candidate's nonterminal, and its relation is contained in the candidate's.
+pub fn below(row: [u64; 8], candidate: Candidate) -> bool
+    ensures { λ r. ⌜ r ≡ isBelow (candidateOf candidate) (rowOf row) ⌝ }
+{
+    let held = relation_of(row);
+    let formed = candidate.relation;
+    (row[HEAD] == candidate.head as u64) & (row[RETIRED] == 0) & held.contained(formed)
+}
+
+// The row is live, of the candidate's nonterminal, and its relation is strictly larger.
+pub fn outgrown(row: [u64; 8], candidate: Candidate) -> bool
+    ensures { λ r. ⌜ r ≡ larger contained (candidateOf candidate) (rowOf row) ⌝ }
+{
+    let held = relation_of(row);
+    let formed = candidate.relation;
+    (row[HEAD] == candidate.head as u64)
+        & (row[RETIRED] == 0)
+        & (formed.contained(held) & !held.contained(formed))
+}
+
+// The row, retired in this pass.
+pub fn retired(row: [u64; 8], pass: u64) -> [u64; 8]
+    ensures { λ r. ⌜ rowOf r ≡ retiredIn pass (rowOf row) ⌝ }
+{
+    [row[0], row[1], row[2], row[3], row[4], row[5], row[6], pass]
+}
+
+// The row that the candidate becomes.
+pub fn opened(pass: u64, candidate: Candidate) -> [u64; 8]
+    ensures { λ r. ⌜ rowOf r ≡ born pass (candidateOf candidate) ⌝ }
+{
+    [
+        candidate.head as u64,
+        candidate.rule,
+        candidate.relation.bits,
+        candidate.left,
+        candidate.right,
+        candidate.len,
+        pass,
+        0,
+    ]
+}
+
+// The candidate is of the initial nonterminal, and rejects.
+pub fn breaks(finals: u8, candidate: Candidate) -> bool
+    ensures { λ r. ⌜ r ≡ breaking finals (candidateOf candidate) ⌝ }
+{
+    let formed = candidate.relation;
+    (candidate.head == 0) & formed.rejects(finals)
+}
+
+// Where to look first for a row with the candidate's relation.
+pub fn slot(candidate: Candidate) -> usize
+    ensures { λ r. ⌜ r < 36864 ⌝ }
+{
+    let formed = candidate.relation;
+    formed.digest() + 16 * candidate.head as usize
+}
+
+// ---- forming a candidate
+
+// A terminal is taken by its relation, a nonterminal by a row.
+fn taken(letters: &[u64; 128], symbol: u8, i: usize, row: [u64; 8]) -> Choice
+    ensures { λ r. ⌜ choiceOf r ≡ symbolChoice (now (letters .entry)) (symbolOf symbol) i (rowOf row) ⌝ }
+{
+    if symbol < TERMINALS {
+        return Choice {
+            relation: Relation {
+                bits: letters[symbol as usize],
+            },
+            pointer: ABSENT,
+            len: 1,
+        };
+    }
+    Choice {
+        relation: relation_of(row),
+        pointer: i as u64,
+        len: row[LEN],
+    }
+}
+
+// The sum, where 65,535 means that or more.
+fn cap_sum(a: u64, b: u64) -> u64
+    ensures { λ r. ⌜ r ≡ capped (a + b) ⌝ }
+{
+    if a < ABSENT {
+        if b < ABSENT - a {
+            return a + b;
+        }
+    }
+    ABSENT
+}
+
+fn empty_body(origin: Origin) -> Candidate
+    ensures { λ r. ⌜ candidateOf r ≡ emptyBody (origin .head) (origin .rule) ⌝ }
+{
+    Candidate {
+        head: origin.head,
+        rule: origin.rule,
+        relation: Relation::identity(),
+        left: ABSENT,
+        right: ABSENT,
+        len: 0,
+    }
+}
+
+fn one_symbol(origin: Origin, first: Choice) -> Candidate
+    ensures { λ r. ⌜ candidateOf r ≡ sole (origin .head) (origin .rule) (choiceOf first) ⌝ }
+{
+    let relation = first.relation;
+    Candidate {
+        head: origin.head,
+        rule: origin.rule,
+        relation,
+        left: first.pointer,
+        right: ABSENT,
+        len: first.len,
+    }
+}
+
+fn two_symbols(origin: Origin, first: Choice, second: Choice) -> Candidate
+    ensures { λ r. ⌜ candidateOf r ≡ joined (origin .head) (origin .rule) (choiceOf first) (choiceOf second) ⌝ }
+{
+    let left = first.relation;
+    let right = second.relation;
+    Candidate {
+        head: origin.head,
+        rule: origin.rule,
+        relation: left.compose(right),
+        left: first.pointer,
+        right: second.pointer,
+        len: cap_sum(first.len, second.len),
+    }
+}
+
+// The candidate of a place, whose rule and rows these are.
+pub fn formed(
+    letters: &[u64; 128],
+    rule: [u8; 4],
+    place: Place,
+    left: [u64; 8],
+    right: [u64; 8],
+) -> Candidate
+    ensures { λ r. ⌜ candidateOf r ≡ formedBy (now (letters .entry)) (entryOf rule) place (rowOf left) (rowOf right) ⌝ }
+{
+    let origin = Origin {
+        head: rule[0],
+        rule: place.rule as u64,
+    };
+    let size = rule[1];
+    if size == 0 {
+        return empty_body(origin);
+    }
+    let first = taken(letters, rule[2], place.left, left);
+    if size == 1 {
+        return one_symbol(origin, first);
+    }
+    let second = taken(letters, rule[3], place.right, right);
+    two_symbols(origin, first, second)
+}

@@ -1,0 +1,26 @@
+-- `unpruned::compose` is safe and ends: the measure is what is left of the range, nothing has to hold from turn to turn, and
+-- each need is found by `search`. Assumes nothing.
+use Prim.Native.Nat.{_-_}
+use borrow.Author.Needs.{needs}
+use Rattle.unpruned.proofs.compose.Statement.{statement}
+use Rattle.unpruned.proofs.compose.Tie as tie
+
+abbrev Inv-loop : tie.InvT-loop
+Inv-loop x y relation₀ i₀ relation i = Unit {0}
+
+abbrev μ-loop : tie.MeasureT-loop
+μ-loop x y relation₀ i₀ relation i = 64 - i
+
+pub compose-spec : {M : Type 1} → statement M
+compose-spec =
+    tie.close
+    (tie.spec
+    Inv-loop
+    μ-loop
+    (λ c. search needs)
+    (λ c κs. search needs)
+    (λ c κs. search needs)
+    (λ c. search needs)
+    (λ c. search needs)
+    (λ c. search needs)
+    (λ c. search needs))

@@ -1,0 +1,27 @@
+-- `unpruned::linked` is safe and ends: the measure is what is left of the range, nothing has to hold from turn to turn, and
+-- each need is found by `search`. Assumes nothing.
+use Prim.Native.Nat.{_-_}
+use borrow.Author.Needs.{needs}
+use Rattle.unpruned.proofs.linked.Statement.{statement}
+use Rattle.unpruned.proofs.linked.Tie as tie
+
+abbrev Inv-loop : tie.InvT-loop
+Inv-loop x y a c b₀ b = Unit {0}
+
+abbrev μ-loop : tie.MeasureT-loop
+μ-loop x y a c b₀ b = 8 - b
+
+pub linked-spec : {M : Type 1} → statement M
+linked-spec =
+    tie.close
+    (tie.spec
+    Inv-loop
+    μ-loop
+    (λ c. search needs)
+    (λ c κs. search needs)
+    (λ c κs. search needs)
+    (λ c. search needs)
+    (λ c. search needs)
+    (λ c. search needs)
+    (λ c. search needs)
+    (λ c. search needs))

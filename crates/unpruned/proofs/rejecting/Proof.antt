@@ -1,0 +1,28 @@
+-- `unpruned::rejecting` is safe and ends: the measure is what is left of the range, nothing has to hold from turn to turn, and
+-- each need is found by `search`. Assumes nothing.
+use Prim.Native.Nat.{_-_}
+use borrow.Author.Needs.{needs}
+use Rattle.unpruned.proofs.rejecting.Statement.{statement}
+use Rattle.unpruned.proofs.rejecting.Tie as tie
+
+abbrev Inv-loop : tie.InvT-loop
+Inv-loop file relation r₀ r = Unit {0}
+
+abbrev μ-loop : tie.MeasureT-loop
+μ-loop file relation r₀ r = 24 - r
+
+pub rejecting-spec : {M : Type 1} → statement M
+rejecting-spec =
+    tie.close
+    (tie.spec
+    Inv-loop
+    μ-loop
+    (λ c. search needs)
+    (λ c κs. search needs)
+    (λ c κs. search needs)
+    (λ c κs. search needs)
+    (λ c. search needs)
+    (λ c. search needs)
+    (λ c. search needs)
+    (λ c. search needs)
+    (λ c. search needs))

@@ -1,0 +1,29 @@
+-- `unpruned::word` is safe and ends: the measure is what is left of the range, nothing has to hold from turn to turn, and
+-- each need is found by `search`. Assumes nothing.
+use Prim.Native.Nat.{_-_}
+use borrow.Author.Needs.{needs}
+use Rattle.unpruned.proofs.word.Statement.{statement}
+use Rattle.unpruned.proofs.word.Tie as tie
+
+abbrev Inv-loop : tie.InvT-loop
+Inv-loop file buffer size relation₀ i₀ relation i = Unit {0}
+
+abbrev μ-loop : tie.MeasureT-loop
+μ-loop file buffer size relation₀ i₀ relation i = size - i
+
+pub word-spec : {M : Type 1} → statement M
+word-spec =
+    tie.close
+    (tie.spec
+    Inv-loop
+    μ-loop
+    (λ c κs. search needs)
+    (λ c. search needs)
+    (λ c. search needs)
+    (λ c κs. search needs)
+    (λ c κs. search needs)
+    (λ c κs. search needs)
+    (λ c. search needs)
+    (λ c. search needs)
+    (λ c. search needs)
+    (λ c. search needs))

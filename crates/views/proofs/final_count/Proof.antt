@@ -1,0 +1,10 @@
+-- The count of all whole records. Assumes nothing.
+use borrow.Author.Needs.{needs}
+use Rattle.views.proofs.final_count.Statement.{statement}
+use Rattle.views.proofs.final_count.Tie as tie
+
+returns : tie.Need-returns
+returns c = c .count-of .ensures
+
+pub final-count-spec : {M : Type 1} → statement M
+final-count-spec = tie.close (tie.spec (λ c κs. search needs) returns)

@@ -1,0 +1,10 @@
+-- The count of all whole records. Assumes nothing.
+use borrow.Author.Needs.{needs}
+use Rattle.views.proofs.rule_count.Statement.{statement}
+use Rattle.views.proofs.rule_count.Tie as tie
+
+returns : tie.Need-returns
+returns c = c .count-of .ensures
+
+pub rule-count-spec : {M : Type 1} → statement M
+rule-count-spec = tie.close (tie.spec (λ c κs. search needs) returns)

@@ -1,0 +1,93 @@
+/*
+ * Checks a plan file as the check program of document 01 does: 1,024 rows, a budget of 1,000,000, a run buffer of 4,096 bytes.
+ *
+ *     cc -Iinclude examples/c/check.c target/staticlib/libbolfrega.a -o check
+ *     ./check samples/plan-b.plan
+ */
+#include "bolfrega.h"
+
+#include <inttypes.h>
+#include <stdio.h>
+#include <stdlib.h>
+
+#define ROWS 1024
+#define BUDGET 1000000
+#define ROOM 4096
+
+/* Reads all of a stream. Returns memory to be freed, or null if it can't be read. */
+static uint8_t *read_all(FILE *stream, size_t *length)
+{
+    size_t room = 16384;
+    uint8_t *bytes = malloc(room);
+    *length = 0;
+    while (bytes != NULL) {
+        *length += fread(bytes + *length, 1, room - *length, stream);
+        if (*length < room)
+            break;
+        room *= 2;
+        uint8_t *more = realloc(bytes, room);
+        if (more == NULL)
+            free(bytes);
+        bytes = more;
+    }
+    if (bytes != NULL && ferror(stream)) {
+        free(bytes);
+        bytes = NULL;
+    }
+    return bytes;
+}
+
+/* Line 3: the step codes, or that the run is not in the buffer. */
+static void print_run(const uint64_t *details, const uint8_t *run)
+{
+    if (details[BOLFREGA_REFUSED] != 0) {
+        printf("refused %" PRIu64 "\n", details[BOLFREGA_REFUSED]);
+        return;
+    }
+    for (uint64_t i = 0; i < details[BOLFREGA_LENGTH]; i++)
+        printf(i == 0 ? "%u" : " %u", (unsigned)run[i]);
+    printf("\n");
+}
+
+/* The lines of the check program. */
+static void print_answer(uint64_t code, const uint64_t *details, const uint8_t *run)
+{
+    static const char *const verdicts[] = {"holds", "broken", "full", "spent"};
+    if (code < BOLFREGA_HOLDS || code > BOLFREGA_SPENT) {
+        printf("refused %" PRIu64 "\n", code);
+        return;
+    }
+    printf("%s %" PRIu64 " %" PRIu64 " %" PRIu64 "\n", verdicts[code - BOLFREGA_HOLDS], details[BOLFREGA_JOINS], details[BOLFREGA_USED],
+           details[BOLFREGA_PASS]);
+    if (code == BOLFREGA_BROKEN) {
+        printf("%" PRIu64 " %" PRIu64 " %" PRIu64 "\n", details[BOLFREGA_ROW], details[BOLFREGA_PAIRS], details[BOLFREGA_LENGTH]);
+        print_run(details, run);
+    }
+}
+
+int main(int argc, char **argv)
+{
+    if (argc != 2) {
+        fprintf(stderr, "usage: check FILE\n");
+        return 2;
+    }
+    FILE *stream = fopen(argv[1], "rb");
+    if (stream == NULL) {
+        perror(argv[1]);
+        return 2;
+    }
+    size_t length;
+    uint8_t *file = read_all(stream, &length);
+    fclose(stream);
+    if (file == NULL) {
+        fprintf(stderr, "check: cannot read %s\n", argv[1]);
+        return 2;
+    }
+
+    uint64_t details[8];
+    uint8_t run[ROOM];
+    uint64_t code = bolfrega_check(file, length, ROWS, BUDGET, details, run, sizeof run);
+    free(file);
+    print_answer(code, details, run);
+    return 0;
+}

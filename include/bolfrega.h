@@ -1,0 +1,102 @@
+/*
+ * Bolfrega: checks measurement plans against order sheets.
+ *
+ * The functions of libbolfrega.a, which `rt staticlib bolfrega` proves and writes to target/staticlib. Each is proved to give the answer
+ * that document 01 settles, for every input. They keep no state, allocate nothing and call nothing but memset, so threads may call them
+ * at once.
+ * The archive is for x86-64 Linux; link it alone: cc program.c -Iinclude target/staticlib/libbolfrega.a
+ *
+ * A file is a sequence of 8-byte records: a plan's rules, then the moves and finishing stages of its order sheet. A run is a sequence of
+ * step codes, one to a byte.
+ *
+ * What every call asks of its caller:
+ * - A pointer and the length after it are those of one area of memory. With length 0 the pointer may be null.
+ * - `record` and `details` are not null.
+ * - `record`, `details` and `buffer` overlap neither each other nor the file or the run.
+ *
+ * Numbers that a call refuses with:
+ *    1  The file's length is no multiple of 8.
+ *    2  The file has more than 1,288 records.
+ *    3  A record's kind is not 1, 2 or 3.
+ *    4  A used byte is above its range.
+ *    5  An unused byte is not 0.
+ *    6  A record does not exceed the one before it.
+ *    7  A record is the 257th rule or the 1,025th move.
+ *    8  The journal has no row or more than 4,096 rows.
+ *   10  The run to be written has 65,535 or more steps, or more than the buffer has bytes.
+ *   11  A run given to be judged has more than 65,534 steps or a code above 127.
+ * 1 and 2 are tested first, then 3 to 7 record by record: the earliest record wins, and within it the lowest number.
+ */
+#ifndef BOLFREGA_H
+#define BOLFREGA_H
+
+#include <stddef.h>
+#include <stdint.h>
+
+#ifdef __cplusplus
+extern "C" {
+#endif
+
+/* What bolfrega_check returns, unless it refuses. */
+#define BOLFREGA_HOLDS 100  /* the sheet accepts every run of the plan */
+#define BOLFREGA_BROKEN 101 /* the plan has a run that the sheet turns away */
+#define BOLFREGA_FULL 102   /* the journal had no row left */
+#define BOLFREGA_SPENT 103  /* the joins reached the budget */
+
+/* What bolfrega_judge returns, unless it refuses. */
+#define BOLFREGA_ACCEPTED 110
+#define BOLFREGA_TURNED_AWAY 111
+
+/* The places of bolfrega_check's details. */
+#define BOLFREGA_RECORD 0  /* the record that is refused */
+#define BOLFREGA_JOINS 1   /* candidates formed */
+#define BOLFREGA_USED 2    /* journal rows used */
+#define BOLFREGA_PASS 3    /* the pass in which the check ended, from 1 */
+#define BOLFREGA_ROW 4     /* the row of a broken check */
+#define BOLFREGA_PAIRS 5   /* the number of stage pairs in that row's effect */
+#define BOLFREGA_LENGTH 6  /* the length of its run; 65,535 means that or more */
+#define BOLFREGA_REFUSED 7 /* 0 if that run is in the buffer, else 10 */
+
+/* The version of this interface: 1. */
+uint64_t bolfrega_version(void);
+
+/*
+ * Reads a file.
+ *
+ * Returns 0 if nothing refuses the file, else the number that does, 1 to 7.
+ * Sets *record to the number of the record at fault, from 0, if it returns 3 to 7, and else to 0.
+ */
+uint64_t bolfrega_refusal(const uint8_t *file, size_t file_length, uint64_t *record);
+
+/*
+ * Judges a run by the order sheet in a file.
+ *
+ * Returns 1 to 7 if the file is refused; else 11 if the run is refused; else BOLFREGA_ACCEPTED if the sheet has a path on the run from
+ * stage 0 to a finishing stage, and BOLFREGA_TURNED_AWAY if it has none.
+ * Sets *record as bolfrega_refusal does: to 0 if it returns anything but 3 to 7.
+ */
+uint64_t bolfrega_judge(const uint8_t *file, size_t file_length, const uint8_t *run, size_t run_length, uint64_t *record);
+
+/*
+ * Checks a file's plan against its order sheet, with a journal of `rows` rows and a budget of `budget` joins.
+ *
+ * It keeps its journal (256 KiB) and its tables (about 365 KiB) on the stack, and writing a run takes up to 512 KiB more: a thread that
+ * calls it needs a stack of 1.5 MiB to be on the safe side. (The main thread of a Linux program has 8 MiB.)
+ *
+ * Returns, and sets all eight details:
+ * - 1 to 7 if the file is refused; else 8 if `rows` is 0 or above 4,096. The record is that of bolfrega_refusal (0 for 1, 2 and 8), and
+ *   the other details are 0.
+ * - BOLFREGA_HOLDS, BOLFREGA_FULL or BOLFREGA_SPENT. Joins, used and pass are those of the check, the row is 65,535, the rest is 0.
+ * - BOLFREGA_BROKEN. Joins, used, pass, row, pairs and length are those of the check, the record is 0. If the run has at most 65,534
+ *   steps and fits into the buffer, refused is 0 and the run is the first `length` bytes of the buffer. Else refused is 10.
+ *
+ * Every byte of the buffer keeps its value but those of a run that is written.
+ */
+uint64_t bolfrega_check(const uint8_t *file, size_t file_length, size_t rows, uint64_t budget, uint64_t details[8], uint8_t *buffer,
+                        size_t buffer_length);
+
+#ifdef __cplusplus
+}
+#endif
+
+#endif

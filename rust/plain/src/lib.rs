@@ -1,0 +1,76 @@
+//! Document 01 in plain Rust: reading, judging, the check in its working order, run writing.
+//!
+//! It is written from the paper alone and shares nothing with the proved library. The tests of the crate `bolfrega` compare
+//! the two, answer for answer, and the benchmark measures them side by side. Nothing else uses it.
+//!
+//! ```
+//! // "0 gives nothing", and no stage is finishing: the empty run is turned away.
+//! let file = [1, 0, 0, 0, 0, 0, 0, 0];
+//! let mut buffer = [0; 16];
+//! let checked = plain::check(&file, 1_024, 1_000_000, &mut buffer).unwrap();
+//! assert_eq!(checked.answer.verdict, plain::Verdict::Broken);
+//! assert_eq!(checked.broken.unwrap().pairs, 8);
+//! ```
+
+#![forbid(unsafe_code)]
+
+mod effect;
+mod file;
+mod judging;
+pub mod making;
+mod order;
+mod writing;
+
+pub use effect::Effect;
+pub use file::{read, Body, Plan, Refusal, Rule, Symbol};
+pub use judging::judge;
+pub use order::{search, Answer, Row, Search, Verdict, ABSENT};
+pub use writing::write_run;
+
+/// The most rows that a journal may have.
+pub const MOST_ROWS: usize = 4_096;
+
+/// What a check of a file gives.
+#[derive(Clone, Copy, Debug, PartialEq, Eq)]
+pub struct Checked {
+    pub answer: Answer,
+    /// What a broken answer shows; `None` for the other verdicts.
+    pub broken: Option<Broken>,
+}
+
+/// The row of a broken answer, and what became of its run.
+#[derive(Clone, Copy, Debug, PartialEq, Eq)]
+pub struct Broken {
+    pub row: u16,
+    pub pairs: u32,
+    /// The row's length field: 65,535 means that or more.
+    pub length: u16,
+    /// The number of bytes written at the front of the buffer, or refusal 10.
+    pub written: Result<usize, Refusal>,
+}
+
+/// Checks a file with a journal of `rows` rows, and writes the run of a broken answer to `buffer`.
+pub fn check(file: &[u8], rows: usize, budget: u64, buffer: &mut [u8]) -> Result<Checked, Refusal> {
+    let plan = read(file)?;
+    if rows == 0 || rows > MOST_ROWS {
+        return Err(Refusal::new(8));
+    }
+    let found = search(&plan, rows, budget);
+    let broken = (found.answer.verdict == Verdict::Broken).then(|| show(&plan, &found, buffer));
+    Ok(Checked {
+        answer: found.answer,
+        broken,
+    })
+}
+
+/// What is shown of a broken answer's row.
+fn show(plan: &Plan, found: &Search, buffer: &mut [u8]) -> Broken {
+    let row = found.answer.row;
+    let kept = &found.rows[usize::from(row)];
+    Broken {
+        row,
+        pairs: kept.effect.pairs(),
+        length: kept.length,
+        written: write_run(plan, &found.rows, row, buffer),
+    }
+}

@@ -1,0 +1,54 @@
+//! The cases of document 01, so that the plain implementation is tested where there is no proved library.
+
+use plain::{check, judge, Answer, Verdict, ABSENT};
+
+const PLAN_A: &[u8] = include_bytes!("../../../samples/plan-a.plan");
+const PLAN_B: &[u8] = include_bytes!("../../../samples/plan-b.plan");
+const ONLY_NOTHING: [u8; 8] = [1, 0, 0, 0, 0, 0, 0, 0];
+
+fn answer(file: &[u8], rows: usize, budget: u64) -> Answer {
+    check(file, rows, budget, &mut [0; 64]).unwrap().answer
+}
+
+fn said(verdict: Verdict, joins: u64, used: usize, pass: u16) -> Answer {
+    Answer {
+        verdict,
+        joins,
+        used,
+        pass,
+        row: if verdict == Verdict::Broken { used as u16 - 1 } else { ABSENT },
+    }
+}
+
+#[test]
+fn plan_a() {
+    assert_eq!(answer(PLAN_A, 1_024, 1_000_000), said(Verdict::Holds, 12, 4, 4));
+    assert_eq!(answer(PLAN_A, 1_024, 11), said(Verdict::Spent, 11, 4, 4));
+    assert_eq!(answer(PLAN_A, 1_024, 12), said(Verdict::Holds, 12, 4, 4));
+    assert_eq!(answer(PLAN_A, 3, 1_000_000), said(Verdict::Full, 7, 3, 3));
+    assert_eq!(answer(PLAN_A, 4, 1_000_000), said(Verdict::Holds, 12, 4, 4));
+}
+
+#[test]
+fn plan_b() {
+    let mut buffer = [9; 8];
+    let checked = check(PLAN_B, 1_024, 1_000_000, &mut buffer).unwrap();
+    assert_eq!(checked.answer, said(Verdict::Broken, 12, 7, 4));
+    let broken = checked.broken.unwrap();
+    assert_eq!((broken.row, broken.pairs, broken.length, broken.written), (6, 0, 2, Ok(2)));
+    assert_eq!(buffer, [1, 3, 9, 9, 9, 9, 9, 9]);
+}
+
+#[test]
+fn small_files() {
+    assert_eq!(answer(&[], 1, 0), said(Verdict::Holds, 0, 0, 1));
+    assert_eq!(answer(&ONLY_NOTHING, 1_024, 1_000_000), said(Verdict::Broken, 1, 1, 1));
+    let finishing = [ONLY_NOTHING, [3, 0, 0, 0, 0, 0, 0, 0]].concat();
+    assert_eq!(answer(&finishing, 1_024, 1_000_000), said(Verdict::Holds, 2, 1, 2));
+}
+
+#[test]
+fn runs_on_sheet_s() {
+    assert_eq!(judge(PLAN_A, &[1, 3]), Ok(false));
+    assert_eq!(judge(PLAN_A, &[1, 2, 3]), Ok(true));
+}

@@ -1,0 +1,204 @@
+//! Checks measurement plans against order sheets.
+//!
+//! A *plan* is a context-free grammar of procedures, an *order sheet* a finite automaton over the same step codes. Both stand in one
+//! file of 8-byte records. [`check`] says whether the sheet accepts every run of the plan, and if not it shows a run that is turned
+//! away. The work is done by a library that is proved: each call is proved to give the answer that document 01 settles, for every
+//! input. This crate only brings its answers into Rust's types. It never panics on an input, however damaged.
+//!
+//! ```
+//! use bolfrega::{check, Verdict};
+//!
+//! // Plan B of document 01 with its sheet S: the plan lets an index row (code 2) be left out.
+//! let file = [
+//!     [1, 0, 2, 129, 3, 0, 0, 0], // 0 gives (procedure 1) 3
+//!     [1, 1, 0, 0, 0, 0, 0, 0],   // 1 gives nothing
+//!     [1, 1, 2, 1, 130, 0, 0, 0], // 1 gives 1 (procedure 2)
+//!     [1, 2, 1, 129, 0, 0, 0, 0], // 2 gives (procedure 1)
+//!     [1, 2, 2, 2, 129, 0, 0, 0], // 2 gives 2 (procedure 1)
+//!     [2, 0, 1, 1, 0, 0, 0, 0],   // from stage 0 on code 1 to stage 1
+//!     [2, 0, 3, 2, 0, 0, 0, 0],   // from stage 0 on code 3 to stage 2
+//!     [2, 1, 2, 0, 0, 0, 0, 0],   // from stage 1 on code 2 to stage 0
+//!     [3, 2, 0, 0, 0, 0, 0, 0],   // stage 2 is finishing
+//! ]
+//! .concat();
+//!
+//! let mut buffer = [0; 4_096];
+//! let answer = check(&file, 1_024, 1_000_000, &mut buffer)?;
+//! assert_eq!((answer.joins, answer.used, answer.pass), (12, 7, 4));
+//! let Verdict::Broken(broken) = answer.verdict else { panic!("plan B has a run that is turned away") };
+//! assert_eq!(broken.run, Ok(&[1, 3][..]));
+//! # Ok::<(), bolfrega::Refusal>(())
+//! ```
+//!
+//! # Linking
+//!
+//! The build links `libbolfrega.a` from the folder in `BOLFREGA_LIB_DIR`, or from `../target/staticlib`, where
+//! `rt staticlib bolfrega` leaves it. The archive is for x86-64 Linux.
+//!
+//! # Stack
+//!
+//! [`check`] keeps its journal (256 KiB) and its tables (about 365 KiB) on the stack, and allocates nothing. Writing a run takes up to
+//! 512 KiB more. A thread that calls it needs 1.5 MiB of stack to be on the safe side; Rust's threads have 2 MiB unless told otherwise.
+
+#![deny(unsafe_code)]
+#![warn(missing_docs)]
+
+pub mod raw;
+mod refusal;
+
+pub use refusal::Refusal;
+
+/// The most rows that a check's journal may have.
+pub const MOST_ROWS: usize = 4_096;
+
+/// Whether a sheet accepts a run.
+#[derive(Clone, Copy, Debug, PartialEq, Eq, Hash)]
+pub enum Judgement {
+    /// The sheet has a path on the run from stage 0 to a finishing stage.
+    Accepted,
+    /// The sheet has no such path.
+    TurnedAway,
+}
+
+/// What a check says: the verdict, and how far the check went.
+#[derive(Clone, Copy, Debug, PartialEq, Eq, Hash)]
+pub struct Answer<'b> {
+    /// How the check ended.
+    pub verdict: Verdict<'b>,
+    /// The candidates formed.
+    pub joins: u64,
+    /// The journal rows used.
+    pub used: u64,
+    /// The pass in which the check ended, from 1.
+    pub pass: u64,
+}
+
+/// How a check ends.
+#[derive(Clone, Copy, Debug, PartialEq, Eq, Hash)]
+pub enum Verdict<'b> {
+    /// The sheet accepts every run of the plan.
+    Holds,
+    /// The plan has a run that the sheet turns away, and this one is shown.
+    Broken(Broken<'b>),
+    /// The journal had no row left. With more rows the check may come to a verdict.
+    Full,
+    /// The joins reached the budget. With a larger one the check may come to a verdict.
+    Spent,
+}
+
+/// The journal row at which a check was broken, and its run.
+#[derive(Clone, Copy, Debug, PartialEq, Eq, Hash)]
+pub struct Broken<'b> {
+    /// The row's number.
+    pub row: u64,
+    /// The number of stage pairs in the row's effect.
+    pub pairs: u64,
+    /// The run's length; 65,535 means that or more.
+    pub length: u64,
+    /// The run's step codes, at the front of the buffer that was lent; or [`Refusal::Room`], and the buffer is unchanged.
+    pub run: Result<&'b [u8], Refusal>,
+}
+
+/// The version of the library's interface.
+///
+/// ```
+/// assert_eq!(bolfrega::version(), 1);
+/// ```
+pub fn version() -> u64 {
+    raw::version()
+}
+
+/// Reads a file, and says why it is refused if it is: 1 to 7.
+///
+/// ```
+/// use bolfrega::{refusal, Refusal};
+///
+/// assert_eq!(refusal(&[]), Ok(()));
+/// assert_eq!(refusal(&[3, 0, 0]), Err(Refusal::Length));
+/// // The second record does not exceed the first.
+/// let twice = [3, 0, 0, 0, 0, 0, 0, 0, 3, 0, 0, 0, 0, 0, 0, 0];
+/// assert_eq!(refusal(&twice), Err(Refusal::Order { record: 1 }));
+/// ```
+pub fn refusal(file: &[u8]) -> Result<(), Refusal> {
+    let mut record = 0;
+    match raw::refusal(file, &mut record) {
+        0 => Ok(()),
+        number => Err(refused(number, record)),
+    }
+}
+
+/// Judges one run by the sheet in a file. A run is a slice of step codes, one to a byte.
+///
+/// It refuses a file with 1 to 7, and then a run with 11.
+///
+/// ```
+/// use bolfrega::{judge, Judgement, Refusal};
+///
+/// // From stage 0 on code 5 to stage 1, which is finishing.
+/// let file = [2, 0, 5, 1, 0, 0, 0, 0, 3, 1, 0, 0, 0, 0, 0, 0];
+/// assert_eq!(judge(&file, &[5]), Ok(Judgement::Accepted));
+/// assert_eq!(judge(&file, &[5, 5]), Ok(Judgement::TurnedAway));
+/// assert_eq!(judge(&file, &[128]), Err(Refusal::Run));
+/// ```
+pub fn judge(file: &[u8], run: &[u8]) -> Result<Judgement, Refusal> {
+    let mut record = 0;
+    match raw::judge(file, run, &mut record) {
+        110 => Ok(Judgement::Accepted),
+        111 => Ok(Judgement::TurnedAway),
+        number => Err(refused(number, record)),
+    }
+}
+
+/// Checks a file's plan against its sheet, with a journal of `rows` rows and at most `budget` joins.
+///
+/// The run of a broken answer is written to the front of `buffer`; all other bytes of `buffer` keep their values, and so do all of them
+/// with any other answer and with a refusal. It refuses a file with 1 to 7, and then with 8 a number of rows that is 0 or above
+/// [`MOST_ROWS`]. More rows and a larger budget never change an answer that is `Holds` or `Broken`.
+///
+/// It keeps about 620 KiB on the stack ([see above](crate#stack)).
+///
+/// ```
+/// use bolfrega::{check, Refusal, Verdict};
+///
+/// // "Procedure 0 gives nothing", and stage 0 is finishing: the one run, the empty one, is accepted.
+/// let file = [1, 0, 0, 0, 0, 0, 0, 0, 3, 0, 0, 0, 0, 0, 0, 0];
+/// let answer = check(&file, 1_024, 1_000_000, &mut [])?;
+/// assert_eq!(answer.verdict, Verdict::Holds);
+/// assert_eq!((answer.joins, answer.used, answer.pass), (2, 1, 2));
+///
+/// assert_eq!(check(&file, 1_024, 1, &mut [])?.verdict, Verdict::Spent);
+/// assert_eq!(check(&file, 0, 1_000_000, &mut []), Err(Refusal::Journal));
+/// # Ok::<(), Refusal>(())
+/// ```
+pub fn check<'b>(file: &[u8], rows: usize, budget: u64, buffer: &'b mut [u8]) -> Result<Answer<'b>, Refusal> {
+    let mut details = [0; 8];
+    let code = raw::check(file, rows, budget, &mut details, buffer);
+    let [record, joins, used, pass, ..] = details;
+    let verdict = match code {
+        100 => Verdict::Holds,
+        101 => Verdict::Broken(broken(details, buffer)),
+        102 => Verdict::Full,
+        103 => Verdict::Spent,
+        number => return Err(refused(number, record)),
+    };
+    Ok(Answer {
+        verdict,
+        joins,
+        used,
+        pass,
+    })
+}
+
+/// What a broken answer shows; its run is at the front of the buffer if it was written.
+fn broken([.., row, pairs, length, number]: raw::Details, buffer: &[u8]) -> Broken<'_> {
+    let run = match number {
+        0 => Ok(&buffer[..length as usize]),
+        _ => Err(refused(number, 0)),
+    };
+    Broken { row, pairs, length, run }
+}
+
+/// The refusal with a number that the library gave.
+fn refused(number: u64, record: u64) -> Refusal {
+    Refusal::from_number(number, record).expect("the library's contract has no other number")
+}

@@ -1,0 +1,55 @@
+//! The C functions of the static library, one to one, on slices in the place of pointers. This is the only module with `unsafe` in it.
+//!
+//! The functions at the crate's root say the same with Rust's types; these are for whoever wants the plain numbers. What each returns is
+//! in `include/bolfrega.h`.
+//!
+//! A slice goes over as two arguments, its pointer and its length in bytes. Rust's pointer of an empty slice points nowhere, which is
+//! fine: the library reads and writes nothing through it. `&mut` keeps what is written apart from all else, as the library asks.
+
+#![allow(unsafe_code)]
+
+/// What a check fills in: record, joins, used, pass, row, pairs, length, refused.
+pub type Details = [u64; 8];
+
+mod c {
+    use super::Details;
+
+    unsafe extern "C" {
+        pub safe fn bolfrega_version() -> u64;
+        pub fn bolfrega_refusal(file: *const u8, file_length: usize, record: *mut u64) -> u64;
+        pub fn bolfrega_judge(file: *const u8, file_length: usize, run: *const u8, run_length: usize, record: *mut u64) -> u64;
+        pub fn bolfrega_check(
+            file: *const u8,
+            file_length: usize,
+            rows: usize,
+            budget: u64,
+            details: *mut Details,
+            buffer: *mut u8,
+            buffer_length: usize,
+        ) -> u64;
+    }
+}
+
+/// The version of the interface.
+pub fn version() -> u64 {
+    c::bolfrega_version()
+}
+
+/// The number that refuses the file, or 0; `record` becomes the record's number.
+pub fn refusal(file: &[u8], record: &mut u64) -> u64 {
+    // SAFETY: the pointer and the length are those of one slice, and `record` is lent to this call alone.
+    unsafe { c::bolfrega_refusal(file.as_ptr(), file.len(), record) }
+}
+
+/// 110, 111 or the number of a refusal; `record` becomes the record's number.
+pub fn judge(file: &[u8], run: &[u8], record: &mut u64) -> u64 {
+    // SAFETY: each pointer and length are those of one slice, and `record` is lent to this call alone.
+    unsafe { c::bolfrega_judge(file.as_ptr(), file.len(), run.as_ptr(), run.len(), record) }
+}
+
+/// 100 to 103 or the number of a refusal; `details` are filled in, and the run of a broken answer is written to `buffer`.
+pub fn check(file: &[u8], rows: usize, budget: u64, details: &mut Details, buffer: &mut [u8]) -> u64 {
+    let (pointer, length) = (buffer.as_mut_ptr(), buffer.len());
+    // SAFETY: each pointer and length are those of one slice, and `details` and `buffer` are lent to this call alone.
+    unsafe { c::bolfrega_check(file.as_ptr(), file.len(), rows, budget, details, pointer, length) }
+}

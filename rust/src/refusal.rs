@@ -1,0 +1,117 @@
+//! The numbers that a call refuses with.
+
+use std::error::Error;
+use std::fmt;
+
+/// Why a call refused. Each case is one of document 01's numbers; 3 to 7 name the first record at fault, counted from 0.
+///
+/// The numbers 9, 12 and above belong to calls that this library doesn't have.
+///
+/// ```
+/// use bolfrega::Refusal;
+///
+/// // Record 0 is a rule of procedure 64, and the last procedure is 63.
+/// let refused = bolfrega::refusal(&[1, 64, 0, 0, 0, 0, 0, 0]).unwrap_err();
+/// assert_eq!(refused, Refusal::AboveRange { record: 0 });
+/// assert_eq!(refused.to_string(), "record 0: a used byte is above its range (4)");
+/// assert_eq!((refused.number(), refused.record()), (4, Some(0)));
+/// ```
+#[derive(Clone, Copy, Debug, PartialEq, Eq, Hash)]
+#[non_exhaustive]
+#[allow(missing_docs)] // the field `record` is the same in each case, as said above
+pub enum Refusal {
+    /// 1: the file's length is no multiple of 8.
+    Length,
+    /// 2: the file has more than 1,288 records.
+    Records,
+    /// 3: a record's kind is not 1, 2 or 3.
+    Kind { record: u64 },
+    /// 4: a used byte is above its range.
+    AboveRange { record: u64 },
+    /// 5: an unused byte is not 0.
+    Unused { record: u64 },
+    /// 6: a record does not exceed the one before it.
+    Order { record: u64 },
+    /// 7: a record is the 257th rule or the 1,025th move.
+    Count { record: u64 },
+    /// 8: the journal has no row or more than 4,096 rows.
+    Journal,
+    /// 10: the run to be written has 65,535 or more steps, or more than the buffer has bytes.
+    Room,
+    /// 11: a run given to be judged has more than 65,534 steps or a code above 127.
+    Run,
+}
+
+impl Refusal {
+    /// Document 01's number.
+    pub fn number(self) -> u64 {
+        match self {
+            Refusal::Length => 1,
+            Refusal::Records => 2,
+            Refusal::Kind { .. } => 3,
+            Refusal::AboveRange { .. } => 4,
+            Refusal::Unused { .. } => 5,
+            Refusal::Order { .. } => 6,
+            Refusal::Count { .. } => 7,
+            Refusal::Journal => 8,
+            Refusal::Room => 10,
+            Refusal::Run => 11,
+        }
+    }
+
+    /// The record at fault, for 3 to 7.
+    pub fn record(self) -> Option<u64> {
+        match self {
+            Refusal::Kind { record }
+            | Refusal::AboveRange { record }
+            | Refusal::Unused { record }
+            | Refusal::Order { record }
+            | Refusal::Count { record } => Some(record),
+            Refusal::Length | Refusal::Records | Refusal::Journal | Refusal::Room | Refusal::Run => None,
+        }
+    }
+
+    /// The refusal with a number, if it is one that the library gives.
+    pub(crate) fn from_number(number: u64, record: u64) -> Option<Refusal> {
+        Some(match number {
+            1 => Refusal::Length,
+            2 => Refusal::Records,
+            3 => Refusal::Kind { record },
+            4 => Refusal::AboveRange { record },
+            5 => Refusal::Unused { record },
+            6 => Refusal::Order { record },
+            7 => Refusal::Count { record },
+            8 => Refusal::Journal,
+            10 => Refusal::Room,
+            11 => Refusal::Run,
+            _ => return None,
+        })
+    }
+
+    /// What is wrong, in the paper's words.
+    fn reason(self) -> &'static str {
+        match self {
+            Refusal::Length => "the file's length is no multiple of 8",
+            Refusal::Records => "the file has more than 1,288 records",
+            Refusal::Kind { .. } => "the kind is not 1, 2 or 3",
+            Refusal::AboveRange { .. } => "a used byte is above its range",
+            Refusal::Unused { .. } => "an unused byte is not 0",
+            Refusal::Order { .. } => "it does not exceed the record before it",
+            Refusal::Count { .. } => "it is the 257th rule or the 1,025th move",
+            Refusal::Journal => "the journal has no row or more than 4,096 rows",
+            Refusal::Room => "the run has 65,535 or more steps, or more than the buffer has bytes",
+            Refusal::Run => "the run has more than 65,534 steps or a code above 127",
+        }
+    }
+}
+
+impl fmt::Display for Refusal {
+    fn fmt(&self, f: &mut fmt::Formatter<'_>) -> fmt::Result {
+        if let Some(record) = self.record() {
+            write!(f, "record {record}: ")?;
+        }
+        write!(f, "{} ({})", self.reason(), self.number())
+    }
+}
+
+impl Error for Refusal {}

@@ -1,0 +1,170 @@
+//! The library and the plain implementation side by side. Each function makes one call on both and insists that they agree in
+//! everything: the number returned, what is filled in, each byte of the buffer, and the same again through the crate's own types.
+
+#![allow(dead_code)] // each test file uses some of these
+
+use bolfrega::raw::{self, Details};
+use bolfrega::{Answer, Judgement, Refusal, Verdict};
+use plain::making::Numbers;
+
+/// What stands in the places to be filled in before a call.
+const BEFORE: u64 = 0x5555_5555_5555_5555;
+
+/// Reads a file. Returns the number, or 0, and the record.
+pub fn reading(file: &[u8]) -> (u64, u64) {
+    let expected = plain::read(file).map_or_else(numbers, |_| (0, 0));
+    let mut record = BEFORE;
+    let number = raw::refusal(file, &mut record);
+    assert_eq!((number, record), expected, "reading {file:?}");
+    assert_eq!(bolfrega::refusal(file).map_or_else(shown, |()| (0, 0)), expected);
+    expected
+}
+
+/// Judges a run. Returns the code and the record.
+pub fn judging(file: &[u8], run: &[u8]) -> (u64, u64) {
+    let expected = match plain::judge(file, run) {
+        Ok(true) => (110, 0),
+        Ok(false) => (111, 0),
+        Err(refusal) => numbers(refusal),
+    };
+    let mut record = BEFORE;
+    let code = raw::judge(file, run, &mut record);
+    assert_eq!((code, record), expected, "judging {run:?} by {file:?}");
+    let judgement = |judged| if judged == Judgement::Accepted { (110, 0) } else { (111, 0) };
+    assert_eq!(bolfrega::judge(file, run).map_or_else(shown, judgement), expected);
+    expected
+}
+
+/// Checks a file, with a run buffer of `room` bytes. Returns the code, the details and the buffer.
+pub fn checking(file: &[u8], rows: usize, budget: u64, room: usize) -> (u64, Details, Vec<u8>) {
+    let mut buffer = patterned(room);
+    let (code, details) = plainly(file, rows, budget, &mut buffer);
+
+    let (mut their_details, mut their_buffer) = ([BEFORE; 8], patterned(room));
+    let their_code = raw::check(file, rows, budget, &mut their_details, &mut their_buffer);
+    let what = || format!("checking with {rows} rows, budget {budget}, {room} bytes: {file:?}");
+    assert_eq!((their_code, their_details), (code, details), "{}", what());
+    assert!(their_buffer == buffer, "the buffer after {}", what());
+
+    let mut third = patterned(room);
+    let answer = bolfrega::check(file, rows, budget, &mut third);
+    assert_eq!(spelled(&answer), (code, details), "{}", what());
+    assert!(third == buffer, "the buffer after {}", what());
+    (code, details, buffer)
+}
+
+/// A check with 1,024 rows, a budget of 30,000 and some room. Returns the code and the details.
+pub fn ordinary(file: &[u8]) -> (u64, Details) {
+    let (code, details, _) = checking(file, 1_024, 30_000, 300);
+    (code, details)
+}
+
+/// A buffer in which each changed byte shows: no step code is 200 or above.
+pub fn patterned(room: usize) -> Vec<u8> {
+    (0..room).map(|at| 200 + (at % 50) as u8).collect()
+}
+
+/// What the library is to return and fill in, by the plain implementation.
+fn plainly(file: &[u8], rows: usize, budget: u64, buffer: &mut [u8]) -> (u64, Details) {
+    let checked = match plain::check(file, rows, budget, buffer) {
+        Ok(checked) => checked,
+        Err(refusal) => {
+            let (number, record) = numbers(refusal);
+            return (number, [record, 0, 0, 0, 0, 0, 0, 0]);
+        }
+    };
+    let said = checked.answer;
+    let (pairs, length, refused) = match checked.broken {
+        Some(broken) => (
+            broken.pairs,
+            broken.length,
+            broken.written.map_or_else(|refusal| refusal.number, |_| 0),
+        ),
+        None => (0, 0, 0),
+    };
+    let code = match said.verdict {
+        plain::Verdict::Holds => 100,
+        plain::Verdict::Broken => 101,
+        plain::Verdict::Full => 102,
+        plain::Verdict::Spent => 103,
+    };
+    let counts = [0, said.joins, said.used as u64, said.pass.into()];
+    let shown = [said.row.into(), pairs.into(), length.into(), refused.into()];
+    (code, [counts, shown].concat().try_into().unwrap())
+}
+
+/// The code and the details that an answer of the crate's own types came from.
+fn spelled(answer: &Result<Answer, Refusal>) -> (u64, Details) {
+    let answer = match answer {
+        Ok(answer) => answer,
+        Err(refusal) => return (refusal.number(), [refusal.record().unwrap_or(0), 0, 0, 0, 0, 0, 0, 0]),
+    };
+    let (code, [row, pairs, length, refused]) = match answer.verdict {
+        Verdict::Holds => (100, [65_535, 0, 0, 0]),
+        Verdict::Broken(broken) => {
+            let refused = broken.run.map_or_else(Refusal::number, |run| {
+                assert_eq!(run.len() as u64, broken.length);
+                0
+            });
+            (101, [broken.row, broken.pairs, broken.length, refused])
+        }
+        Verdict::Full => (102, [65_535, 0, 0, 0]),
+        Verdict::Spent => (103, [65_535, 0, 0, 0]),
+    };
+    (code, [0, answer.joins, answer.used, answer.pass, row, pairs, length, refused])
+}
+
+fn numbers(refusal: plain::Refusal) -> (u64, u64) {
+    (refusal.number.into(), refusal.record as u64)
+}
+
+fn shown(refusal: Refusal) -> (u64, u64) {
+    (refusal.number(), refusal.record().unwrap_or(0))
+}
+
+/// How large a made file is.
+#[derive(Clone, Copy)]
+pub struct Size {
+    pub procedures: usize,
+    pub rules: usize,
+    pub codes: usize,
+    pub moves: usize,
+}
+
+/// A valid file with at most these numbers of rules and moves.
+pub fn valid_file(numbers: &mut Numbers, size: Size) -> Vec<u8> {
+    let mut making = plain::making::Making::new();
+    // Half of the files leave procedure 0 nearly alone, so that not every check is broken at once.
+    let shy = numbers.once_in(2);
+    for _ in 0..size.rules {
+        let head = numbers.byte(size.procedures);
+        let head = if shy && head == 0 && !numbers.once_in(8) { 1 } else { head };
+        let length = numbers.pick(&[0, 1, 1, 2, 2, 2, 2]);
+        let body: Vec<u8> = (0..length).map(|_| symbol(numbers, size)).collect();
+        making.rule(head, &body);
+    }
+    let mut moves = size.moves;
+    if numbers.once_in(3) {
+        // Each code leads somewhere from each stage. There is room for what is left of 1,024 moves.
+        for code in 0..size.codes {
+            making.mapping(code as u8, std::array::from_fn(|_| numbers.byte(8)));
+        }
+        moves = moves.min(1_024 - 8 * size.codes);
+    }
+    for _ in 0..moves {
+        making.step(numbers.byte(8), numbers.byte(size.codes), numbers.byte(8));
+    }
+    let finishing = numbers.pick(&[0, 1, 3, 20, 40]);
+    (0..finishing).for_each(|_| {
+        making.finishing(numbers.byte(8));
+    });
+    making.bytes()
+}
+
+fn symbol(numbers: &mut Numbers, size: Size) -> u8 {
+    if numbers.once_in(2) {
+        numbers.byte(size.codes)
+    } else {
+        plain::making::procedure(numbers.byte(size.procedures))
+    }
+}

@@ -1,0 +1,132 @@
+//! Damaged files: every number, with its record.
+
+mod common;
+
+use common::{checking, judging, reading, valid_file, Size};
+use plain::making::Numbers;
+
+const RULE: [u8; 8] = [1, 5, 2, 7, 130, 0, 0, 0];
+const STEP: [u8; 8] = [2, 3, 90, 4, 0, 0, 0, 0];
+const LAST: [u8; 8] = [3, 6, 0, 0, 0, 0, 0, 0];
+
+/// The three records with one byte changed, and what refuses the file.
+fn changed(record: usize, byte: usize, value: u8) -> (u64, u64) {
+    let mut file = [RULE, STEP, LAST].concat();
+    file[8 * record + byte] = value;
+    every_call(&file)
+}
+
+/// Reads, judges and checks a file: all three refuse it alike. Returns the number and the record.
+fn every_call(file: &[u8]) -> (u64, u64) {
+    let (number, record) = reading(file);
+    if number != 0 {
+        assert_eq!(judging(file, &[200]), (number, record));
+        let (code, details, _) = checking(file, 0, 5, 3);
+        assert_eq!((code, details), (number, [record, 0, 0, 0, 0, 0, 0, 0]));
+    }
+    (number, record)
+}
+
+#[test]
+fn every_value_of_every_byte() {
+    let mut seen = [0; 8];
+    for record in 0..3 {
+        for byte in 0..8 {
+            for value in 0..=255 {
+                seen[changed(record, byte, value).0 as usize] += 1;
+            }
+        }
+    }
+    assert!(seen[0] > 0 && seen[3..=6].iter().all(|&times| times > 0), "{seen:?}");
+}
+
+#[test]
+fn each_number_where_it_belongs() {
+    assert_eq!(changed(0, 0, 1), (0, 0));
+    assert_eq!(changed(1, 0, 0), (3, 1));
+    assert_eq!(changed(2, 0, 4), (3, 2));
+    assert_eq!(changed(0, 1, 64), (4, 0));
+    assert_eq!(changed(0, 2, 3), (4, 0));
+    assert_eq!(changed(0, 4, 192), (4, 0));
+    assert_eq!(changed(1, 1, 8), (4, 1));
+    assert_eq!(changed(1, 2, 128), (4, 1));
+    assert_eq!(changed(1, 3, 8), (4, 1));
+    assert_eq!(changed(2, 1, 8), (4, 2));
+    assert_eq!(changed(0, 2, 1), (5, 0)); // the second symbol is no longer used
+    assert_eq!(changed(0, 5, 1), (5, 0));
+    assert_eq!(changed(1, 4, 1), (5, 1));
+    assert_eq!(changed(2, 2, 1), (5, 2));
+    assert_eq!(every_call(&[STEP, RULE].concat()), (6, 1));
+    assert_eq!(every_call(&[RULE, STEP, STEP].concat()), (6, 2));
+}
+
+#[test]
+fn the_earliest_record_and_then_the_lowest_number() {
+    // A file with a wrong length and too many records gives 1; with both 2 and a bad kind it gives 2.
+    assert_eq!(every_call(&[9; 8 * 1_289 + 4]), (1, 0));
+    assert_eq!(every_call(&[9; 8 * 1_289]), (2, 0));
+    // 4, 5 and 6 in one record; 5 and 6; then an earlier 6 before a later 3.
+    assert_eq!(every_call(&[STEP, [1, 64, 0, 1, 0, 0, 0, 0]].concat()), (4, 1));
+    assert_eq!(every_call(&[STEP, [1, 63, 0, 1, 0, 0, 0, 0]].concat()), (5, 1));
+    assert_eq!(every_call(&[STEP, STEP, [9; 8]].concat()), (6, 1));
+}
+
+#[test]
+fn lengths_that_are_no_multiple_of_eight() {
+    let file = [RULE, STEP, LAST].concat();
+    for length in 0..=file.len() {
+        let expected = if length % 8 == 0 { (0, 0) } else { (1, 0) };
+        assert_eq!(every_call(&file[..length]), expected);
+    }
+}
+
+/// Damages a file in one of the ways in which copies go wrong.
+fn damage(numbers: &mut Numbers, file: &mut Vec<u8>) {
+    let at = numbers.below(file.len());
+    let whole = |number: usize| 8 * number..8 * number + 8;
+    let (one, other) = (numbers.below(file.len() / 8), numbers.below(file.len() / 8));
+    match numbers.below(6) {
+        0 => file[at] = numbers.byte(256),
+        1 => file[at] ^= 1 << numbers.below(8),
+        2 => file.truncate(at),
+        3 => drop(file.splice(at..at, [0])),
+        4 => drop(file.splice(8 * one..8 * one, file[whole(one)].to_vec())),
+        _ => whole(one).zip(whole(other)).for_each(|(x, y)| file.swap(x, y)),
+    }
+}
+
+#[test]
+fn damaged_at_random() {
+    let mut numbers = Numbers::new(1);
+    let mut seen = [0; 8];
+    for round in 0..6_000 {
+        let size = Size {
+            procedures: 64,
+            rules: 1 + round % 40,
+            codes: 128,
+            moves: round % 60,
+        };
+        let mut file = valid_file(&mut numbers, size);
+        for _ in 0..1 + numbers.below(2) {
+            if file.len() >= 8 {
+                damage(&mut numbers, &mut file);
+            }
+        }
+        seen[every_call(&file).0 as usize] += 1;
+    }
+    assert!(
+        seen[0] > 0 && seen[1] > 0 && seen[3..=6].iter().all(|&times| times > 0),
+        "{seen:?}"
+    );
+}
+
+#[test]
+fn bytes_at_random() {
+    let mut numbers = Numbers::new(2);
+    for round in 0..3_000 {
+        let file: Vec<u8> = (0..8 * (round % 5))
+            .map(|at| if at % 8 == 0 { 1 + numbers.byte(3) } else { numbers.byte(3) })
+            .collect();
+        every_call(&file);
+    }
+}

@@ -1,0 +1,147 @@
+/*
+ * Each function of the header, called from C: what it returns, what it sets, and what it leaves as it was.
+ * It says which line failed and ends with status 1, or ends with status 0.
+ */
+#include "bolfrega.h"
+
+#include <stdio.h>
+#include <string.h>
+
+#define EXPECT(fact)                                                       \
+    do {                                                                   \
+        if (!(fact)) {                                                     \
+            fprintf(stderr, "%s:%d: not so: %s\n", __FILE__, __LINE__, #fact); \
+            failures++;                                                    \
+        }                                                                  \
+    } while (0)
+
+static int failures = 0;
+
+/* Plan B of document 01 with its sheet S; plan A is the same without record 3. */
+static const uint8_t plan_b[] = {
+    1, 0, 2, 129, 3,   0, 0, 0, /* 0 gives (procedure 1) 3 */
+    1, 1, 0, 0,   0,   0, 0, 0, /* 1 gives nothing */
+    1, 1, 2, 1,   130, 0, 0, 0, /* 1 gives 1 (procedure 2) */
+    1, 2, 1, 129, 0,   0, 0, 0, /* 2 gives (procedure 1) */
+    1, 2, 2, 2,   129, 0, 0, 0, /* 2 gives 2 (procedure 1) */
+    2, 0, 1, 1,   0,   0, 0, 0, /* from stage 0 on code 1 to stage 1 */
+    2, 0, 3, 2,   0,   0, 0, 0, /* from stage 0 on code 3 to stage 2 */
+    2, 1, 2, 0,   0,   0, 0, 0, /* from stage 1 on code 2 to stage 0 */
+    3, 2, 0, 0,   0,   0, 0, 0, /* stage 2 is finishing */
+};
+
+#define SHEET (plan_b + 40)
+#define SHEET_LENGTH (sizeof plan_b - 40)
+
+static uint64_t details[8];
+static uint8_t buffer[64];
+
+/* Makes a check over places that hold something else, and returns its code. */
+static uint64_t check(const uint8_t *file, size_t length, size_t rows, uint64_t budget, size_t room)
+{
+    memset(details, 0x77, sizeof details);
+    memset(buffer, 0xee, sizeof buffer);
+    return bolfrega_check(file, length, rows, budget, details, buffer, room);
+}
+
+/* Whether the details are these. */
+static int said(uint64_t record, uint64_t joins, uint64_t used, uint64_t pass, uint64_t row, uint64_t pairs, uint64_t length,
+                uint64_t refused)
+{
+    const uint64_t expected[8] = {record, joins, used, pass, row, pairs, length, refused};
+    return memcmp(details, expected, sizeof expected) == 0;
+}
+
+/* Whether the buffer is unchanged from a place on. */
+static int untouched(size_t from)
+{
+    for (size_t i = from; i < sizeof buffer; i++)
+        if (buffer[i] != 0xee)
+            return 0;
+    return 1;
+}
+
+static void refusals(void)
+{
+    uint64_t record = 77;
+    EXPECT(bolfrega_refusal(plan_b, sizeof plan_b, &record) == 0 && record == 0);
+    record = 77;
+    EXPECT(bolfrega_refusal(NULL, 0, &record) == 0 && record == 0);
+    record = 77;
+    EXPECT(bolfrega_refusal(plan_b, 7, &record) == 1 && record == 0);
+
+    static const uint8_t many[8 * 1289];
+    record = 77;
+    EXPECT(bolfrega_refusal(many, sizeof many, &record) == 2 && record == 0);
+    EXPECT(bolfrega_refusal(many, sizeof many - 8, &record) == 3 && record == 0);
+
+    uint8_t damaged[sizeof plan_b];
+    memcpy(damaged, plan_b, sizeof plan_b);
+    damaged[8 * 7 + 1] = 8;
+    EXPECT(bolfrega_refusal(damaged, sizeof damaged, &record) == 4 && record == 7);
+    damaged[8 * 6 + 7] = 1;
+    EXPECT(bolfrega_refusal(damaged, sizeof damaged, &record) == 5 && record == 6);
+    memcpy(damaged + 8 * 5, plan_b, 8);
+    EXPECT(bolfrega_refusal(damaged, sizeof damaged, &record) == 6 && record == 5);
+}
+
+static void judgements(void)
+{
+    static const uint8_t accepted[] = {1, 2, 3}, turned_away[] = {1, 3}, no_code[] = {128};
+    static const uint8_t long_run[65535];
+    uint64_t record = 77;
+    EXPECT(bolfrega_judge(SHEET, SHEET_LENGTH, accepted, 3, &record) == BOLFREGA_ACCEPTED && record == 0);
+    record = 77;
+    EXPECT(bolfrega_judge(SHEET, SHEET_LENGTH, turned_away, 2, &record) == BOLFREGA_TURNED_AWAY && record == 0);
+    EXPECT(bolfrega_judge(SHEET, SHEET_LENGTH, NULL, 0, &record) == BOLFREGA_TURNED_AWAY && record == 0);
+    record = 77;
+    EXPECT(bolfrega_judge(SHEET, SHEET_LENGTH, no_code, 1, &record) == 11 && record == 0);
+    EXPECT(bolfrega_judge(SHEET, SHEET_LENGTH, long_run, 65535, &record) == 11 && record == 0);
+    EXPECT(bolfrega_judge(SHEET, SHEET_LENGTH, long_run, 65534, &record) == BOLFREGA_TURNED_AWAY && record == 0);
+    EXPECT(bolfrega_judge(SHEET + 8, 3, no_code, 1, &record) == 1 && record == 0);
+    static const uint8_t twice[16] = {3, 0, 0, 0, 0, 0, 0, 0, 3, 0, 0, 0, 0, 0, 0, 0};
+    EXPECT(bolfrega_judge(twice, 16, no_code, 1, &record) == 6 && record == 1);
+}
+
+static void checks(void)
+{
+    uint8_t plan_a[sizeof plan_b - 8];
+    memcpy(plan_a, plan_b, 24);
+    memcpy(plan_a + 24, plan_b + 32, sizeof plan_b - 32);
+
+    EXPECT(check(plan_a, sizeof plan_a, 1024, 1000000, 64) == BOLFREGA_HOLDS);
+    EXPECT(said(0, 12, 4, 4, 65535, 0, 0, 0) && untouched(0));
+    EXPECT(check(plan_a, sizeof plan_a, 1024, 11, 64) == BOLFREGA_SPENT);
+    EXPECT(said(0, 11, 4, 4, 65535, 0, 0, 0) && untouched(0));
+    EXPECT(check(plan_a, sizeof plan_a, 3, 1000000, 64) == BOLFREGA_FULL);
+    EXPECT(said(0, 7, 3, 3, 65535, 0, 0, 0) && untouched(0));
+
+    EXPECT(check(plan_b, sizeof plan_b, 1024, 1000000, 64) == BOLFREGA_BROKEN);
+    EXPECT(said(0, 12, 7, 4, 6, 0, 2, 0) && buffer[0] == 1 && buffer[1] == 3 && untouched(2));
+    EXPECT(check(plan_b, sizeof plan_b, 1024, 1000000, 2) == BOLFREGA_BROKEN);
+    EXPECT(said(0, 12, 7, 4, 6, 0, 2, 0) && buffer[0] == 1 && buffer[1] == 3 && untouched(2));
+    EXPECT(check(plan_b, sizeof plan_b, 1024, 1000000, 1) == BOLFREGA_BROKEN);
+    EXPECT(said(0, 12, 7, 4, 6, 0, 2, 10) && untouched(0));
+
+    EXPECT(check(plan_b, sizeof plan_b, 0, 1000000, 64) == 8);
+    EXPECT(said(0, 0, 0, 0, 0, 0, 0, 0) && untouched(0));
+    EXPECT(check(plan_b, sizeof plan_b, 4097, 1000000, 64) == 8);
+    EXPECT(check(plan_b, sizeof plan_b, 4096, 1000000, 64) == BOLFREGA_BROKEN);
+    EXPECT(check(plan_b, sizeof plan_b - 1, 0, 1000000, 64) == 1);
+    EXPECT(said(0, 0, 0, 0, 0, 0, 0, 0) && untouched(0));
+    static const uint8_t twice[16] = {3, 0, 0, 0, 0, 0, 0, 0, 3, 0, 0, 0, 0, 0, 0, 0};
+    EXPECT(check(twice, 16, 0, 0, 64) == 6);
+    EXPECT(said(1, 0, 0, 0, 0, 0, 0, 0) && untouched(0));
+
+    EXPECT(bolfrega_check(NULL, 0, 1, 0, details, NULL, 0) == BOLFREGA_HOLDS);
+    EXPECT(said(0, 0, 0, 1, 65535, 0, 0, 0));
+}
+
+int main(void)
+{
+    EXPECT(bolfrega_version() == 1);
+    refusals();
+    judgements();
+    checks();
+    return failures != 0;
+}

@@ -37,7 +37,7 @@
 //!
 //! # Stack
 //!
-//! [`check`] keeps its journal (256 KiB) and its tables (about 365 KiB) on the stack, and allocates nothing. Writing a run takes up to
+//! [`check`] keeps its journal (256 KiB) and its tables (about 185 KiB) on the stack, and allocates nothing. Writing a run takes up to
 //! 512 KiB more. A thread that calls it needs 1.5 MiB of stack to be on the safe side; Rust's threads have 2 MiB unless told otherwise.
 
 #![deny(unsafe_code)]
@@ -155,7 +155,7 @@ pub fn judge(file: &[u8], run: &[u8]) -> Result<Judgement, Refusal> {
 /// with any other answer and with a refusal. It refuses a file with 1 to 7, and then with 8 a number of rows that is 0 or above
 /// [`MOST_ROWS`]. More rows and a larger budget never change an answer that is `Holds` or `Broken`.
 ///
-/// It keeps about 620 KiB on the stack ([see above](crate#stack)).
+/// It keeps about 440 KiB on the stack ([see above](crate#stack)).
 ///
 /// ```
 /// use bolfrega::{check, Refusal, Verdict};

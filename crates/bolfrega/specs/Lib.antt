@@ -1,5 +1,4 @@
 pub mod Codes
-pub mod Told
 pub mod Contracts
 pub mod Telling
 pub mod ZeroRows

@@ -4,12 +4,11 @@ use mathlib.Core.Path.{_≡_, refl, sym, ap, _∙_, subst}
 use mathlib.Core.Bool.{Bool, true, false, cond}
 use mathlib.Core.List.{List, [], _∷_, map}
 use Prim.Native.Nat.{ℕ, zero, suc, _+_, _-_, _≤_, _<_}
-use native.Mathlib.Nat.{le-trans, le-of-eq}
 use native.Mathlib.Omega.{arith}
 use lib.Dec.{leb}
-use lib.ListN.{length, take, replicate, length-map, length-replicate, replicate-append-replicate, List·getD-eq-default}
+use lib.ListN.{length, take, replicate, length-replicate, replicate-append-replicate}
 use lib.Seq.{take-at}
-use borrow.Author.Tests.{le-leb, lt-leb, lt-ltb, ne-eqb, leb-true, leb-false}
+use borrow.Author.Tests.{lt-ltb, ne-eqb, leb-true, leb-false}
 use Rattle.relation.specs.Representation.{value}
 use Rattle.plan_file.specs.Refusals.{Refusal, refuse, fault}
 use Rattle.working_order.specs.Journal.{Row}
@@ -17,26 +16,17 @@ use Rattle.working_order.specs.Order.{Answer}
 use Rattle.calls.specs.Checking.{journalLimit, journalFault, checkOf, journalAfter}
 use Rattle.calls.specs.Promising.{promises}
 use Rattle.calls.specs.Replies.{Reply, refused}
-use Rattle.calls.specs.Rows.{rowOf}
-use Rattle.bolfrega.specs.Told.{zeroRow, zeroRows, front, rowIn}
-use Rattle.bolfrega.specs.Contracts.{Tells, ChecksBy, ChecksOver, ChecksZeros}
-
--- ---- the front of a journal
-
-module _ (n : ℕ) (rows : List (List ℕ)) where
-  pub front-all : n ≤ length rows → take n rows ≡ front n rows
-  unfolding front
-  front-all h = sym (ap (λ (b : Bool). cond b (take n rows) []) (le-leb n (length rows) h))
-
-  pub front-none : length rows < n → [] ≡ front n rows
-  unfolding front
-  front-none h = sym (ap (λ (b : Bool). cond b (take n rows) []) (lt-leb n (length rows) h))
+use Rattle.calls.specs.Rows.{rowOf, blank}
+use Rattle.calls.specs.declared.Row.{Row as LentRow}
+use Rattle.covers.specs.Rows.{Journal}
+use Rattle.standalone.specs.Fronts.{journalOf}
+use Rattle.standalone.specs.Told.{zeroRow}
+use Rattle.standalone.specs.Telling.{numbersIn}
+use Rattle.standalone.specs.Contracts.{Tells, ChecksBy, ChecksOver, ChecksAlone}
+use Rattle.standalone.specs.declared.Told.{Told}
+use Rattle.bolfrega.specs.Contracts.{zeroRows, ChecksZeros}
 
 -- ---- rows of zeros
-
--- a row as the code has it
-abbrev pub zeros : List ℕ
-zeros = replicate 8 0
 
 module _ {A : Type 0} (a : A) where
   take-replicate : (n m : ℕ) → n ≤ m → take n (replicate m a) ≡ replicate n a
@@ -49,18 +39,14 @@ map-replicate : {A B : Type 0} (f : A → B) (n : ℕ) (a : A) → map f (replic
 map-replicate f zero a = refl
 map-replicate f (suc n) a = ap (λ xs. f a ∷ xs) (map-replicate f n a)
 
--- eight zeros, read as a row
-zero-read : rowOf zeros ≡ zeroRow
+-- a blank row, read so
+zero-read : rowOf blank ≡ zeroRow
 unfolding value
 zero-read = refl
 
-zeros-read : (n : ℕ) → map rowOf (replicate n zeros) ≡ zeroRows n
+zeros-read : (n : ℕ) → map rowOf (replicate n blank) ≡ zeroRows n
 unfolding zeroRows
-zeros-read n = map-replicate rowOf n zeros ∙ ap (replicate n) zero-read
-
--- past the end of a journal
-pub row-past : (journal : List (List ℕ)) (i : ℕ) → length journal ≤ i → rowOf zeros ≡ rowIn (map rowOf journal) i
-row-past journal i h = zero-read ∙ sym (List·getD-eq-default (map rowOf journal) zeroRow (le-trans (le-of-eq (length-map journal rowOf)) h))
+zeros-read n = map-replicate rowOf n blank ∙ ap (replicate n) zero-read
 
 -- ---- more rows than a journal may have
 
@@ -87,27 +73,31 @@ module _ (bs : List ℕ) (B : ℕ) where
     any-rows : (x : Refusal) (rows rows′ : List (Row ℕ)) → Tells bs rows (refused x) d old new r → Tells bs rows′ (refused x) d old new r
     any-rows x rows rows′ t = record { code = t .code; details = t .details; buffer = t .buffer }
 
-    pub over-front : (J : ℕ) → ChecksOver bs (front J (replicate journalLimit zeros)) B d old new r → ChecksZeros bs J B d old new r
-    over-front J h = by (leb J journalLimit) (leb-true J journalLimit) (leb-false J journalLimit)
+    over-front : (J : ℕ) → ChecksOver bs (journalOf J blank) B d old new r → ChecksZeros bs J B d old new r
+    unfolding journalOf
+    over-front J h = by (leb J journalLimit) refl
       where
-        Over : List (List ℕ) → Type 0
+        Over : Journal → Type 0
         Over journal = ChecksOver bs journal B d old new r
 
-        size : length (replicate journalLimit zeros) ≡ journalLimit
-        size = length-replicate journalLimit zeros
-
-        by : (b : Bool) → (b ≡ true → J ≤ journalLimit) → (b ≡ false → journalLimit < J) → ChecksZeros bs J B d old new r
-        by true p q =
-            let all = sym (front-all J (replicate journalLimit zeros) (omega (arith, p refl, size))) ∙ take-replicate zeros J journalLimit (p refl) in
-            subst (λ (n : ℕ). ChecksBy bs n B (journalAfter bs (zeroRows J) B) d old new r) (length-replicate J zeros)
-            (subst (λ (rows : List (Row ℕ)). ChecksBy bs (length (replicate J zeros)) B (journalAfter bs rows B) d old new r) (zeros-read J) (subst Over all h))
-        by false p q =
-            let t = subst Over (sym (front-none J (replicate journalLimit zeros) (omega (arith, q refl, size)))) h .told in
+        by : (b : Bool) → leb J journalLimit ≡ b → ChecksZeros bs J B d old new r
+        by true p =
+            let all = ap (λ (b : Bool). take (cond b J 0) (replicate journalLimit blank)) p ∙ take-replicate blank J journalLimit (leb-true J journalLimit p) in
+            subst (λ (n : ℕ). ChecksBy bs n B (journalAfter bs (zeroRows J) B) d old new r) (length-replicate J blank)
+            (subst (λ (rows : List (Row ℕ)). ChecksBy bs (length (replicate J blank)) B (journalAfter bs rows B) d old new r) (zeros-read J) (subst Over all h))
+        by false p =
+            let t = subst Over (ap (λ (b : Bool). take (cond b J 0) (replicate journalLimit blank)) p) h .told in
             let x = refusal .0 in
             record {
               told =
-                  subst (λ (y : Reply (Answer ℕ)). Tells bs (journalAfter bs (zeroRows J) B) y d old new r) (sym (refusal .1 J (too-many J (q refl))))
+                  subst (λ (y : Reply (Answer ℕ)). Tells bs (journalAfter bs (zeroRows J) B) y d old new r) (sym (refusal .1 J (too-many J (leb-false J journalLimit p))))
                   (any-rows x (journalAfter bs [] B) (journalAfter bs (zeroRows J) B)
                   (subst (λ (y : Reply (Answer ℕ)). Tells bs (journalAfter bs [] B) y d old new r) (refusal .1 0 none) t));
               promises = promises bs J B;
             }
+
+-- what is told of a check with rows x, which are blank, put in the details d
+pub over-zeros : (bs : List ℕ) (J B p : ℕ) (old new : List ℕ) (x : LentRow) → x ≡ blank → (t : Told) → ChecksAlone bs J x B p old new t → (d : List ℕ) → d ≡ numbersIn t → ChecksZeros bs J B d old new (t .code)
+over-zeros bs J B p old new x e t h d q =
+    subst (λ (y : List ℕ). ChecksZeros bs J B y old new (t .code)) (sym q)
+    (over-front bs B (numbersIn t) old new (t .code) J (subst (λ (y : LentRow). ChecksAlone bs J y B p old new t) e h .over))

@@ -1,72 +1,92 @@
 // One file: the answer of the inclusion check held against the unpruned search, and against its answers with other journals and budgets.
 use acceptance::Judged;
-use checker::Checked;
-use checker::Writing;
+use calls::Row;
 use random_files::Trial;
-use search::Answer;
-use search::Totals;
+use relation::Relation;
+use standalone::Told;
 use unpruned::rows;
 
-pub const REFUSED: u64 = 0;
+const ROWS: usize = 1024;
 
-pub const HOLDS: u64 = 1;
-
-pub const BROKEN: u64 = 2;
-
-pub const FULL: u64 = 3;
-
-pub const SPENT: u64 = 4;
+const MORE_ROWS: usize = 2048;
 
 const BUDGET: u64 = 1000000;
 
 const LARGER_BUDGET: u64 = 4000000;
 
-const NO_ROW: usize = 65535;
+// Rows of a journal that are held against each other: no file uses as many.
+const KEPT: usize = 64;
 
-// An answer as numbers.
-pub struct Reply {
-    pub verdict: u64,
-    pub row: usize,
-    pub joins: u64,
-    pub used: usize,
-    pub pass: u64,
+// ---- rows as numbers
+
+// A row as eight numbers.
+fn numbers(row: Row) -> [u64; 8] {
+    let relation = row.relation;
+    [
+        row.head,
+        row.rule,
+        relation.bits,
+        row.left,
+        row.right,
+        row.len,
+        row.birth,
+        row.retired,
+    ]
 }
 
-fn numbers(verdict: u64, row: usize, totals: Totals) -> Reply {
-    Reply {
-        verdict,
-        row,
-        joins: totals.joins,
-        used: totals.used,
-        pass: totals.pass,
+// And back.
+fn row_of(x: [u64; 8]) -> Row {
+    Row {
+        head: x[0],
+        rule: x[1],
+        relation: Relation { bits: x[2] },
+        left: x[3],
+        right: x[4],
+        len: x[5],
+        birth: x[6],
+        retired: x[7],
     }
 }
 
-fn told(answer: Answer) -> Reply {
-    match answer {
-        Answer::Holds(totals) => numbers(HOLDS, NO_ROW, totals),
-        Answer::Broken(row, totals) => numbers(BROKEN, row, totals),
-        Answer::Full(totals) => numbers(FULL, NO_ROW, totals),
-        Answer::Spent(totals) => numbers(SPENT, NO_ROW, totals),
+// Of so many used rows, as many as are looked at: two more, so that there are rows that should be untouched.
+fn looked_at(used: u64) -> usize {
+    if used < 62 {
+        return used as usize + 2;
+    }
+    KEPT
+}
+
+// ---- checks
+
+fn ask(file: &[u8], rows: usize, old: Row, budget: u64, probe: usize) -> Told {
+    let mut buffer = [0u8; 4096];
+    standalone::checked(file, rows, old, budget, probe, &mut buffer)
+}
+
+fn put(journal: &mut [[u64; 8]], i: usize, row: [u64; 8]) {
+    if i < journal.len() {
+        journal[i] = row;
     }
 }
 
-fn ask(file: &[u8], journal: &mut [[u64; 8]], budget: u64) -> Reply {
-    let checked = checker::check(file, journal, budget);
-    match checked {
-        Checked::Refused(_) => Reply {
-            verdict: REFUSED,
-            row: NO_ROW,
-            joins: 0,
-            used: 0,
-            pass: 0,
-        },
-        Checked::Answered(answer) => told(answer),
+// The first rows that a check leaves, so many, each from a check of its own.
+fn collect(
+    file: &[u8],
+    rows: usize,
+    old: Row,
+    budget: u64,
+    count: usize,
+    journal: &mut [[u64; 8]],
+) {
+    for i in 0..count {
+        let told = ask(file, rows, old, budget, i);
+        let row = numbers(told.shown);
+        put(journal, i, row);
     }
 }
 
-fn same(x: Reply, y: Reply) -> bool {
-    (x.verdict == y.verdict)
+fn same(x: Told, y: Told) -> bool {
+    (x.code == y.code)
         & (x.row == y.row)
         & (x.joins == y.joins)
         & (x.used == y.used)
@@ -87,73 +107,73 @@ fn turned_away(file: &[u8], buffer: &[u8], size: usize) -> bool {
 }
 
 // The word behind the row is as long as the row says, is turned away, and has the row's relation.
-fn shown(file: &[u8], journal: &[[u64; 8]], used: usize, row: usize) -> bool {
+fn shown(file: &[u8], journal: &[[u64; 8]], told: Told, buffer: &[u8]) -> bool {
+    let row = told.row as usize;
     if journal.len() <= row {
         return false;
     }
     let held = journal[row];
-    let mut buffer = [0u8; 4096];
-    let writing = checker::write(file, journal, used, row, &mut buffer);
-    let Writing::Length(size) = writing else {
-        return false;
-    };
-    (held[5] == size as u64)
-        & turned_away(file, &buffer, size)
-        & (held[2] == unpruned::word(file, &buffer, size))
+    let size = told.length as usize;
+    (told.refused == 0)
+        & (held[5] == told.length)
+        & turned_away(file, buffer, size)
+        & (held[2] == unpruned::word(file, buffer, size))
 }
 
 // The verdict is the one of the unpruned search, and a broken one has a word to show.
-fn right(file: &[u8], journal: &[[u64; 8]], reply: Reply, broken: bool) -> bool {
+fn right(file: &[u8], journal: &[[u64; 8]], told: Told, buffer: &[u8], broken: bool) -> bool {
     if broken {
-        return (reply.verdict == BROKEN) & shown(file, journal, reply.used, reply.row);
+        return (told.code == standalone::BROKEN) & shown(file, journal, told, buffer);
     }
-    reply.verdict == HOLDS
+    told.code == standalone::HOLDS
 }
 
 // The used rows have relations that the unpruned search found, and the live ones are an antichain; where the check holds, no relation
 // is without a live row below it, so that the live rows are the smallest relations.
-fn accounted(journal: &[[u64; 8]], reply: Reply, found: &[[u64; 2]; 512], count: usize) -> bool {
-    let sound = rows::listed(journal, reply.used, found, count)
-        & rows::antichain(journal, reply.used);
-    if reply.verdict == HOLDS {
-        return sound & rows::covering(journal, reply.used, found, count);
+fn accounted(journal: &[[u64; 8]], told: Told, found: &[[u64; 2]; 512], count: usize) -> bool {
+    let used = told.used as usize;
+    let sound = rows::listed(journal, used, found, count) & rows::antichain(journal, used);
+    if told.code == standalone::HOLDS {
+        return sound & rows::covering(journal, used, found, count);
     }
     sound
 }
 
 // A longer journal and a larger budget give the same answer and the same rows.
-fn same_with_more(file: &[u8], journal: &[[u64; 8]], reply: Reply) -> bool {
-    let mut longer = [[0u64; 8]; 2048];
-    let again = ask(file, &mut longer, LARGER_BUDGET);
-    same(reply, again) & rows::same(journal, &longer, reply.used)
+fn same_with_more(file: &[u8], journal: &[[u64; 8]], told: Told) -> bool {
+    let mut longer = [[0u64; 8]; KEPT];
+    let again = ask(file, MORE_ROWS, standalone::blank_row(), LARGER_BUDGET, 0);
+    let n = looked_at(again.used);
+    collect(
+        file,
+        MORE_ROWS,
+        standalone::blank_row(),
+        LARGER_BUDGET,
+        n,
+        &mut longer,
+    );
+    same(told, again) & rows::same(journal, &longer, told.used as usize)
 }
 
 // A journal with other old contents gives the same answer and the same rows, and the rest of it is untouched.
-fn same_with_old(file: &[u8], journal: &[[u64; 8]], reply: Reply, old: [u64; 8]) -> bool {
-    let mut other = [old; 1024];
-    let again = ask(file, &mut other, BUDGET);
-    same(reply, again)
-        & rows::same(journal, &other, reply.used)
-        & rows::untouched(&other, reply.used, old)
+fn same_with_old(file: &[u8], journal: &[[u64; 8]], told: Told, old: [u64; 8]) -> bool {
+    let mut other = [old; KEPT];
+    let again = ask(file, ROWS, row_of(old), BUDGET, 0);
+    let n = looked_at(again.used);
+    collect(file, ROWS, row_of(old), BUDGET, n, &mut other);
+    let used = told.used as usize;
+    same(told, again) & rows::same(journal, &other, used) & rows::untouched(&other, used, old)
 }
 
 // An answer with few rows and a small budget: full and spent just where the rows or the joins run out, and else the same answer.
-fn fair(reply: Reply, small: Reply, few: usize, budget: u64) -> bool {
-    if small.verdict == SPENT {
-        return (small.joins == budget) & (budget < reply.joins);
+fn fair(told: Told, small: Told, few: usize, budget: u64) -> bool {
+    if small.code == standalone::SPENT {
+        return (small.joins == budget) & (budget < told.joins);
     }
-    if small.verdict == FULL {
-        return (small.used == few) & (few < reply.used);
+    if small.code == standalone::FULL {
+        return (small.used == few as u64) & ((few as u64) < told.used);
     }
-    same(reply, small)
-}
-
-fn ask_with_less(file: &[u8], few: usize, budget: u64) -> Reply {
-    let mut journal = [[0u64; 8]; 8];
-    if 8 < few {
-        return ask(file, &mut journal, budget);
-    }
-    ask(file, &mut journal[0..few], budget)
+    same(told, small)
 }
 
 // The number of the first comparison that fails; 0 where none does.
@@ -179,7 +199,7 @@ fn first_failing(verdict: bool, relations: bool, more: bool, old: bool, less: bo
 // What came of a file: the verdict and the used rows, the verdict with few rows and a small budget, and the first comparison that failed.
 pub struct Outcome {
     pub verdict: u64,
-    pub used: usize,
+    pub used: u64,
     pub small: u64,
     pub failing: u64,
 }
@@ -192,21 +212,25 @@ pub fn compare(
     broken: bool,
     trial: Trial,
 ) -> Outcome {
-    let mut journal = [[0u64; 8]; 1024];
-    let reply = ask(file, &mut journal, BUDGET);
-    let small = ask_with_less(file, trial.few, trial.budget);
-    let old = trial.old;
+    let mut buffer = [0u8; 4096];
+    let old = standalone::blank_row();
+    let told = standalone::checked(file, ROWS, old, BUDGET, 0, &mut buffer);
+    let mut journal = [[0u64; 8]; KEPT];
+    let n = looked_at(told.used);
+    collect(file, ROWS, old, BUDGET, n, &mut journal);
+    let small = ask(file, trial.few, old, trial.budget, 0);
+    let other = trial.old;
     let failing = first_failing(
-        right(file, &journal, reply, broken),
-        accounted(&journal, reply, found, count),
-        same_with_more(file, &journal, reply),
-        same_with_old(file, &journal, reply, old),
-        fair(reply, small, trial.few, trial.budget),
+        right(file, &journal, told, &buffer, broken),
+        accounted(&journal, told, found, count),
+        same_with_more(file, &journal, told),
+        same_with_old(file, &journal, told, other),
+        fair(told, small, trial.few, trial.budget),
     );
     Outcome {
-        verdict: reply.verdict,
-        used: reply.used,
-        small: small.verdict,
+        verdict: told.code,
+        used: told.used,
+        small: small.code,
         failing,
     }
 }

@@ -56,7 +56,7 @@ fn line(name: &[u8], n: u64) {
 
 // The verdict with ample rows and joins.
 fn count_verdict(tally: &mut [u64; 9], outcome: Outcome, verdict: Verdict) {
-    if outcome.verdict == comparison::BROKEN {
+    if outcome.verdict == standalone::BROKEN {
         count_one(tally, BROKEN);
         return;
     }
@@ -64,16 +64,16 @@ fn count_verdict(tally: &mut [u64; 9], outcome: Outcome, verdict: Verdict) {
     if !verdict.words {
         count_one(tally, WORDLESS);
     }
-    if (outcome.used as u64) < verdict.relations {
+    if outcome.used < verdict.relations {
         count_one(tally, PRUNED);
     }
 }
 
 // The verdict with few rows and a small budget.
 fn count_small(tally: &mut [u64; 9], verdict: u64) {
-    if verdict == comparison::FULL {
+    if verdict == standalone::FULL {
         count_one(tally, FULL);
-    } else if verdict == comparison::SPENT {
+    } else if verdict == standalone::SPENT {
         count_one(tally, SPENT);
     } else {
         count_one(tally, NEITHER);

@@ -1,5 +1,7 @@
 // The cases that document 01 marks P, as far as the library can be given rows and a budget, each as the check program prints it.
 // What should come stands in the file stdout; the judged runs are compared by cases_reading.
+use calls::Row;
+use relation::Relation;
 
 // Plan A with sheet S.
 const PLAN_A: [u8; 64] = [
@@ -158,29 +160,31 @@ const SYMBOL_192: [u8; 8] = [1, 0, 1, 192, 0, 0, 0, 0];
 const EQUAL: [u8; 16] = [1, 0, 0, 0, 0, 0, 0, 0, 1, 0, 0, 0, 0, 0, 0, 0];
 
 fn with_1024(file: &[u8], budget: u64) {
-    let mut journal = [[0u64; 8]; 1024];
-    report::report(file, &mut journal, budget);
+    report::report(file, 1024, standalone::blank_row(), budget);
 }
 
-fn with_3(file: &[u8]) {
-    let mut journal = [[0u64; 8]; 3];
-    report::report(file, &mut journal, 1000000);
+// With so many rows.
+fn with_rows(file: &[u8], rows: usize) {
+    report::report(file, rows, standalone::blank_row(), 1000000);
 }
 
-fn with_4(file: &[u8]) {
-    let mut journal = [[0u64; 8]; 4];
-    report::report(file, &mut journal, 1000000);
+// A row that holds 7s.
+fn sevens() -> Row {
+    Row {
+        head: 7,
+        rule: 7,
+        relation: Relation { bits: 7 },
+        left: 7,
+        right: 7,
+        len: 7,
+        birth: 7,
+        retired: 7,
+    }
 }
 
 // The journal's old contents do not matter.
 fn with_old_rows(file: &[u8]) {
-    let mut journal = [[7u64; 8]; 1024];
-    report::report(file, &mut journal, 1000000);
-}
-
-fn with_no_row(file: &[u8]) {
-    let mut journal = [[0u64; 8]; 0];
-    report::report(file, &mut journal, 1000000);
+    report::report(file, 1024, sevens(), 1000000);
 }
 
 fn plan_a() {
@@ -188,10 +192,10 @@ fn plan_a() {
     with_1024(&file, 1000000);
     with_1024(&file, 11);
     with_1024(&file, 12);
-    with_3(&file);
-    with_4(&file);
+    with_rows(&file, 3);
+    with_rows(&file, 4);
     with_old_rows(&file);
-    with_no_row(&file);
+    with_rows(&file, 0);
 }
 
 fn plan_b() {

@@ -10,13 +10,13 @@ use Rattle.calls.specs.Rows.{rowOf}
 use Rattle.calls.specs.Checking.{checkOf, journalAfter}
 use Rattle.calls.specs.DemandThree.{Promises}
 use Rattle.calls.specs.Writing.{writeOf, bufferAfter}
-use Rattle.search.specs.Contracts.{usedIn}
+use Rattle.covers.specs.Rows.{Journal}
 use Rattle.checker.specs.declared.Checked.{Checked}
 use Rattle.checker.specs.declared.Writing.{Writing}
-use Rattle.checker.specs.Answers.{checkedOf, writingOf}
+use Rattle.checker.specs.Answers.{checkedOf, usedIn, writingOf}
 
 -- a check of the file bs with a budget of B joins, over a journal with the rows old before and new afterwards
-pub record Checks (bs : List ℕ) (B : ℕ) (old new : List (List ℕ)) (r : Checked) : Type 0 where
+pub record Checks (bs : List ℕ) (B : ℕ) (old new : Journal) (r : Checked) : Type 0 where
   -- the refusal, or the working order's verdict, joins, used rows, pass, row and journal
   pub answer : checkedOf r new ≡ checkOf bs (length old) B
   -- the working order's rows, and then the old contents; the old contents whole on a refusal

@@ -1,3 +1,6 @@
+pub mod Starting
 pub mod Answers
+pub mod Asking
 pub mod Contracts
-pub mod Bridge
+pub mod RuleLaws
+pub mod OrderLaws

@@ -1,4 +1,6 @@
-pub mod Meanings
-pub mod Walks
-pub mod Contracts
-pub mod Deciding
+pub mod Looking
+pub mod LookLaws
+pub mod Clearing
+pub mod ClearLaws
+pub mod Forming
+pub mod FormLaws

@@ -1,1 +1,3 @@
-pub mod Views
+pub mod Rows
+mod Turn
+mod Views

@@ -1,15 +1,18 @@
-// Whether the rows of a journal fit the rules (document 01, "Numbers a call may refuse with", 9), over rows of numbers. A journal row: head,
-// rule, relation, left, right, length, birth, retired. A rule: head, body length, the bytes of its symbols.
+// Whether the rows of a journal fit the rules (document 01, "Numbers a call may refuse with", 9). One loop holds the journal; each test is
+// on rows by value. A rule: head, body length, the bytes of its symbols.
+use calls::Row;
+ghost use mathlib.Core.Bool.{_&&_};
 ghost use mathlib.Core.Path.{_≡_};
-ghost use mathlib.Core.List.{map};
-ghost use Prim.Native.Nat.{_+_, _<_};
 ghost use lib.Dec.{eqb};
+ghost use mathlib.Core.List.{map};
+ghost use Prim.Native.Nat.{_+_, _≤_};
 ghost use lib.ListN.{length};
 ghost use Rattle.plan_file.specs.Views.{symbolOf};
 ghost use Rattle.working_order.specs.Journal.{capped};
-ghost use Rattle.working_order.specs.Fitting.{pointerFits, symbolLen, bodyFits, rowFits, rowsFit};
+ghost use Rattle.working_order.specs.Fitting.{rowsFit};
 ghost use Rattle.calls.specs.Rows.{rowOf, entryOf};
 ghost use Rattle.fitting.specs.Forms.{noForms};
+ghost use Rattle.fitting.specs.ByValue.{lowerOf, pointerBy, lengthBy, bodyBy, rowBy, lastLen};
 
 // The sum, where 65,535 means that or more.
 fn capped_sum(a: u64, b: u64) -> u64
@@ -23,56 +26,59 @@ fn capped_sum(a: u64, b: u64) -> u64
     65535
 }
 
+// The row that the pointer of row i names, where it is lower, else row i.
+fn lower(pointer: u64, i: usize) -> usize
+    ensures { λ r. ⌜ r ≡ lowerOf pointer i ⌝ }
+{
+    let named = pointer as usize;
+    if named < i {
+        return named;
+    }
+    i
+}
+
 // The pointer of a symbol in row i: a lower row of its nonterminal, or 65,535 at a terminal.
-fn pointer_fits(journal: &[[u64; 8]], i: usize, symbol: u8, pointer: u64) -> bool
-    requires { ⌜ i < length (now journal) ⌝ }
-    ensures { λ r. ⌜ r ≡ pointerFits noForms (map rowOf (now (journal .entry))) i (symbolOf symbol) pointer ⌝ }
+fn pointer_fits(i: usize, symbol: u8, pointer: u64, named: Row) -> bool
+    ensures { λ r. ⌜ r ≡ pointerBy i (symbolOf symbol) pointer (rowOf named) ⌝ }
 {
     if symbol < 128 {
         return pointer == 65535;
     }
     let p = pointer as usize;
     if p < i {
-        let row = journal[p];
-        return row[0] == (symbol - 128) as u64;
+        return named.head == (symbol - 128) as u64;
     }
     false
 }
 
 // The length of a symbol: of a nonterminal the length in the row that it points to.
-fn symbol_length(journal: &[[u64; 8]], symbol: u8, pointer: u64) -> u64
-    ensures { λ r. ⌜ r ≡ symbolLen noForms (map rowOf (now (journal .entry))) (symbolOf symbol) pointer ⌝ }
+fn symbol_length(symbol: u8, named: Row) -> u64
+    ensures { λ r. ⌜ r ≡ lengthBy (symbolOf symbol) (rowOf named) ⌝ }
 {
     if symbol < 128 {
         return 1;
     }
-    let p = pointer as usize;
-    if p < journal.len() {
-        let row = journal[p];
-        return row[5];
-    }
-    0
+    named.len
 }
 
 // The pointers and the length of row i fit its rule's body.
-fn body_fits(journal: &[[u64; 8]], i: usize, rule: [u8; 4], left: u64, right: u64, len: u64) -> bool
-    requires { ⌜ i < length (now journal) ⌝ }
-    ensures { λ r. ⌜ r ≡ bodyFits noForms (map rowOf (now (journal .entry))) i (entryOf rule .body) left right len ⌝ }
+fn body_fits(i: usize, rule: [u8; 4], row: Row, left: Row, right: Row) -> bool
+    ensures { λ r. ⌜ r ≡ bodyBy i (entryOf rule .body) (rowOf row) (rowOf left) (rowOf right) ⌝ }
 {
     let symbols = rule[1];
     if symbols == 0 {
-        return ((left == 65535) & (right == 65535)) & (len == 0);
+        return ((row.left == 65535) & (row.right == 65535)) & (row.len == 0);
     }
     let a = rule[2];
-    let first = pointer_fits(journal, i, a, left);
-    let n = symbol_length(journal, a, left);
+    let first = pointer_fits(i, a, row.left, left);
+    let n = symbol_length(a, left);
     if symbols == 1 {
-        return (first & (right == 65535)) & (len == n);
+        return (first & (row.right == 65535)) & (row.len == n);
     }
     let b = rule[3];
-    let second = pointer_fits(journal, i, b, right);
-    let m = symbol_length(journal, b, right);
-    (first & second) & (len == capped_sum(n, m))
+    let second = pointer_fits(i, b, row.right, right);
+    let m = symbol_length(b, right);
+    (first & second) & (row.len == capped_sum(n, m))
 }
 
 // The rule's head is the nonterminal.
@@ -82,30 +88,52 @@ fn of_head(head: u8, nonterminal: u64) -> bool
     head as u64 == nonterminal
 }
 
-// Row i fits the rules.
-fn row_fits(journal: &[[u64; 8]], rules: &[[u8; 4]], i: usize) -> bool
-    requires { ⌜ i < length (now journal) ⌝ }
-    ensures { λ r. ⌜ r ≡ rowFits noForms (map rowOf (now (journal .entry))) (map entryOf (now (rules .entry))) i ⌝ }
+// Row i fits the rules, where left and right are the rows that its pointers name, if lower.
+fn row_fits(rules: &[[u8; 4]], i: usize, row: Row, left: Row, right: Row) -> bool
+    ensures { λ r. ⌜ r ≡ rowBy (map entryOf (now (rules .entry))) i (rowOf row) (rowOf left) (rowOf right) ⌝ }
 {
-    let row = journal[i];
-    let k = row[1] as usize;
+    let k = row.rule as usize;
     if k < rules.len() {
         let rule = rules[k];
-        return of_head(rule[0], row[0]) & body_fits(journal, i, rule, row[3], row[4], row[5]);
+        return of_head(rule[0], row.head) & body_fits(i, rule, row, left, right);
     }
     false
 }
 
-// The rows 0 through i fit the rules.
-pub fn rows_fit(journal: &[[u64; 8]], rules: &[[u8; 4]], i: usize) -> bool
-    requires { ⌜ i < length (now journal) ⌝ }
-    ensures { λ r. ⌜ r ≡ rowsFit noForms (map rowOf (now (journal .entry))) (map entryOf (now (rules .entry))) (i + 1) ⌝ }
+// Whether all rows so far fit, and the length in the last of them.
+pub struct Fit {
+    pub fits: bool,
+    pub len: u64,
+}
+
+// The same with row i.
+fn fit_after(fit: Fit, rules: &[[u8; 4]], i: usize, row: Row, left: Row, right: Row) -> Fit
+    ensures { λ r. ⌜ (r .fits ≡ (fit .fits && rowBy (map entryOf (now (rules .entry))) i (rowOf row) (rowOf left) (rowOf right))) × (r .len ≡ row .len) ⌝ }
 {
-    let mut fit = true;
-    let mut j: usize = 0;
-    while j <= i {
-        fit = fit & row_fits(journal, rules, j);
-        j += 1;
+    Fit {
+        fits: fit.fits & row_fits(rules, i, row, left, right),
+        len: row.len,
+    }
+}
+
+// ---- the journal
+
+// Whether the first so many rows fit the rules: proved by hand.
+pub fn rows_fit(journal: &[Row], rules: &[[u8; 4]], rows: usize) -> Fit
+    requires { ⌜ rows ≤ length (now journal) ⌝ }
+    ensures { λ r. ⌜ (r .fits ≡ rowsFit noForms (map rowOf (now (journal .entry))) (map entryOf (now (rules .entry))) rows)
+        × (r .len ≡ lastLen (map rowOf (now (journal .entry))) rows) ⌝ }
+{
+    let mut fit = Fit { fits: true, len: 0 };
+    let mut i: usize = 0;
+    while i < rows {
+        let row = journal[i];
+        let l = lower(row.left, i);
+        let left = journal[l];
+        let r = lower(row.right, i);
+        let right = journal[r];
+        fit = fit_after(fit, rules, i, row, left, right);
+        i += 1;
     }
     fit
 }

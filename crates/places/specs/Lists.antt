@@ -1,13 +1,12 @@
 -- The table of lists: for each nonterminal the rows that were live when the pass began, rising. Definitions only. Assumes nothing.
 use mathlib.Core.Path.{_≡_}
-use mathlib.Core.Bool.{_&&_, cond}
+use mathlib.Core.Bool.{cond}
 use mathlib.Core.List.{List, [], _∷_}
 use Prim.Native.Nat.{ℕ, _+_, _<_}
 use lib.Dec.{ltb}
-use lib.ListN.{length, getD, set}
+use lib.ListN.{getD}
 use Rattle.working_order.specs.Candidates.{liveRows}
-use Rattle.working_order.specs.Journal.{live}
-use Rattle.calls.specs.Rows.{rowOf}
+use Rattle.calls.specs.Rows.{rowOf, blank}
 use Rattle.rows.specs.Base.{Row, Choice}
 use Rattle.rows.specs.Forming.{rowChoice}
 
@@ -40,7 +39,7 @@ Chain f lists i (c ∷ cs) = (i ≡ end → ⊥) × (f i ≡ c) × Chain f lists
 
 -- row i of these
 abbrev pub rowIn : List Row → ℕ → Row
-rowIn A i = getD A i (rowOf [])
+rowIn A i = getD A i (rowOf blank)
 
 abbrev pub rowAs : List Row → ℕ → Choice
 rowAs A i = rowChoice i (rowIn A i)
@@ -48,12 +47,3 @@ rowAs A i = rowChoice i (rowIn A i)
 -- the list of each nonterminal is that of its live rows
 abbrev pub Listed : List Row → List ℕ → Type 0
 Listed A lists = (x : ℕ) → x < heads → Chain (rowAs A) lists (getD lists (headCell x) 0) (liveRows x 0 A)
-
--- no list has a row
-abbrev pub Cleared : List ℕ → Type 0
-Cleared lists = (length lists ≡ listCells) × ((x : ℕ) → x < heads → getD lists (headCell x) 0 ≡ end)
-
--- with row i in front of the list of its nonterminal, if it is live
-abbrev pub linked : List ℕ → ℕ → Row → List ℕ
-linked lists i r =
-    cond (ltb i rowCells && (ltb (r .head) heads && live r)) (set (set lists i (getD lists (headCell (r .head)) 0)) (headCell (r .head)) i) lists

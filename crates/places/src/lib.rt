@@ -1,20 +1,17 @@
 // The order in which a pass takes its candidates: rules in file order, the left symbol outer, the right one inner, rows rising. The rows
-// that were live when the pass began are gathered in a table of lists: cell i has the row after row i in the list of its nonterminal, and
-// cell 4,096 + x the first row of nonterminal x.
+// that were live when the pass began stand in a table of lists: cell i has the row after row i in the list of its nonterminal, and cell
+// 4,096 + x the first row of nonterminal x.
 use rows::Place;
 ghost use mathlib.Core.Path.{_≡_};
-ghost use Prim.Native.Nat.{_<_};
+ghost use Prim.Native.Nat.{_≤_};
+ghost use lib.ListN.{length};
 ghost use Rattle.plan_file.specs.Views.{symbolOf};
-ghost use Rattle.calls.specs.Rows.{rowOf, entryOf};
+ghost use Rattle.calls.specs.Rows.{entryOf};
 ghost use Rattle.rows.specs.Forming.{some, leftPart, rightPart};
-ghost use Rattle.places.specs.Lists.{afterIn, linked};
+ghost use Rattle.places.specs.Lists.{listCells, end, afterIn};
 ghost use Rattle.places.specs.Places.{Begins, Opens, Follows};
 
 const ROWS: usize = 4096;
-
-const HEADS: u64 = 256;
-
-const HEAD: usize = 0;
 
 // The position of a symbol that is no row.
 const ABSENT: usize = 65535;
@@ -24,29 +21,30 @@ const END: usize = 65536;
 
 const TERMINALS: u8 = 128;
 
-// ---- the lists
+// ---- positions
 
-// Row i goes in front of the list of its nonterminal, if it is live.
-pub fn link(lists: &mut [usize; 4352], i: usize, row: [u64; 8])
-    ensures { λ r. ⌜ now (lists .exit) ≡ linked (now (lists .entry)) i (rowOf row) ⌝ }
+// The position that a cell has.
+pub fn position(cell: u32) -> usize
+    ensures { λ r. ⌜ r ≡ cell ⌝ }
 {
-    if i < ROWS {
-        if row[HEAD] < HEADS {
-            if rows::live(row) {
-                let cell = ROWS + row[HEAD] as usize;
-                lists[i] = lists[cell];
-                lists[cell] = i;
-            }
-        }
-    }
+    cell as usize
+}
+
+// The cell of a position.
+pub fn cell(position: usize) -> u32
+    requires { ⌜ position ≤ end ⌝ }
+    ensures { λ r. ⌜ r ≡ position ⌝ }
+{
+    position as u32
 }
 
 // The position after this one.
-fn after(lists: &[usize; 4352], i: usize) -> usize
+fn after(lists: &[u32], i: usize) -> usize
+    requires { ⌜ listCells ≤ length (now lists) ⌝ }
     ensures { λ r. ⌜ r ≡ afterIn (now (lists .entry)) i ⌝ }
 {
     if i < ROWS {
-        return lists[i];
+        return position(lists[i]);
     }
     END
 }
@@ -54,18 +52,20 @@ fn after(lists: &[usize; 4352], i: usize) -> usize
 // ---- the places of a rule
 
 // The first position of a symbol.
-fn first_of(lists: &[usize; 4352], symbol: u8) -> usize
+fn first_of(lists: &[u32], symbol: u8) -> usize
+    requires { ⌜ listCells ≤ length (now lists) ⌝ }
     ensures { λ r. ⌜ Begins (now (lists .entry)) (some (symbolOf symbol)) r ⌝ }
 {
     if symbol < TERMINALS {
         return ABSENT;
     }
     let cell = ROWS + (symbol - TERMINALS) as usize;
-    lists[cell]
+    position(lists[cell])
 }
 
 // The first position of each part of the body of rule r.
-fn beginning(lists: &[usize; 4352], rule: [u8; 4], r: usize) -> Place
+fn beginning(lists: &[u32], rule: [u8; 4], r: usize) -> Place
+    requires { ⌜ listCells ≤ length (now lists) ⌝ }
     ensures { λ p. ⌜ (p .rule ≡ r) × Begins (now (lists .entry)) (leftPart (entryOf rule .body)) (p .left) × Begins (now (lists .entry)) (rightPart (entryOf rule .body)) (p .right) ⌝ }
 {
     let size = rule[1];
@@ -95,7 +95,8 @@ fn beginning(lists: &[usize; 4352], rule: [u8; 4], r: usize) -> Place
 // ---- the places of a pass
 
 // The first place from rule r on; past the last rule where there is none.
-pub fn first_place(lists: &[usize; 4352], rules: &[[u8; 4]], r: usize) -> Place
+pub fn first_place(lists: &[u32], rules: &[[u8; 4]], r: usize) -> Place
+    requires { ⌜ listCells ≤ length (now lists) ⌝ }
     ensures { λ p. ⌜ Opens (now (lists .entry)) (now (rules .entry)) r p ⌝ }
 {
     let mut r = r;
@@ -115,7 +116,8 @@ pub fn first_place(lists: &[usize; 4352], rules: &[[u8; 4]], r: usize) -> Place
 }
 
 // The place after this one.
-pub fn next_place(lists: &[usize; 4352], rules: &[[u8; 4]], place: Place) -> Place
+pub fn next_place(lists: &[u32], rules: &[[u8; 4]], place: Place) -> Place
+    requires { ⌜ listCells ≤ length (now lists) ⌝ }
     ensures { λ p. ⌜ Follows (now (lists .entry)) (now (rules .entry)) place p ⌝ }
 {
     let r = place.rule;

@@ -36,9 +36,8 @@ fn drain() -> usize
 
 // The file is the first n bytes.
 fn report_front(input: &[u8], n: usize) {
-    let mut journal = [[0u64; 8]; ROWS];
     if n <= input.len() {
-        report::report(&input[..n], &mut journal, BUDGET);
+        report::report(&input[..n], ROWS, standalone::blank_row(), BUDGET);
     }
 }
 

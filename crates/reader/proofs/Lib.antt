@@ -1,4 +1,2 @@
 mod Behind
-pub mod CallStep
-pub mod MetByWalk
 pub mod Readers

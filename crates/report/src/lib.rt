@@ -1,10 +1,7 @@
 // Prints the answer of a check as document 01, "The check program", has it: the lines that the check program writes.
-use checker::Checked;
-use checker::Writing;
+use calls::Row;
 use libc::STDOUT_FILENO;
-use relation::Relation;
-use search::Answer;
-use search::Totals;
+use standalone::Told;
 
 // The run buffer of the check program.
 const RUN: usize = 4096;
@@ -24,14 +21,14 @@ fn print_refused(number: u64) {
 }
 
 // Line 1: verdict, joins, used rows, pass.
-fn print_totals(verdict: &[u8], totals: Totals) {
+fn print_totals(verdict: &[u8], told: Told) {
     print(verdict);
     print(b" ");
-    print_number(totals.joins);
+    print_number(told.joins);
     print(b" ");
-    print_number(totals.used as u64);
+    print_number(told.used);
     print(b" ");
-    print_number(totals.pass);
+    print_number(told.pass);
     print(b"\n");
 }
 
@@ -60,49 +57,39 @@ fn print_front(buffer: &[u8], n: usize) {
     }
 }
 
-// Line 3: the run behind the row, or what refuses to write it.
-fn print_run(file: &[u8], journal: &[[u64; 8]], used: usize, row: usize) {
-    let mut buffer = [0u8; RUN];
-    let writing = checker::write(file, journal, used, row, &mut buffer);
-    match writing {
-        Writing::Refused(refusal) => print_refused(refusal.number),
-        Writing::Length(n) => print_front(&buffer, n),
-    }
-}
-
-// Lines 2 and 3 of a broken answer: the row, its pairs and its length, and then the run.
-fn print_broken(file: &[u8], journal: &[[u64; 8]], row: usize, totals: Totals) {
-    if journal.len() <= row {
+// Lines 2 and 3 of a broken answer: the row, its pairs and its length, and then the run, or what refuses to write it.
+fn print_broken(told: Told, buffer: &[u8]) {
+    print_number(told.row);
+    print(b" ");
+    print_number(told.pairs);
+    print(b" ");
+    print_number(told.length);
+    print(b"\n");
+    if told.refused != 0 {
+        print_refused(told.refused);
         return;
     }
-    let found = journal[row];
-    let relation = Relation { bits: found[2] };
-    print_number(row as u64);
-    print(b" ");
-    print_number(relation.pairs() as u64);
-    print(b" ");
-    print_number(found[5]);
-    print(b"\n");
-    print_run(file, journal, totals.used, row);
+    print_front(buffer, told.length as usize);
 }
 
-fn print_answer(file: &[u8], journal: &[[u64; 8]], answer: Answer) {
-    match answer {
-        Answer::Holds(totals) => print_totals(b"holds", totals),
-        Answer::Full(totals) => print_totals(b"full", totals),
-        Answer::Spent(totals) => print_totals(b"spent", totals),
-        Answer::Broken(row, totals) => {
-            print_totals(b"broken", totals);
-            print_broken(file, journal, row, totals);
-        }
+fn print_told(told: Told, buffer: &[u8]) {
+    if told.code == standalone::HOLDS {
+        print_totals(b"holds", told);
+    } else if told.code == standalone::FULL {
+        print_totals(b"full", told);
+    } else if told.code == standalone::SPENT {
+        print_totals(b"spent", told);
+    } else if told.code == standalone::BROKEN {
+        print_totals(b"broken", told);
+        print_broken(told, buffer);
+    } else {
+        print_refused(told.code);
     }
 }
 
-// Checks the file over the journal with the budget, and prints what came.
-pub fn report(file: &[u8], journal: &mut [[u64; 8]], budget: u64) {
-    let checked = checker::check(file, journal, budget);
-    match checked {
-        Checked::Refused(refusal) => print_refused(refusal.number),
-        Checked::Answered(answer) => print_answer(file, journal, answer),
-    }
+// Checks the file over a journal of so many rows, each old before, with the budget, and prints what came.
+pub fn report(file: &[u8], rows: usize, old: Row, budget: u64) {
+    let mut buffer = [0u8; RUN];
+    let told = standalone::checked(file, rows, old, budget, 0, &mut buffer);
+    print_told(told, &buffer);
 }

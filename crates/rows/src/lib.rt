@@ -1,25 +1,19 @@
-// One row, one way to take a symbol, and one candidate of the working order, each by value. A row is eight numbers: head, rule, relation,
-// left, right, length, birth, retired. A rule is four: its head, its body's size and the bytes of its symbols.
+// One row of the journal, one way to take a symbol, and one candidate of the working order, each by value. A rule is four bytes: its head, its
+// body's size and its symbols.
+use calls::Row;
 use relation::Relation;
 ghost use mathlib.Core.Path.{_≡_};
-ghost use Prim.Native.Nat.{_+_, _<_};
+ghost use Prim.Native.Nat.{_+_, _≤_, _<_};
+ghost use lib.ListN.{length};
 ghost use Rattle.relation.specs.Relation.{contained};
 ghost use Rattle.plan_file.specs.Views.{symbolOf};
 ghost use Rattle.working_order.specs.Candidates.{sole};
-ghost use Rattle.working_order.specs.Journal.{capped, live};
+ghost use Rattle.working_order.specs.Journal.{capped};
 ghost use Rattle.working_order.specs.Order.{larger, born};
-ghost use Rattle.calls.specs.Rows.{relationIn, rowOf, entryOf};
+ghost use Rattle.calls.specs.Rows.{rowOf, entryOf};
 ghost use Rattle.rows.specs.Base.{emptyBody, joined, breaking};
 ghost use Rattle.rows.specs.Meanings.{candidateOf, choiceOf};
 ghost use Rattle.rows.specs.Forming.{isBelow, retiredIn, symbolChoice, formedBy};
-
-const HEAD: usize = 0;
-
-const RELATION: usize = 2;
-
-const LEN: usize = 5;
-
-const RETIRED: usize = 7;
 
 // A pointer that names no row, and the length that means this or more.
 const ABSENT: u64 = 65535;
@@ -58,62 +52,58 @@ struct Choice {
 
 // ---- a row and a candidate
 
-fn relation_of(row: [u64; 8]) -> Relation
-    ensures { λ r. ⌜ r ≡ relationIn row ⌝ }
-{
-    Relation {
-        bits: row[RELATION],
-    }
-}
-
-// The row has not retired.
-pub fn live(row: [u64; 8]) -> bool
-    ensures { λ r. ⌜ r ≡ live (rowOf row) ⌝ }
-{
-    row[RETIRED] == 0
-}
-
 // The row is live, of the candidate's nonterminal, and its relation is contained in the candidate's.
-pub fn below(row: [u64; 8], candidate: Candidate) -> bool
+pub fn below(row: Row, candidate: Candidate) -> bool
     ensures { λ r. ⌜ r ≡ isBelow (candidateOf candidate) (rowOf row) ⌝ }
 {
-    let held = relation_of(row);
+    let held = row.relation;
     let formed = candidate.relation;
-    (row[HEAD] == candidate.head as u64) & (row[RETIRED] == 0) & held.contained(formed)
+    (row.head == candidate.head as u64) & (row.retired == 0) & held.contained(formed)
 }
 
 // The row is live, of the candidate's nonterminal, and its relation is strictly larger.
-pub fn outgrown(row: [u64; 8], candidate: Candidate) -> bool
+pub fn outgrown(row: Row, candidate: Candidate) -> bool
     ensures { λ r. ⌜ r ≡ larger contained (candidateOf candidate) (rowOf row) ⌝ }
 {
-    let held = relation_of(row);
+    let held = row.relation;
     let formed = candidate.relation;
-    (row[HEAD] == candidate.head as u64)
-        & (row[RETIRED] == 0)
+    (row.head == candidate.head as u64)
+        & (row.retired == 0)
         & (formed.contained(held) & !held.contained(formed))
 }
 
 // The row, retired in this pass.
-pub fn retired(row: [u64; 8], pass: u64) -> [u64; 8]
+pub fn retired(row: Row, pass: u64) -> Row
     ensures { λ r. ⌜ rowOf r ≡ retiredIn pass (rowOf row) ⌝ }
 {
-    [row[0], row[1], row[2], row[3], row[4], row[5], row[6], pass]
+    let relation = row.relation;
+    Row {
+        head: row.head,
+        rule: row.rule,
+        relation,
+        left: row.left,
+        right: row.right,
+        len: row.len,
+        birth: row.birth,
+        retired: pass,
+    }
 }
 
 // The row that the candidate becomes.
-pub fn opened(pass: u64, candidate: Candidate) -> [u64; 8]
+pub fn opened(pass: u64, candidate: Candidate) -> Row
     ensures { λ r. ⌜ rowOf r ≡ born pass (candidateOf candidate) ⌝ }
 {
-    [
-        candidate.head as u64,
-        candidate.rule,
-        candidate.relation.bits,
-        candidate.left,
-        candidate.right,
-        candidate.len,
-        pass,
-        0,
-    ]
+    let relation = candidate.relation;
+    Row {
+        head: candidate.head as u64,
+        rule: candidate.rule,
+        relation,
+        left: candidate.left,
+        right: candidate.right,
+        len: candidate.len,
+        birth: pass,
+        retired: 0,
+    }
 }
 
 // The candidate is of the initial nonterminal, and rejects.
@@ -135,7 +125,8 @@ pub fn slot(candidate: Candidate) -> usize
 // ---- forming a candidate
 
 // A terminal is taken by its relation, a nonterminal by a row.
-fn taken(letters: &[u64; 128], symbol: u8, i: usize, row: [u64; 8]) -> Choice
+fn taken(letters: &[u64], symbol: u8, i: usize, row: Row) -> Choice
+    requires { ⌜ 128 ≤ length (now letters) ⌝ }
     ensures { λ r. ⌜ choiceOf r ≡ symbolChoice (now (letters .entry)) (symbolOf symbol) i (rowOf row) ⌝ }
 {
     if symbol < TERMINALS {
@@ -147,10 +138,11 @@ fn taken(letters: &[u64; 128], symbol: u8, i: usize, row: [u64; 8]) -> Choice
             len: 1,
         };
     }
+    let relation = row.relation;
     Choice {
-        relation: relation_of(row),
+        relation,
         pointer: i as u64,
-        len: row[LEN],
+        len: row.len,
     }
 }
 
@@ -209,13 +201,8 @@ fn two_symbols(origin: Origin, first: Choice, second: Choice) -> Candidate
 }
 
 // The candidate of a place, whose rule and rows these are.
-pub fn formed(
-    letters: &[u64; 128],
-    rule: [u8; 4],
-    place: Place,
-    left: [u64; 8],
-    right: [u64; 8],
-) -> Candidate
+pub fn formed(letters: &[u64], rule: [u8; 4], place: Place, left: Row, right: Row) -> Candidate
+    requires { ⌜ 128 ≤ length (now letters) ⌝ }
     ensures { λ r. ⌜ candidateOf r ≡ formedBy (now (letters .entry)) (entryOf rule) place (rowOf left) (rowOf right) ⌝ }
 {
     let origin = Origin {

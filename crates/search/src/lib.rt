@@ -1,187 +1,61 @@
-// The inclusion check over a lent journal of number rows: the working order of document 01.
-use deciding::Counts;
-use deciding::Outcome;
-use deciding::Terms;
-ghost use mathlib.Core.Path.{_≡_};
-ghost use Prim.Native.Nat.{_≤_};
-ghost use lib.ListN.{length};
-ghost use Rattle.calls.specs.Checking.{journalLimit};
-ghost use Rattle.places.specs.Lists.{listCells, Listed};
-ghost use Rattle.journal.specs.Covers.{Covering};
-ghost use Rattle.journal.specs.Rows.{firstRows};
-ghost use Rattle.deciding.specs.Meanings.{countsIn};
-ghost use Rattle.deciding.specs.Contracts.{Ready, Answers};
-ghost use Rattle.search.specs.Meanings.{totalsOf, endOf};
-ghost use Rattle.search.specs.Walks.{passIn};
-ghost use Rattle.search.specs.Contracts.{Checked, orderOf, searchOf, Searches};
+// The three loops that hold the lent journal; all else is covered code on values.
+use calls::Row;
+use deciding::Look;
+use deciding::State;
+use rows::Candidate;
+ghost use Rattle.rows.specs.Meanings.{candidateOf};
+ghost use Rattle.deciding.specs.Clearing.{Settled};
+ghost use Rattle.passes.specs.Running.{MayFind, Found, MaySettle, Running, Ran};
 
-const JOURNAL_LIMIT: usize = 4096;
+// The first row that covers the candidate, if there is one.
+fn find(journal: &[Row], table: &[u32], state: State, candidate: Candidate) -> Look
+    requires { ⌜ MayFind state (now journal) (now table) ⌝ }
+    ensures { λ r. ⌜ Found state candidate (now (journal .entry)) (now (table .entry)) r ⌝ }
+{
+    let mut look = deciding::look_first(table, state, candidate);
+    while look.walking {
+        let at = look.at;
+        let held = journal[at];
+        look = deciding::look_on(table, state, candidate, look, held);
+    }
+    look
+}
 
-// No position is left (crate places).
-const END: usize = 65536;
+// Where no row covers the candidate and there is room, the larger rows retire and it becomes the next row.
+fn settle(journal: &mut [Row], table: &mut [u32], state: State, candidate: Candidate, look: Look)
+    requires { ⌜ MaySettle state candidate look (now journal) (now table) ⌝ }
+    ensures { λ r. ⌜ Settled (state .terms .pass) (candidateOf candidate) (state .counts .used) look (now (journal .entry)) (now (table .entry)) (now (journal .exit)) (now (table .exit)) ⌝ }
+{
+    let mut clearing = deciding::clear_first(table, state, candidate, look);
+    while clearing.walking {
+        let at = clearing.at;
+        let held = journal[at];
+        journal[at] = deciding::kept(state, candidate, clearing, held);
+        clearing = deciding::clear_on(table, state, candidate, clearing, held);
+    }
+}
 
-// ---- passes
-
-// One pass, over the lists of the rows that were live when it began.
-fn one_pass(
-    journal: &mut [[u64; 8]],
-    covers: &mut [usize; 41472],
-    lists: &[usize; 4352],
-    letters: &[u64; 128],
+// The candidates, one after the other, to the end of the search.
+pub fn run(
+    journal: &mut [Row],
+    table: &mut [u32],
+    letters: &[u64],
     rules: &[[u8; 4]],
-    counts: Counts,
-    terms: Terms,
-) -> Outcome
-    requires { ⌜ Ready terms counts (now journal) (now covers) × (terms .start ≡ counts .used) × Listed (firstRows (counts .used) (now journal)) (now lists) ⌝ }
-    ensures { λ o. ⌜ Answers (terms .budget) (passIn terms (now (letters .entry)) (now (rules .entry)) counts (now (journal .entry))) counts (now (journal .entry)) (now (journal .exit)) o × Covering (firstRows (countsIn o .used) (now (journal .exit))) (now (covers .exit)) ⌝ }
+    state: State,
+) -> State
+    requires { ⌜ Running (now letters) (now rules) state (now journal) state (now journal) (now table) ⌝ }
+    ensures { λ r. ⌜ Ran (now (letters .entry)) (now (rules .entry)) state (now (journal .entry)) (now (journal .exit)) (now (table .exit)) r ⌝ }
 {
-    let mut counts = counts;
-    let mut place = places::first_place(lists, rules, 0);
-    while place.rule < rules.len() {
-        let candidate = deciding::candidate_at(journal, letters, rules, terms.start, place);
-        let outcome = deciding::consider(journal, covers, counts, terms, candidate);
-        let Outcome::Going(next) = outcome else {
-            return outcome;
-        };
-        counts = next;
-        place = places::next_place(lists, rules, place);
+    let mut state = state;
+    while state.going {
+        let i = state.left;
+        let left = journal[i];
+        let k = state.right;
+        let right = journal[k];
+        let candidate = deciding::form(letters, rules, state, left, right);
+        let look = find(journal, table, state, candidate);
+        settle(journal, table, state, candidate, look);
+        state = passes::advance(rules, table, state, candidate, look);
     }
-    Outcome::Going(counts)
-}
-
-// A pass: the lists first, then the candidates.
-fn pass_on(
-    journal: &mut [[u64; 8]],
-    lists: &mut [usize; 4352],
-    covers: &mut [usize; 41472],
-    letters: &[u64; 128],
-    rules: &[[u8; 4]],
-    counts: Counts,
-    terms: Terms,
-) -> Outcome
-    requires { ⌜ Ready terms counts (now journal) (now covers) × (terms .start ≡ counts .used) × (length (now lists) ≡ listCells) ⌝ }
-    ensures { λ o. ⌜ Answers (terms .budget) (passIn terms (now (letters .entry)) (now (rules .entry)) counts (now (journal .entry))) counts (now (journal .entry)) (now (journal .exit)) o × Covering (firstRows (countsIn o .used) (now (journal .exit))) (now (covers .exit)) × (length (now (lists .exit)) ≡ listCells) ⌝ }
-{
-    journal::clear(lists);
-    journal::gather(journal, counts.used, lists);
-    one_pass(journal, covers, lists, letters, rules, counts, terms)
-}
-
-// What each answer carries.
-pub struct Totals {
-    pub joins: u64,
-    pub used: usize,
-    pub pass: u64,
-}
-
-// The verdict; a broken answer names its row.
-pub enum Answer {
-    Holds(Totals),
-    Broken(usize, Totals),
-    Full(Totals),
-    Spent(Totals),
-}
-
-// After a pass: the answer, or where the next pass begins.
-enum PassEnd {
-    Again(Counts),
-    Done(Answer),
-}
-
-fn sum_up(counts: Counts, pass: u64) -> Totals
-    ensures { λ r. ⌜ r ≡ totalsOf counts pass ⌝ }
-{
-    Totals {
-        joins: counts.joins,
-        used: counts.used,
-        pass,
-    }
-}
-
-// How a pass that began with start rows ends.
-fn close_pass(outcome: Outcome, start: usize, pass: u64) -> PassEnd
-    ensures { λ r. ⌜ r ≡ endOf start pass outcome ⌝ }
-{
-    match outcome {
-        Outcome::Going(counts) => {
-            if counts.used == start {
-                return PassEnd::Done(Answer::Holds(sum_up(counts, pass)));
-            }
-            PassEnd::Again(counts)
-        }
-        Outcome::Spent(counts) => PassEnd::Done(Answer::Spent(sum_up(counts, pass))),
-        Outcome::Full(counts) => PassEnd::Done(Answer::Full(sum_up(counts, pass))),
-        Outcome::Broken(row, counts) => PassEnd::Done(Answer::Broken(row, sum_up(counts, pass))),
-    }
-}
-
-// Passes until one gives the answer.
-fn check(
-    journal: &mut [[u64; 8]],
-    letters: &[u64; 128],
-    rules: &[[u8; 4]],
-    finals: u8,
-    budget: u64,
-) -> Answer
-    requires { ⌜ length (now journal) ≤ journalLimit ⌝ }
-    ensures { λ r. ⌜ Checked (orderOf (now (letters .entry)) (now (rules .entry)) finals (length (now (journal .entry))) budget) (now (journal .entry)) (now (journal .exit)) r ⌝ }
-{
-    let mut lists = [END; 4352];
-    let mut covers = [END; 41472];
-    let mut counts = Counts { used: 0, joins: 0 };
-    let mut pass: u64 = 1;
-    loop {
-        let start = counts.used;
-        let terms = Terms {
-            budget,
-            finals,
-            pass,
-            start,
-        };
-        let outcome = pass_on(
-            journal,
-            &mut lists,
-            &mut covers,
-            letters,
-            rules,
-            counts,
-            terms,
-        );
-        let end = close_pass(outcome, start, pass);
-        match end {
-            PassEnd::Done(answer) => return answer,
-            PassEnd::Again(next) => {
-                counts = next;
-            }
-        }
-        pass += 1;
-    }
-}
-
-// The refusal of a journal that has no row or too many, or the answer.
-pub enum Searched {
-    Refused,
-    Answered(Answer),
-}
-
-// The inclusion check. letters has the relation of each terminal; a rule is its head, its body's size and its two symbols; state f is
-// final where bit f of the mask is set.
-pub fn search(
-    journal: &mut [[u64; 8]],
-    letters: &[u64; 128],
-    rules: &[[u8; 4]],
-    finals: u8,
-    budget: u64,
-) -> Searched
-    ensures { λ r. ⌜ Searches (searchOf (now (letters .entry)) (now (rules .entry)) finals (length (now (journal .entry))) budget) (now (journal .entry)) (now (journal .exit)) r ⌝ }
-{
-    let rows = journal.len();
-    if rows == 0 {
-        return Searched::Refused;
-    }
-    if JOURNAL_LIMIT < rows {
-        return Searched::Refused;
-    }
-    let answer = check(journal, letters, rules, finals, budget);
-    Searched::Answered(answer)
+    state
 }

@@ -1,5 +1,5 @@
 -- The numbers that refuse writing, and what holds where none does. Assumes nothing.
-use mathlib.Core.Path.{_≡_, refl, sym, ap, ap₂, _∙_}
+use mathlib.Core.Path.{_≡_, refl, sym, ap, _∙_}
 use mathlib.Core.Bool.{Bool, true, false, not, _||_, cond}
 use mathlib.Core.List.{List}
 use Prim.Native.Nat.{ℕ, zero, suc, _+_, _<_}
@@ -15,23 +15,19 @@ use Rattle.working_order.specs.Fitting.{rowsFit}
 use Rattle.calls.specs.Base.{words}
 use Rattle.calls.specs.BaseLaws.{word-sizes}
 use Rattle.calls.specs.Checking.{journalFault}
-use Rattle.calls.specs.Replies.{answered, unless}
-use Rattle.calls.specs.Writing.{longWord, rowFault, roomFault, writtenBy}
-use Rattle.plan_file.specs.Refusals.{refuse}
-use Rattle.witness.specs.declared.Part.the-variants.{Older}
-use Rattle.witness.specs.declared.Written.the-variants.{Word, Refused}
+use Rattle.calls.specs.Writing.{longWord, rowFault, roomFault}
 use Rattle.fitting.specs.Forms.{noForms}
-use Rattle.witness.specs.Parts.{Ready, Wrote}
-use Rattle.witness.specs.Writes.{tooLong, firstOf, writeFault, writeBy, Writes}
+use Rattle.witness.specs.Parts.{olderRow, Ready}
+use Rattle.witness.specs.Writes.{tooLong, firstOf, writeFault}
 use Rattle.witness.specs.FittingLaws.{FitThrough, fit-through}
 use Rattle.witness.specs.BehindLaws.{len-behind}
 
 -- a test that refuses with a number, and does not
-not-refused : (b : Bool) (k : ℕ) → cond b (suc k) 0 ≡ 0 → b ≡ false
+pub not-refused : (b : Bool) (k : ℕ) → cond b (suc k) 0 ≡ 0 → b ≡ false
 not-refused true k e = absurd (let z : ⊥ = omega arith in z)
 not-refused false k e = refl
 
-neither : (f g : ℕ) → firstOf f g ≡ 0 → (f ≡ 0) × (g ≡ 0)
+pub neither : (f g : ℕ) → firstOf f g ≡ 0 → (f ≡ 0) × (g ≡ 0)
 neither zero g e = (refl, e)
 neither (suc f) g e = absurd (let z : ⊥ = omega arith in z)
 
@@ -75,26 +71,8 @@ module _ (rules : List Rule) (rows : List (Row ℕ)) (used i : ℕ) where
           let l = leb-false longWord n h in
           let z : k ≡ n = omega (arith, e) in ap (λ (x : ℕ). tooLong x room) z
 
-  -- 8 refuses; 9 does, and 8 does not; 10 decides, by the length in the row
-  pub eight-first : (room f : ℕ) → f ≡ journalFault (length rows) → (f ≡ 0 → ⊥) → f ≡ writeFault rules rows used i room
-  unfolding writeFault
-  eight-first room zero e z = absurd (z refl)
-  eight-first room (suc f) e z = ap (λ (m : ℕ). firstOf m (firstOf (rowFault noForms rules rows used i) (roomFault (wordBehind words rules rows i) room))) e
-
-  pub nine-next : (room f : ℕ) → journalFault (length rows) ≡ 0 → f ≡ rowFault noForms rules rows used i → (f ≡ 0 → ⊥) → f ≡ writeFault rules rows used i room
-  unfolding writeFault
-  nine-next room zero o e z = absurd (z refl)
-  nine-next room (suc f) o e z = ap₂ (λ (m k : ℕ). firstOf m (firstOf k (roomFault (wordBehind words rules rows i) room))) (sym o) e
-
-  pub ten-last : (room : ℕ) (b : Bool) → journalFault (length rows) ≡ 0 → rowFault noForms rules rows used i ≡ 0
-      → tooLong (getD rows i (noRow noForms) .len) room ≡ b → cond b 10 0 ≡ writeFault rules rows used i room
-  unfolding writeFault roomFault
-  ten-last room b o e h =
-      ap (λ (t : Bool). cond t 10 0) (sym h ∙ by-length (named rules rows used i e) room)
-      ∙ ap₂ (λ (m k : ℕ). firstOf m (firstOf k (roomFault (wordBehind words rules rows i) room))) (sym o) (sym e)
-
   -- none refuses: the row may be written
-  pub ready : (room : ℕ) → writeFault rules rows used i room ≡ 0 → Ready rules rows (Older i) room
+  pub ready : (room : ℕ) → writeFault rules rows used i room ≡ 0 → Ready rules rows (olderRow i) room
   unfolding writeFault roomFault
   ready room e =
       let n = length (wordBehind words rules rows i) in
@@ -103,16 +81,3 @@ module _ (rules : List Rule) (rows : List (Row ℕ)) (used i : ℕ) where
       let m = named rules rows used i (b .0) in
       let c = or-neither (leb longWord n) (ltb room n) (not-refused (leb longWord n || ltb room n) 9 (b .1)) in
       record { fits = (m .inside, m .fits); room = ltb-false room n (c .1) }
-
-  -- ---- what the call gives
-
-  pub gives-refusal : (b : List ℕ) (f : ℕ) → f ≡ writeFault rules rows used i (length b) → (f ≡ 0 → ⊥) → Writes rules rows used i b b (Refused f)
-  unfolding writeBy
-  gives-refusal b zero e z = absurd (z refl)
-  gives-refusal b (suc f) e z = let a = ap (λ (m : ℕ). unless (refuse m 0) (answered (length (wordBehind words rules rows i)))) e in record { answer = a; buffer = ap (writtenBy (wordBehind words rules rows i) b) a }
-
-  pub gives-word : (b c : List ℕ) (n : ℕ) → writeFault rules rows used i (length b) ≡ 0 → Wrote (wordBehind words rules rows i) b c n → Writes rules rows used i b c (Word n)
-  unfolding writeBy
-  gives-word b c n e w =
-      let a = ap answered (w .count) ∙ ap (λ (m : ℕ). unless (refuse m 0) (answered (length (wordBehind words rules rows i)))) (sym e) in
-      record { answer = a; buffer = w .bytes ∙ ap (writtenBy (wordBehind words rules rows i) b) a }

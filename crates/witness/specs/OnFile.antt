@@ -1,5 +1,5 @@
 -- The call on a file: the file's refusal in front of what Writes says. Assumes nothing.
-use mathlib.Core.Path.{_≡_, refl, sym, ap, _∙_, subst}
+use mathlib.Core.Path.{_≡_, refl, ap, _∙_}
 use mathlib.Core.Bool.{Bool, not, _||_, cond}
 use mathlib.Core.List.{List}
 use Prim.Native.Nat.{ℕ, zero, suc, _+_}
@@ -14,12 +14,11 @@ use Rattle.working_order.specs.Journal.{Row}
 use Rattle.working_order.specs.Behind.{wordBehind}
 use Rattle.calls.specs.Base.{base, words}
 use Rattle.calls.specs.Checking.{journalFault}
-use Rattle.calls.specs.Replies.{Reply, refused, answered, unless, unlessBy}
-use Rattle.calls.specs.Writing.{rowFault, roomFault, wordOf, writeOf, writtenBy, bufferAfter}
-use Rattle.witness.specs.declared.Written.{Written}
+use Rattle.calls.specs.Replies.{Reply, answered, unless}
+use Rattle.calls.specs.Writing.{rowFault, roomFault, wordOf, writeOf}
 use Rattle.fitting.specs.Forms.{noForms}
 use Rattle.witness.specs.FittingLaws.{fit-same}
-use Rattle.witness.specs.Writes.{firstOf, writeFault, writeBy, replyOf, Writes}
+use Rattle.witness.specs.Writes.{firstOf, writeFault, writeBy}
 
 -- two refusals one after the other are the first of them
 first : {A : Type 0} (f g : ℕ) (a : Reply A) → unless (refuse f 0) (unless (refuse g 0) a) ≡ unless (refuse (firstOf f g) 0) a
@@ -43,25 +42,3 @@ module _ (bs : List ℕ) (rows : List (Row ℕ)) (used i : ℕ) where
       (row-fault-same (base states (automatonOf bs) .forms) noForms (rulesOf bs) rows used i)
       ∙ ap (λ (r : Reply ℕ). unless (fault bs) (unless (refuse eight 0) r)) (first nine ten (answered (length w)))
       ∙ ap (unless (fault bs)) (first eight (firstOf nine ten) (answered (length w)))
-
-  -- a file that is refused
-  pub refused-file : (old : List ℕ) → (fault bs .number ≡ 0 → ⊥) → (refused (fault bs) ≡ writeOf bs rows used i (length old)) × (old ≡ bufferAfter bs rows used i old)
-  unfolding bufferAfter
-  refused-file old z =
-      let e = by (fault bs .number) z (writeBy (rulesOf bs) rows used i (length old)) ∙ sym (write-of (length old)) in
-      (e, ap (writtenBy (wordOf bs rows i) old) e)
-    where
-      by : (n : ℕ) → (n ≡ 0 → ⊥) → (r : Reply ℕ) → refused (fault bs) ≡ unlessBy n (fault bs) r
-      by zero q r = absurd (q refl)
-      by (suc n) q r = refl
-
-  -- a file that is not: its rules, decoded from rows of numbers, are written with
-  pub written-file : (rules : List Rule) → rules ≡ rulesOf bs → fault bs .number ≡ 0 → (old new : List ℕ) (r : Written) → Writes rules rows used i old new r
-      → (replyOf r ≡ writeOf bs rows used i (length old)) × (new ≡ bufferAfter bs rows used i old)
-  unfolding bufferAfter wordOf
-  written-file rules e v old new r w =
-      let x = subst (λ (xs : List Rule). Writes xs rows used i old new r) e w in
-      let same : writeBy (rulesOf bs) rows used i (length old) ≡ writeOf bs rows used i (length old) =
-      ap (λ (n : ℕ). unlessBy n (fault bs) (writeBy (rulesOf bs) rows used i (length old))) (sym v) ∙ sym (write-of (length old))
-      in
-      (x .answer ∙ same, x .buffer ∙ ap (writtenBy (wordBehind words (rulesOf bs) rows i) old) same)

@@ -1,6 +1,5 @@
 -- What writing the word behind a row answers, on rules and rows: 8, 9, 10, and then the word (document 01, "Numbers a call may
 -- refuse with"). The call on a file has the file's refusal in front: OnFile. Definitions only. Assumes nothing.
-use mathlib.Core.Path.{_≡_}
 use mathlib.Core.Bool.{Bool, _||_}
 use mathlib.Core.List.{List}
 use Prim.Native.Nat.{ℕ, zero, suc}
@@ -12,10 +11,8 @@ use Rattle.working_order.specs.Journal.{Row}
 use Rattle.working_order.specs.Behind.{wordBehind}
 use Rattle.calls.specs.Base.{words}
 use Rattle.calls.specs.Checking.{journalFault}
-use Rattle.calls.specs.Replies.{Reply, refused, answered, unless}
-use Rattle.calls.specs.Writing.{longWord, rowFault, roomFault, writtenBy}
-use Rattle.witness.specs.declared.Written.{Written}
-use Rattle.witness.specs.declared.Written.the-variants.{Word, Refused}
+use Rattle.calls.specs.Replies.{Reply, answered, unless}
+use Rattle.calls.specs.Writing.{longWord, rowFault, roomFault}
 use Rattle.fitting.specs.Forms.{noForms}
 
 -- 10 refuses a word of n steps
@@ -35,13 +32,3 @@ writeFault rules rows used i room =
 -- that refusal, and else the word's length
 unfoldable pub writeBy : List Rule → List (Row ℕ) → ℕ → ℕ → ℕ → Reply ℕ
 writeBy rules rows used i room = unless (refuse (writeFault rules rows used i room) 0) (answered (length (wordBehind words rules rows i)))
-
--- the code's answer: these numbers have no record's number
-abbrev pub replyOf : Written → Reply ℕ
-replyOf (Word n) = answered n
-replyOf (Refused f) = refused (refuse f 0)
-
-pub record Writes (rules : List Rule) (rows : List (Row ℕ)) (used i : ℕ) (before after : List ℕ) (r : Written) : Type 0 where
-  pub answer : replyOf r ≡ writeBy rules rows used i (length before)
-  -- the word, and then the old bytes; the old bytes whole on a refusal
-  pub buffer : after ≡ writtenBy (wordBehind words rules rows i) before (writeBy rules rows used i (length before))

@@ -1,26 +1,21 @@
 -- The pointer of a symbol fits, by the tests that led to each answer. Assumes nothing.
-use borrow.Author.Tests.{lt-ltb, le-ltb}
-use lib.ListN.{List·getD-map}
-use mathlib.Core.List.{[]}
-use Rattle.calls.specs.Rows.{rowOf}
-use Rattle.working_order.specs.Fitting.{pointerFits}
 use borrow.Author.Needs.{needs}
+use borrow.Author.Tests.{lt-ltb, le-ltb}
+use Rattle.fitting.specs.ByValue.{pointerBy}
 use Rattle.fitting.proofs.pointer_fits.Statement.{statement}
 use Rattle.fitting.proofs.pointer_fits.Tie as tie
 
 returns : tie.Need-returns
-unfolding pointerFits
+unfolding pointerBy
 returns c = simp (lt-ltb _ _ (c .if1 .taken))
 
 returns-2 : tie.Need-returns-2
-unfolding pointerFits
-returns-2 c = simp (le-ltb _ _ (c .before .before .if1 .left), lt-ltb _ _ (c .before .if2 .taken), List·getD-map rowOf (c .before .before .before .args .journal .now) (c .before .before .before .args .pointer) [])
+unfolding pointerBy
+returns-2 c = simp (le-ltb _ _ (c .before .before .if1 .left), lt-ltb _ _ (c .before .if2 .taken))
 
 returns-3 : tie.Need-returns-3
-unfolding pointerFits
+unfolding pointerBy
 returns-3 c = simp (le-ltb _ _ (c .before .if1 .left), le-ltb _ _ (c .if2 .left))
 
 pub pointer-fits-spec : {M : Type 1} → statement M
-pointer-fits-spec =
-    tie.close
-    (tie.spec returns (λ c. search needs) (λ c. search needs) (λ c. search needs) (λ c. search needs) returns-2 returns-3)
+pointer-fits-spec = tie.close (tie.spec returns (λ c. search needs) returns-2 returns-3)

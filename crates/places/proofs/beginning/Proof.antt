@@ -8,11 +8,11 @@ use Rattle.places.proofs.beginning.Tie as tie
 
 returns : tie.Need-returns
 returns c =
-    let b = begins-none (c .before .args .lists .now) in
+    let b = begins-none (c .before .before .args .lists .now) in
     rw (eq-eqb _ _ (c .if1 .taken)) (refl, b, b)
 
 returns-2 : tie.Need-returns-2
-returns-2 c = rw (ne-eqb _ _ (c .before .before .if1 .left), eq-eqb _ _ (c .if2 .taken)) (refl, c .before .first-of .ensures, begins-none (c .before .before .before .args .lists .now))
+returns-2 c = rw (ne-eqb _ _ (c .before .before .if1 .left), eq-eqb _ _ (c .if2 .taken)) (refl, c .before .first-of .ensures, begins-none (c .before .before .before .before .args .lists .now))
 
 returns-3 : tie.Need-returns-3
 returns-3 c = rw (ne-eqb _ _ (c .before .before .before .if1 .left), ne-eqb _ _ (c .before .if2 .left)) (refl, c .before .before .first-of .ensures, c .first-of2 .ensures)

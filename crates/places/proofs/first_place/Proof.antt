@@ -24,11 +24,11 @@ shared-slice-copy-out-rule : tie.Need-shared-slice-copy-out-rule Inv-loop μ-loo
 shared-slice-copy-out-rule c = omega arith
 
 beginning-requires : tie.Need-beginning-requires Inv-loop μ-loop
-beginning-requires c κs = tt
+beginning-requires c κs = c .before .before .before .before .pre
 
 returns : tie.Need-returns Inv-loop μ-loop
 returns c =
-    let a = c .before .before .before .before .before .before .before .args in
+    let a = c .before .before .before .before .before .before .before .before .args in
     let b = c .before .before .before .beginning in
     let n = both-open (b .result .left) (b .result .right) (c .if1 .taken) in
     opens-here (a .lists .now) (a .rules .now) (a .r) _ (c .before .before .before .before .before .before .loop .inv) (c .before .before .before .before .before .loop-test .taken) (b .result) (b .ensures .0) (b .ensures .1) (b .ensures .2) (n .0) (n .1)
@@ -41,7 +41,7 @@ loop-less c = omega arith
 
 loop-again : tie.Need-loop-again Inv-loop μ-loop
 loop-again c =
-    let a = c .before .before .before .before .before .before .before .args in
+    let a = c .before .before .before .before .before .before .before .before .args in
     let b = c .before .before .before .beginning in
     let l = c .before .before .before .before .before .before .loop in
     rw (add-one (l .r))
@@ -49,7 +49,7 @@ loop-again c =
 
 returns-2 : tie.Need-returns-2 Inv-loop μ-loop
 returns-2 c =
-    let a = c .before .before .args in
+    let a = c .before .before .before .args in
     opens-end (a .lists .now) (a .rules .now) (a .r) _ (c .before .loop .inv) (c .loop-test .left) _ _
 
 pub first-place-spec : {M : Type 1} → statement M

@@ -9,23 +9,23 @@ use Rattle.places.proofs.next_place.Statement.{statement}
 use Rattle.places.proofs.next_place.Tie as tie
 
 returns : tie.Need-returns
-returns c = let a = c .before .args in follows-none (a .lists .now) (a .rules .now) (a .place) (c .if1 .taken) (a .place)
+returns c = let a = c .before .before .args in follows-none (a .lists .now) (a .rules .now) (a .place) (c .if1 .taken) (a .place)
 
 returns-2 : tie.Need-returns-2
 returns-2 c =
-    let a = c .before .before .before .args in
+    let a = c .before .before .before .before .args in
     follows-right (a .lists .now) (a .rules .now) (a .place) (c .before .after .result) (c .before .after .ensures) (c .if2 .taken)
 
 returns-3 : tie.Need-returns-3
 returns-3 c =
     let s = c .before .before .before .before in
-    let a = s .before .before .before .args in
+    let a = s .before .before .before .before .args in
     follows-left (a .lists .now) (a .rules .now) (a .place) (sym (s .before .after .ensures) ∙ s .if2 .left) (c .before .before .before .after2 .result) (c .beginning .result .right) (c .before .before .before .after2 .ensures) (c .before .before .if3 .taken) (c .beginning .ensures .2)
 
 returns-4 : tie.Need-returns-4
 returns-4 c =
     let s = c .before .before .before in
-    let a = s .before .before .before .args in
+    let a = s .before .before .before .before .args in
     follows-rule (a .lists .now) (a .rules .now) (a .place) (sym (s .before .after .ensures) ∙ s .if2 .left) (sym (c .before .before .after2 .ensures) ∙ c .before .if3 .left) (c .first-place .result)
     (subst (λ (r : ℕ). Opens (a .lists .now) (a .rules .now) r (c .first-place .result)) (add-one (a .place .rule)) (c .first-place .ensures))
 

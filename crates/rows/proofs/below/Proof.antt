@@ -7,15 +7,7 @@ use Rattle.rows.proofs.below.Tie as tie
 
 returns : tie.Need-returns
 unfolding isBelow liveOf live
-returns c = rw (c .contained .ensures, c .before .before .before .relation-of .ensures)
+returns c = rw (c .contained .ensures)
 
 pub below-spec : {M : Type 1} → statement M
-below-spec =
-    tie.close
-    (tie.spec
-    (λ c κs. search needs)
-    (λ c. search needs)
-    (λ c. search needs)
-    (λ c. search needs)
-    (λ c κs. search needs)
-    returns)
+below-spec = tie.close (tie.spec (λ c. search needs) (λ c κs. search needs) returns)

@@ -7,16 +7,7 @@ use Rattle.rows.proofs.outgrown.Tie as tie
 
 returns : tie.Need-returns
 unfolding larger liveOf live
-returns c = rw (c .before .contained .ensures, c .contained2 .ensures, c .before .before .before .before .relation-of .ensures)
+returns c = rw (c .before .contained .ensures, c .contained2 .ensures)
 
 pub outgrown-spec : {M : Type 1} → statement M
-outgrown-spec =
-    tie.close
-    (tie.spec
-    (λ c κs. search needs)
-    (λ c. search needs)
-    (λ c. search needs)
-    (λ c. search needs)
-    (λ c κs. search needs)
-    (λ c κs. search needs)
-    returns)
+outgrown-spec = tie.close (tie.spec (λ c. search needs) (λ c κs. search needs) (λ c κs. search needs) returns)

@@ -8,7 +8,7 @@ returns : tie.Need-returns
 returns c = rw (lt-ltb _ _ (c .before .if1 .taken))
 
 returns-2 : tie.Need-returns-2
-returns-2 c = rw (le-ltb _ _ (c .before .if1 .left), c .relation-of .ensures)
+returns-2 c = rw (le-ltb _ _ (c .before .if1 .left))
 
 pub taken-spec : {M : Type 1} → statement M
-taken-spec = tie.close (tie.spec (λ c. search needs) (λ c. search needs) returns (λ c κs. search needs) (λ c. search needs) returns-2)
+taken-spec = tie.close (tie.spec (λ c. search needs) (λ c. search needs) returns returns-2)

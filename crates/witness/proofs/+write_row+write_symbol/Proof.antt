@@ -1,180 +1,55 @@
 -- The row writer and the symbol writer, which call each other. What falls: twice the row number and 1, and for a symbol its rank.
 -- Assumes nothing.
-use mathlib.Core.Path.{ap, subst}
+use mathlib.Core.Path.{refl, subst}
 use Prim.Native.Nat.{ℕ, _+_, _<_}
-use native.Mathlib.Nat.{le-refl}
-use native.Mathlib.Omega.{arith}
-use borrow.Author.Needs.{needs}
-use Rattle.witness.specs.Parts.{Ready}
-use Rattle.witness.proofs.Handing.{rank, no-part, one-part, two-parts}
-use Rattle.witness.proofs.Buffers.{wrote-none, wrote-step, wrote-same, lent-length, wrote-two}
-use Rattle.witness.proofs.Views.{inside-at}
-use borrow.Fn.Kinds.{In}
-use borrow.Fn.PlainCycle.{Measures, is, falls, and}
-use Rattle.witness.proofs.write_row.Reads as write-row
-use Rattle.witness.proofs.write_row.Kinds as write-row-kinds
-use Rattle.witness.proofs.+write_row+write_symbol.Lts-write_row as write-row-lts
-use Rattle.witness.proofs.write_symbol.Reads as write-symbol
-use Rattle.witness.proofs.write_symbol.Kinds as write-symbol-kinds
-use Rattle.witness.proofs.+write_row+write_symbol.Lts-write_symbol as write-symbol-lts
-use Rattle.witness.proofs.row_parts.Reads as row-parts-reads
-use Rattle.witness.proofs.+write_row+write_symbol.{statement}
-use Rattle.witness.proofs.+write_row+write_symbol.Tie.{close}
+use lib.WfN.{Nat·lt-wfRel}
+use prog.Wp.{WpFn, Tables}
+use contract.Running.{givenOf, tables, tablesOf}
+use denote.Builtin.{usize}
+use denote.Triple.Cycle.{measured, at-on, mutual-elim}
+use denote.Triple.Table.{cited}
+use Rattle.witness.specs.Parts.{olderRow}
+use Rattle.witness.proofs.Part as P
+use Rattle.witness.proofs.Handing.{rank}
+use Rattle.witness.proofs.Writing.{measure, at-measure}
+use Rattle.witness.proofs.PartsCall.{HandsOver}
+use Rattle.witness.proofs.TerminalCall.{Terminal}
+use Rattle.witness.proofs.RowWalk as row
+use Rattle.witness.proofs.SymbolWalk as symbol
+use Rattle.witness.proofs.row_parts.Symbol as parts-def
+use Rattle.witness.proofs.row_parts.Symbol.{name as #row-parts}
+use Rattle.witness.proofs.row_parts.Met as parts-thm
+use Rattle.witness.proofs.write_terminal.Symbol as terminal-def
+use Rattle.witness.proofs.write_terminal.Symbol.{name as #write-terminal}
+use Rattle.witness.proofs.write_terminal.Met as terminal-thm
+use Rattle.witness.proofs.write_row as write-row
+use Rattle.witness.proofs.write_row.Key.{name as #write-row}
+use Rattle.witness.proofs.write_symbol as write-symbol
+use Rattle.witness.proofs.write_symbol.Key.{name as #write-symbol}
+use Rattle.witness.proofs.+write_row+write_symbol as cycle
+use Rattle.witness.proofs.+write_row+write_symbol.Code as code
 
-abbrev μ-write-row : Measures 3 write-row-kinds.ps ℕ
-μ-write-row κs a = a .1 .1 .0 + a .1 .1 .0 + 1
-
-abbrev μ-write-symbol : Measures 3 write-symbol-kinds.ps ℕ
-μ-write-symbol κs a = rank (a .1 .1 .0)
-
-abbrev write-row-at : ℕ → In 3 write-row-kinds.ps
-write-row-at t = and 3 write-row-kinds.ps (is 3 write-row-kinds.ps μ-write-row t) write-row.Pre
-
-abbrev write-row-below : ℕ → In 3 write-row-kinds.ps
-write-row-below t =
-    and 3 write-row-kinds.ps (falls 3 write-row-kinds.ps _<_ μ-write-row t) write-row.Pre
-
-abbrev write-symbol-at : ℕ → In 3 write-symbol-kinds.ps
-write-symbol-at t =
-    and 3 write-symbol-kinds.ps (is 3 write-symbol-kinds.ps μ-write-symbol t) write-symbol.Pre
-
-abbrev write-symbol-below : ℕ → In 3 write-symbol-kinds.ps
-write-symbol-below t =
-    and
-    3
-    write-symbol-kinds.ps
-    (falls 3 write-symbol-kinds.ps _<_ μ-write-symbol t)
-    write-symbol.Pre
-
--- what the calls in each ask and give
-abbrev row-calls : ℕ → write-row-lts.Claims
-row-calls t = (row-parts-reads.Asked, row-parts-reads.Learnt, write-symbol-below t, write-symbol.Post)
-
-abbrev symbol-calls : ℕ → write-symbol-lts.Claims
-symbol-calls t = (write-row-below t, write-row.Post)
-
-write-row-row-parts-requires : (t : ℕ) → write-row-lts.Need-row-parts-requires (row-calls t) (write-row-at t) write-row.Post
-write-row-row-parts-requires t c κs =
-    let a = c .before .args in
-    let p = c .before .pre .1 .fits in inside-at (a .rules .now) (a .journal .now) (a .row) (p .0) (p .1 (a .row) (le-refl (a .row)))
-
-write-row-enum-told : (t : ℕ) → write-row-lts.Need-enum-told (row-calls t) (write-row-at t) write-row.Post
-write-row-enum-told t c = search needs
-
-write-row-enum-known-p : (t : ℕ) → write-row-lts.Need-enum-known-p (row-calls t) (write-row-at t) write-row.Post
-write-row-enum-known-p t c = search needs
-
-write-row-write-symbol-requires : (t : ℕ) → write-row-lts.Need-write-symbol-requires (row-calls t) (write-row-at t) write-row.Post
-write-row-write-symbol-requires t c κs =
-    let p = one-part (c .before .before .before .before .before .before .pre .1) (c .before .before .before .before .row-parts .ensures) (c .before .before .p .given .1) in (omega (arith, p .falls, c .before .before .before .before .before .before .pre .0), p .ready)
-
-write-row-enum-known-p-2 : (t : ℕ) → write-row-lts.Need-enum-known-p-2 (row-calls t) (write-row-at t) write-row.Post
-write-row-enum-known-p-2 t c = search needs
-
-write-row-write-symbol-requires-2 : (t : ℕ) → write-row-lts.Need-write-symbol-requires-2 (row-calls t) (write-row-at t) write-row.Post
-write-row-write-symbol-requires-2 t c κs =
-    let p = two-parts (c .before .before .before .before .before .before .pre .1) (c .before .before .before .before .row-parts .ensures) (c .before .before .p2 .given .1) in (omega (arith, p .falls, c .before .before .before .before .before .before .pre .0), p .ready)
-
-write-row-sub-write-symbol : (t : ℕ) → write-row-lts.Need-sub-write-symbol (row-calls t) (write-row-at t) write-row.Post
-write-row-sub-write-symbol t c =
-    let p = two-parts (c .before .before .before .before .before .before .before .before .before .pre .1) (c .before .before .before .before .before .before .before .row-parts .ensures) (c .before .before .before .before .before .p2 .given .1) in
-    let s = c .before .before .write-symbol2 in omega (arith, p .ready .room, s .ensures .count, s .kept .1 .1 .1 .0)
-
-write-row-part-write-symbol-start : (t : ℕ) → write-row-lts.Need-part-write-symbol-start (row-calls t) (write-row-at t) write-row.Post
-write-row-part-write-symbol-start t c =
-    let p = two-parts (c .before .before .before .before .before .before .before .before .before .pre .1) (c .before .before .before .before .before .before .before .row-parts .ensures) (c .before .before .before .before .before .p2 .given .1) in
-    let s = c .before .before .write-symbol2 in omega (arith, p .ready .room, s .ensures .count, s .kept .1 .1 .1 .0)
-
-write-row-part-write-symbol-end : (t : ℕ) → write-row-lts.Need-part-write-symbol-end (row-calls t) (write-row-at t) write-row.Post
-write-row-part-write-symbol-end t c = search needs
-
-write-row-write-symbol-requires-3 : (t : ℕ) → write-row-lts.Need-write-symbol-requires-3 (row-calls t) (write-row-at t) write-row.Post
-write-row-write-symbol-requires-3 t c κs =
-    let p = two-parts (c .before .before .before .before .before .before .before .before .before .before .pre .1) (c .before .before .before .before .before .before .before .before .row-parts .ensures) (c .before .before .before .before .before .before .p2 .given .1) in
-    let s = c .before .before .before .write-symbol2 in (
-      omega (arith, p .then-falls, c .before .before .before .before .before .before .before .before .before .before .pre .0),
-      subst (Ready _ _ _) (lent-length (s .last .1 .1 .1 .0) _ (s .result) (s .kept .1 .1 .1 .0)) (p .then-ready (s .result) (s .ensures .count)),
+pub +write-row+write-symbol-spec : {M : Type 1} → cycle.statement M
+unfolding code.write-row-routine code.write-symbol-routine tablesOf
++write-row+write-symbol-spec 𝓤 H 𝓜 𝓖 𝓡 =
+    let A = 𝓖 .A in
+    let W = givenOf 𝓤 H 𝓜 𝓖 in
+    let ts = tables 𝓤 H 𝓜 𝓡 code.env in
+    let 𝓣 : Tables 𝓤 H = tablesOf 𝓤 H 𝓜 ts in
+    let r = row.row-argument 𝓤 H A W in
+    let s = symbol.part-argument 𝓤 H A in
+    let of-row : ℕ → ℕ = λ i. i + i + 1 in
+    let μr = measure 𝓤 H A W usize olderRow r of-row in
+    let μs = measure 𝓤 H A W P.the-row (λ x. x) s rank in
+    mutual-elim 𝓤 H A (cycle.functions 𝓤 H A (𝓜 .mem) (𝓡 .run)) _<_ (Nat·lt-wfRel .wf) (
+      measured 𝓤 H A (record { signature = write-row.signature; run = 𝓡 .run code.write-row-routine; spec = write-row.spec 𝓤 H A (𝓜 .mem) (𝓡 .run) }) μr,
+      measured 𝓤 H A (record { signature = write-symbol.signature; run = 𝓡 .run code.write-symbol-routine; spec = write-symbol.spec 𝓤 H A (𝓜 .mem) (𝓡 .run) }) μs,
     )
-
-write-row-add-result : (t : ℕ) → write-row-lts.Need-add-result (row-calls t) (write-row-at t) write-row.Post
-write-row-add-result t c =
-    let p = two-parts (c .before .before .before .before .before .before .before .before .before .before .before .before .before .pre .1) (c .before .before .before .before .before .before .before .before .before .before .before .row-parts .ensures) (c .before .before .before .before .before .before .before .before .before .p2 .given .1) in
-    let s = c .before .before .before .before .before .before .write-symbol2 in
-    omega (arith, p .ready .room, p .then-ready (s .result) (s .ensures .count) .room, s .ensures .count, c .before .before .write-symbol3 .ensures .count, c .before .before .before .before .before .before .before .before .before .before .before .before .before .good .1 .1 .1 .0 .0)
-
-write-row-returns : (t : ℕ) → write-row-lts.Need-returns (row-calls t) (write-row-at t) write-row.Post
-write-row-returns t c = wrote-none _ _ (no-part (c .before .before .before .before .pre .1) (c .before .before .row-parts .ensures) (c .enum-told .given .1))
-
-write-row-same-length : (t : ℕ) → write-row-lts.Need-same-length (row-calls t) (write-row-at t) write-row.Post
-write-row-same-length t c = search needs
-
-write-row-returns-2 : (t : ℕ) → write-row-lts.Need-returns-2 (row-calls t) (write-row-at t) write-row.Post
-write-row-returns-2 t c = wrote-same (one-part (c .before .before .before .before .before .before .before .before .before .pre .1) (c .before .before .before .before .before .before .before .row-parts .ensures) (c .before .before .before .before .before .p .given .1) .word) (c .before .before .write-symbol .ensures)
-
-write-row-same-length-2 : (t : ℕ) → write-row-lts.Need-same-length-2 (row-calls t) (write-row-at t) write-row.Post
-write-row-same-length-2 t c = search needs
-
-write-row-returns-3 : (t : ℕ) → write-row-lts.Need-returns-3 (row-calls t) (write-row-at t) write-row.Post
-write-row-returns-3 t c =
-    wrote-same (two-parts (c .before .before .before .before .before .before .before .before .before .before .before .before .before .pre .1) (c .before .before .before .before .before .before .before .before .before .before .before .row-parts .ensures) (c .before .before .before .before .before .before .before .before .before .p2 .given .1) .word)
-    (wrote-two _ _ _ _ _ _ _ (c .before .before .before .before .before .before .write-symbol2 .ensures) (c .before .before .write-symbol3 .ensures))
-
-write-symbol-enum-known-x : (t : ℕ) → write-symbol-lts.Need-enum-known-x (symbol-calls t) (write-symbol-at t) write-symbol.Post
-write-symbol-enum-known-x t c = search needs
-
-write-symbol-slice-write-buffer : (t : ℕ) → write-symbol-lts.Need-slice-write-buffer (symbol-calls t) (write-symbol-at t) write-symbol.Post
-write-symbol-slice-write-buffer t c = rw (c .before .x .given .1) at (c .before .before .before .before .pre .1 .room)
-
-write-symbol-enum-known-x-2 : (t : ℕ) → write-symbol-lts.Need-enum-known-x-2 (symbol-calls t) (write-symbol-at t) write-symbol.Post
-write-symbol-enum-known-x-2 t c = search needs
-
-write-symbol-write-row-requires : (t : ℕ) → write-symbol-lts.Need-write-row-requires (symbol-calls t) (write-symbol-at t) write-symbol.Post
-write-symbol-write-row-requires t c κs =
-    let e = c .before .before .x2 .given .1 in (omega (arith, ap rank e, c .before .before .before .before .before .pre .0), rw e at (c .before .before .before .before .before .pre .1))
-
-write-symbol-same-length : (t : ℕ) → write-symbol-lts.Need-same-length (symbol-calls t) (write-symbol-at t) write-symbol.Post
-write-symbol-same-length t c = search needs
-
-write-symbol-returns :
-    (t : ℕ) → write-symbol-lts.Need-returns (symbol-calls t) (write-symbol-at t) write-symbol.Post
-write-symbol-returns t c = rw (c .before .x .given .1) (wrote-step _ _ (rw (c .before .x .given .1) at (c .before .before .before .before .pre .1 .room)))
-
-write-symbol-same-length-2 : (t : ℕ) → write-symbol-lts.Need-same-length-2 (symbol-calls t) (write-symbol-at t) write-symbol.Post
-write-symbol-same-length-2 t c = search needs
-
-write-symbol-returns-2 : (t : ℕ) → write-symbol-lts.Need-returns-2 (symbol-calls t) (write-symbol-at t) write-symbol.Post
-write-symbol-returns-2 t c = rw (c .before .before .before .before .before .x2 .given .1) (c .before .before .write-row .ensures)
-
-pub +write-row+write-symbol-spec : {M : Type 1} → statement M
-+write-row+write-symbol-spec = close μ-write-row μ-write-symbol (λ t. write-row-lts.spec
-    (row-calls t)
-    (write-row-at t)
-    write-row.Post
-    (write-row-row-parts-requires t)
-    (write-row-enum-told t)
-    (write-row-enum-known-p t)
-    (write-row-write-symbol-requires t)
-    (write-row-enum-known-p-2 t)
-    (write-row-write-symbol-requires-2 t)
-    (write-row-sub-write-symbol t)
-    (write-row-part-write-symbol-start t)
-    (write-row-part-write-symbol-end t)
-    (write-row-write-symbol-requires-3 t)
-    (write-row-add-result t)
-    (write-row-returns t)
-    (write-row-same-length t)
-    (write-row-returns-2 t)
-    (write-row-same-length-2 t)
-    (write-row-returns-3 t))
-    λ t. write-symbol-lts.spec
-    (symbol-calls t)
-    (write-symbol-at t)
-    write-symbol.Post
-    (write-symbol-enum-known-x t)
-    (write-symbol-slice-write-buffer t)
-    (write-symbol-enum-known-x-2 t)
-    (write-symbol-write-row-requires t)
-    (write-symbol-same-length t)
-    (write-symbol-returns t)
-    (write-symbol-same-length-2 t)
-    (write-symbol-returns-2 t)
+    (λ t below. at-on 𝓤 H A write-row.signature (write-row.spec 𝓤 H A (𝓜 .mem) (𝓡 .run)) (WpFn 𝓤 H (𝓣 .C) (𝓣 .Λ) code.write-row-function) (ts .C #write-row) (code.write-row-unfolded 𝓤 H 𝓜 𝓡) μr t
+    (at-measure 𝓤 H A W usize olderRow r 𝓣 code.write-row-function of-row t (λ κj κr κ qj qr q j u i b o γ ys gj gr gi gb e ready.
+    row.walk 𝓤 H A W (𝓜 .mem) (𝓡 .run) 𝓣 (cited 𝓤 H (HandsOver 𝓤 H A W (𝓜 .mem) (𝓡 .run)) 𝓜 𝓡 code.env #row-parts parts-def.routine code.calls-witness·row-parts (parts-thm.met 𝓤 H 𝓜 𝓖 𝓡))
+    κj κr κ qj qr q j u i b o γ ys gj gr (gi .1) gb ready (λ y l. below .1 (μs y) (subst (λ (n : ℕ). μs y < n) e l) y refl))))
+    (λ t below. at-on 𝓤 H A write-symbol.signature (write-symbol.spec 𝓤 H A (𝓜 .mem) (𝓡 .run)) (WpFn 𝓤 H (𝓣 .C) (𝓣 .Λ) code.write-symbol-function) (ts .C #write-symbol) (code.write-symbol-unfolded 𝓤 H 𝓜 𝓡) μs t
+    (at-measure 𝓤 H A W P.the-row (λ x. x) s 𝓣 code.write-symbol-function rank t (λ κj κr κ qj qr q j u x b o γ ys gj gr gx gb e ready.
+    symbol.walk 𝓤 H A W (𝓜 .mem) (𝓡 .run) 𝓣 (cited 𝓤 H (Terminal 𝓤 H A W (𝓜 .mem) (𝓡 .run)) 𝓜 𝓡 code.env #write-terminal terminal-def.routine code.calls-witness·write-terminal (terminal-thm.met 𝓤 H 𝓜 𝓖 𝓡))
+    κj κr κ qj qr q j u x b o γ ys gj gr gx gb ready (λ y l. below .0 (μr y) (subst (λ (n : ℕ). μr y < n) e l) y refl))))

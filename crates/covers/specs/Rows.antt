@@ -1,0 +1,20 @@
+-- The lent journal and its first rows. Definitions only. Assumes nothing.
+use mathlib.Core.Path.{_≡_}
+use mathlib.Core.List.{List, map}
+use Prim.Native.Nat.{ℕ}
+use lib.ListN.{take, drop}
+use Rattle.calls.specs.Rows.{rowOf}
+use Rattle.calls.specs.declared.Row.{Row as LentRow}
+use Rattle.rows.specs.Base.{Row}
+
+abbrev pub Journal : Type 0
+Journal = List LentRow
+
+-- the first u rows
+unfoldable pub firstRows : ℕ → Journal → List Row
+firstRows u j = map rowOf (take u j)
+
+-- the first u rows are these, and the others as they were
+pub record Stored (u : ℕ) (rows : List Row) (old new : Journal) : Type 0 where
+  pub front : firstRows u new ≡ rows
+  pub beyond : drop u new ≡ drop u old

@@ -1,6 +1,0 @@
-pub mod Rows
-pub mod Covers
-pub mod RowLaws
-pub mod CoverLaws
-pub mod Looking
-pub mod Retirements

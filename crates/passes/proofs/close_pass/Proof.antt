@@ -1,0 +1,39 @@
+-- `passes::close_pass` meets its contract: the last pass, or one more. Assumes nothing.
+use mathlib.Core.Path.{_≡_, sym, ap, _∙_, subst}
+use Prim.Native.Nat.{_+_}
+use lib.ListN.{length, take}
+use lib.Seq.{length-take-le}
+use borrow.Author.Needs.{needs}
+use Rattle.passes.specs.Contracts.{Answers}
+use Rattle.passes.specs.Running.{Onward}
+use Rattle.passes.specs.States.{ended}
+use Rattle.passes.specs.Walks.{passIn}
+use Rattle.passes.specs.declared.Outcome.the-variants.{Going}
+use Rattle.passes.specs.RunningLaws.{close-last, close-again}
+use Rattle.deciding.specs.declared.Terms.{Terms}
+use Rattle.passes.proofs.close_pass.Statement.{statement}
+use Rattle.passes.proofs.close_pass.Tie as tie
+
+returns : tie.Need-returns
+returns c letters finals B j₀ first j₁ j z rows y h x g =
+    let s = c .before .before .before .before .before in
+    let st = s .args .state in
+    let rs = take (s .args .state .rules) (s .args .rules .now) in
+    let n : st .rules ≡ length rs = sym (length-take-le (st .rules) (s .args .rules .now) (s .pre .opens .count)) in
+    rw (c .end-with .ensures)
+    (subst (λ (b : Terms). Onward letters rs finals B j₀ (s .args .counts) (ended st b (s .args .counts) 1 0) j (s .args .table .now)) (sym (y .terms))
+    (close-last letters rs finals B j₀ st rows n (y .at-pass) h (subst (λ (b : Terms). Answers B (passIn b letters rs first j₁) first j₁ j (Going (s .args .counts))) (y .terms) x) (s .args .table .now) (c .before .if1 .taken ∙ ap (λ (b : Terms). b .start) (y .terms))))
+
+returns-2 : tie.Need-returns-2
+returns-2 c letters finals B j₀ first j₁ j z rows y h x g =
+    let s = c .before .before .before .before .before .before .before .before .before in
+    let st = s .args .state in
+    let rs = take (s .args .state .rules) (s .args .rules .now) in
+    let n : st .rules ≡ length rs = sym (length-take-le (st .rules) (s .args .rules .now) (s .pre .opens .count)) in
+    let w = s .args .counts in
+    c .before .before .open-pass .ensures letters finals B j₀ j (y .pass + 1) z rows
+    (close-again letters rs finals B j₀ st rows n (y .at-pass) h (subst (λ (b : Terms). Answers B (passIn b letters rs first j₁) first j₁ j (Going (s .args .counts))) (y .terms) x) (λ q. c .before .before .before .before .before .if1 .left (q ∙ sym (ap (λ (b : Terms). b .start) (y .terms)))))
+    (ap (λ (b : Terms). record { budget = b .budget; finals = b .finals; pass = b .pass + 1; start = w .used }) (y .terms)) g
+
+pub close-pass-spec : {M : Type 1} → statement M
+close-pass-spec = tie.close (tie.spec (λ c κs. search needs) returns (λ c. search needs) (λ c κs. search needs) (λ c. search needs) returns-2)

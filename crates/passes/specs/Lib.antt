@@ -1,0 +1,15 @@
+pub mod Meanings
+pub mod States
+pub mod Walks
+pub mod Contracts
+pub mod Deciding
+pub mod Remaining
+pub mod Passing
+pub mod Closing
+pub mod Passes
+pub mod OnAutomaton
+pub mod Running
+pub mod RunningLaws
+pub mod RunLaws
+pub mod Advancing
+pub mod NoteLaws

@@ -1,0 +1,75 @@
+-- The plain data of the search (`PlainData.antt`), the places of the fields that the walks read, and the types of the slices. These stand here alone.
+-- Assumes nothing.
+use mathlib.Core.List.{[], _∷_}
+use Prim.Native.Nat.{_<_, _^_}
+use mir.Syntax.{Ty, Lifetime, Mutability, w32, tyInt, tyRef}
+use denote.RattleType.{RattleType}
+use denote.Builtin.{u32}
+use denote.Memory.{pointee}
+use denote.Slice.{sliceTy}
+use denote.Struct.Laws as LL
+use Rattle.calls.proofs.Row as R
+use Rattle.calls.proofs.Row.Laws as R′
+use Rattle.rows.specs.declared.Candidate.{Candidate}
+use Rattle.places.specs.Lists.{heads}
+use Rattle.rows.proofs.Candidate as D
+use Rattle.rows.proofs.Candidate.Laws as D′
+use Rattle.deciding.specs.declared.State.{State}
+use Rattle.deciding.specs.declared.Look.{Look}
+use Rattle.deciding.specs.declared.Clearing.{Clearing}
+use Rattle.deciding.proofs.State as S
+use Rattle.deciding.proofs.State.Laws as S′
+use Rattle.deciding.proofs.Look as L
+use Rattle.deciding.proofs.Look.Laws as L′
+use Rattle.deciding.proofs.Clearing as G
+use Rattle.deciding.proofs.Clearing.Laws as G′
+use Rattle.lent.proofs.PlainData.{Data, Means}
+
+abbrev pub row : Data
+row = record { type = R.the-type; laws = R′.the-laws; plain = R′.the-plain; copy = R′.the-copy; low = R′.lowers }
+
+abbrev pub candidate : Data
+candidate = record { type = D.the-type; laws = D′.the-laws; plain = D′.the-plain; copy = D′.the-copy; low = D′.lowers }
+
+abbrev pub state : Data
+state = record { type = S.the-type; laws = S′.the-laws; plain = S′.the-plain; copy = S′.the-copy; low = S′.lowers }
+
+abbrev pub look : Data
+look = record { type = L.the-type; laws = L′.the-laws; plain = L′.the-plain; copy = L′.the-copy; low = L′.lowers }
+
+abbrev pub clearing : Data
+clearing = record { type = G.the-type; laws = G′.the-laws; plain = G′.the-plain; copy = G′.the-copy; low = G′.lowers }
+
+-- ---- the places of the fields
+module _ (s : State) (is : Means state s) where
+  pub left-fits : s .left < 2 ^ 64
+  left-fits = LL.owed S.the-type S′.the-laws s (S′.lowered s ∷ []) is .1 .0 .1
+
+  pub right-fits : s .right < 2 ^ 64
+  right-fits = LL.owed S.the-type S′.the-laws s (S′.lowered s ∷ []) is .1 .1 .0 .1
+
+pub head-fits : (c : Candidate) → Means candidate c → c .head < heads
+head-fits c is = LL.owed D.the-type D′.the-laws c (D′.lowered c ∷ []) is .0 .1
+
+pub look-at-fits : (l : Look) → Means look l → l .at < 2 ^ 64
+look-at-fits l is = LL.owed L.the-type L′.the-laws l (L′.lowered l ∷ []) is .1 .0 .1
+
+pub clearing-at-fits : (g : Clearing) → Means clearing g → g .at < 2 ^ 64
+clearing-at-fits g is = LL.owed G.the-type G′.the-laws g (G′.lowered g ∷ []) is .1 .1 .0 .1
+
+-- ---- the slices of rows and of cells
+-- a cell of the table
+abbrev pub cell : RattleType
+cell = u32
+
+abbrev pub rows-ref : Lifetime → Mutability → Ty
+rows-ref ℓ μ = tyRef ℓ μ (pointee (R.the-row .written))
+
+abbrev pub cells-ref : Lifetime → Mutability → Ty
+cells-ref ℓ μ = tyRef ℓ μ (tyInt w32)
+
+abbrev pub rows-slice : Lifetime → Mutability → Ty
+rows-slice ℓ μ = sliceTy (rows-ref ℓ μ)
+
+abbrev pub cells-slice : Lifetime → Mutability → Ty
+cells-slice ℓ μ = sliceTy (cells-ref ℓ μ)

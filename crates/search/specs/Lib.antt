@@ -1,9 +1,0 @@
-pub mod Meanings
-pub mod Walks
-pub mod Contracts
-pub mod Remaining
-pub mod Passing
-pub mod Closing
-pub mod Passes
-pub mod Searching
-pub mod OnAutomaton

@@ -1,0 +1,30 @@
+-- The numbers of the verdicts, beside the refusals 1 to 11 of document 01. Definitions only. Assumes nothing.
+use Prim.Native.Nat.{ℕ}
+use Rattle.working_order.specs.Order.{Verdict, holds, broken, full, spent}
+use Rattle.calls.specs.Replies.{Reply, refused, answered}
+
+abbrev pub holdsCode : ℕ
+holdsCode = 100
+
+abbrev pub brokenCode : ℕ
+brokenCode = 101
+
+abbrev pub fullCode : ℕ
+fullCode = 102
+
+abbrev pub spentCode : ℕ
+spentCode = 103
+
+abbrev pub verdictCode : Verdict → ℕ
+verdictCode holds = holdsCode
+verdictCode broken = brokenCode
+verdictCode full = fullCode
+verdictCode spent = spentCode
+
+-- ---- replies
+
+module _ {A : Type 0} where
+  -- the number that refuses the call, or the answer's own
+  abbrev pub codeBy : (A → ℕ) → Reply A → ℕ
+  codeBy own (refused r) = r .number
+  codeBy own (answered a) = own a

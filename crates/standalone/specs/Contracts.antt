@@ -1,0 +1,41 @@
+-- What a check with the run of its answer ensures, in one record. Definitions only. Assumes nothing.
+use mathlib.Core.Path.{_≡_}
+use mathlib.Core.List.{List, _++_, map}
+use Prim.Native.Nat.{ℕ}
+use lib.ListN.{length}
+use Rattle.working_order.specs.Journal.{Row}
+use Rattle.working_order.specs.Order.{Answer}
+use Rattle.calls.specs.Checking.{checkOf, journalAfter}
+use Rattle.calls.specs.DemandThree.{Promises}
+use Rattle.calls.specs.Replies.{Reply, answered}
+use Rattle.calls.specs.Rows.{rowOf}
+use Rattle.calls.specs.declared.Row.{Row as LentRow}
+use Rattle.covers.specs.Rows.{Journal}
+use Rattle.standalone.specs.Codes.{codeBy}
+use Rattle.standalone.specs.Fronts.{journalOf, restOf, placeOf}
+use Rattle.standalone.specs.Told.{answerCode, rowIn, detailsOf, shownOf}
+use Rattle.standalone.specs.Telling.{numbersIn}
+use Rattle.standalone.specs.declared.Told.{Told}
+
+-- a reply x to a check of the file bs, which left these rows in the journal, told as the number r, the eight numbers d, and the buffer
+pub record Tells (bs : List ℕ) (rows : List (Row ℕ)) (x : Reply (Answer ℕ)) (d old new : List ℕ) (r : ℕ) : Type 0 where
+  pub code : r ≡ codeBy answerCode x
+  pub details : d ≡ detailsOf bs rows (length old) x
+  -- the run and then the old bytes, where one is written; else the old bytes whole
+  pub buffer : new ≡ shownOf bs rows old x
+
+-- a check with J rows and a budget of B joins, told so
+pub record ChecksBy (bs : List ℕ) (J B : ℕ) (rows : List (Row ℕ)) (d old new : List ℕ) (r : ℕ) : Type 0 where
+  pub told : Tells bs rows (checkOf bs J B) d old new r
+  -- demand 3, the counts, the least height and stability, of the answer
+  pub promises : (a : Answer ℕ) → checkOf bs J B ≡ answered a → Promises bs J B a
+
+-- over a journal
+abbrev pub ChecksOver : List ℕ → Journal → ℕ → List ℕ → List ℕ → List ℕ → ℕ → Type 0
+ChecksOver bs journal B d old new r = ChecksBy bs (length journal) B (journalAfter bs (map rowOf journal) B) d old new r
+
+-- a check with n rows, each x before, and a budget of B joins, of which the row at p is asked for
+pub record ChecksAlone (bs : List ℕ) (n : ℕ) (x : LentRow) (B p : ℕ) (old new : List ℕ) (r : Told) : Type 0 where
+  pub over : ChecksOver bs (journalOf n x) B (numbersIn r) old new (r .code)
+  -- row p: of the journal after the check, and of the rows after it
+  pub shows : rowOf (r .shown) ≡ rowIn (journalAfter bs (map rowOf (journalOf n x)) B ++ map rowOf (restOf n x)) (placeOf p)

@@ -1,0 +1,157 @@
+-- What the code has in hand is what the host is to be told. Assumes nothing.
+use mathlib.Core.Path.{_≡_, refl, sym, ap, _∙_, subst}
+use mathlib.Core.Bool.{Bool, cond}
+use mathlib.Core.List.{List, [], _∷_, _++_, map}
+use Prim.Native.Nat.{ℕ, zero, suc, _≤_, _<_}
+use native.Mathlib.Omega.{arith}
+use lib.ListN.{length, getD, take, drop, replicate, List·getD-append}
+use borrow.Author.Tests.{lt-ltb}
+use Rattle.basics.specs.Lists.{getD-map}
+use Rattle.relation.specs.Relation.{states, pairs}
+use Rattle.plan_file.specs.Refusals.{refuse, fault}
+use Rattle.plan_file.specs.Views.{rulesOf, automatonOf}
+use Rattle.working_order.specs.Journal.{Row}
+use Rattle.working_order.specs.Order.{Answer, Verdict, broken}
+use Rattle.working_order.specs.Truth.{SaysBy, check-says}
+use Rattle.calls.specs.Base.{base, words}
+use Rattle.calls.specs.BaseLaws.{base-laws, word-sizes}
+use Rattle.calls.specs.Checking.{journalLimit, journalFault, orderOn, checkOf, journalAfter}
+use Rattle.calls.specs.Promising.{from-order}
+use Rattle.calls.specs.Replies.{Reply, refused, answered, unlessBy}
+use Rattle.calls.specs.Rows.{rowOf, blank}
+use Rattle.calls.specs.Writing.{rowFault, wordOf, writeOf, writtenBy, bufferAfter}
+use Rattle.calls.specs.declared.Row.{Row as LentRow}
+use Rattle.covers.specs.Rows.{Journal}
+use Rattle.passes.specs.declared.Answer.the-variants as answer
+use Rattle.checker.specs.declared.Checked.{Checked}
+use Rattle.checker.specs.declared.Checked.the-variants as checked
+use Rattle.checker.specs.declared.Writing.{Writing}
+use Rattle.checker.specs.Answers.{checkedOf, writingOf}
+use Rattle.checker.specs.Contracts.{Checks, Writes}
+use Rattle.standalone.specs.Fronts.{frontOf, journalOf, restOf, placeOf, nameIn}
+use Rattle.standalone.specs.Told.{zeroRow, rowIn, refusedBy}
+use Rattle.standalone.specs.Telling.{toldBy, numbersIn}
+use Rattle.standalone.specs.Contracts.{Tells, ChecksOver, ChecksAlone}
+use Rattle.standalone.specs.declared.Named.{Named}
+use Rattle.standalone.specs.declared.Told.{Told}
+
+-- ---- the row of a broken answer
+
+-- it is one of those used, of which the journal has no fewer
+broken-used : (bs : List ℕ) (J B : ℕ) (a : Answer ℕ) → checkOf bs J B ≡ answered a → a .verdict ≡ broken → a .row < a .used
+unfolding orderOn
+broken-used bs J B a e v =
+    let order = from-order bs J B a e .2 in
+    let A = base states (automatonOf bs) in
+    let says = check-says A (base-laws states (automatonOf bs)) words word-sizes (rulesOf bs) J B .verdict in
+    let s = subst (λ (x : Verdict). SaysBy A words (rulesOf bs) x (orderOn bs J B)) (ap (λ (x : Answer ℕ). x .verdict) (sym order) ∙ v) says in
+    subst (λ (x : Answer ℕ). x .row < x .used) (sym order) (s .2)
+
+-- a row below the limit is shown itself
+place-low : (i : ℕ) → i < journalLimit → placeOf i ≡ i
+place-low i l = ap (λ (b : Bool). cond b i 0) (lt-ltb i journalLimit l)
+
+module _ (xs ys : Journal) (i : ℕ) where
+  -- a row, read as the working order has it
+  row-read : i < length (xs ++ ys) → rowOf (getD (xs ++ ys) i blank) ≡ rowIn (map rowOf xs ++ map rowOf ys) i
+  row-read l = sym (getD-map rowOf blank zeroRow (xs ++ ys) i l) ∙ ap (λ (zs : List (Row ℕ)). getD zs i zeroRow) (both xs)
+    where
+      both : (zs : Journal) → map rowOf (zs ++ ys) ≡ map rowOf zs ++ map rowOf ys
+      both [] = refl
+      both (z ∷ zs) = ap (λ (us : List (Row ℕ)). rowOf z ∷ us) (both zs)
+
+  -- one of the first ones
+  row-front : i < length xs → rowOf (getD (xs ++ ys) i blank) ≡ rowIn (map rowOf xs) i
+  row-front l = ap rowOf (List·getD-append xs ys blank i l) ∙ sym (getD-map rowOf blank zeroRow xs i l)
+
+-- ---- no run
+
+-- of a row that is not used nothing is written
+unwritten : (bs : List ℕ) (rows : List (Row ℕ)) (old : List ℕ) → bufferAfter bs rows 0 0 old ≡ old
+unfolding bufferAfter writeOf rowFault
+unwritten bs rows old = by (fault bs .number) (journalFault (length rows))
+  where
+    w : List ℕ
+    w = wordOf bs rows 0
+
+    by : (f g : ℕ) → writtenBy w old (unlessBy f (fault bs) (unlessBy g (refuse (journalFault (length rows)) 0) (refused (refuse 9 0)))) ≡ old
+    by zero zero = refl
+    by zero (suc g) = refl
+    by (suc f) g = refl
+
+-- ---- the whole reply
+
+module _ (bs : List ℕ) (B : ℕ) (before after rest : Journal) (few : length before ≤ journalLimit) (as-many : length after ≡ length before) (old new : List ℕ) (w : Writing) (y : LentRow) where
+  -- with the row that is named
+  abbrev tale : Checked → Told
+  tale c = toldBy c (getD (after ++ rest) (placeOf (nameIn c .row)) blank) y (refusedBy (writingOf w))
+
+  -- over the journal as it stands then
+  tells : (c : Checked) → Checks bs B before after c → Writes bs (map rowOf after) (nameIn c .used) (nameIn c .row) old new w
+      → Tells bs (map rowOf after) (checkedOf c after) (numbersIn (tale c)) old new (tale c .code)
+  tells (checked.Refused r) h v = record { code = refl; details = refl; buffer = v .buffer ∙ unwritten bs (map rowOf after) old }
+  tells (checked.Answered (answer.Holds n)) h v = record { code = refl; details = refl; buffer = v .buffer ∙ unwritten bs (map rowOf after) old }
+  tells (checked.Answered (answer.Full n)) h v = record { code = refl; details = refl; buffer = v .buffer ∙ unwritten bs (map rowOf after) old }
+  tells (checked.Answered (answer.Spent n)) h v = record { code = refl; details = refl; buffer = v .buffer ∙ unwritten bs (map rowOf after) old }
+  tells (checked.Answered (answer.Broken i n)) h v =
+      let lt = broken-used bs (length before) B _ (sym (h .answer)) refl in
+      let le = h .promises _ (sym (h .answer)) .counts .rows-bound in
+      let low : i < length after = omega (arith, lt, le, as-many) in
+      let here = ap (λ (k : ℕ). rowOf (getD (after ++ rest) k blank)) (place-low i (omega (arith, low, as-many, few))) ∙ row-front after rest i low in
+      record {
+        code = refl;
+        details =
+            ap (λ (x : Row ℕ). 0 ∷ n .joins ∷ n .used ∷ n .pass ∷ i ∷ pairs states (x .effect) ∷ x .len ∷ refusedBy (writingOf w) ∷ []) here
+            ∙ ap (λ (z : Reply ℕ). 0 ∷ n .joins ∷ n .used ∷ n .pass ∷ i ∷ pairs states (rowIn (map rowOf after) i .effect) ∷ rowIn (map rowOf after) i .len ∷ refusedBy z ∷ []) (v .answer);
+        buffer = v .buffer;
+      }
+
+  -- of the check
+  tells-check : (c : Checked) → Checks bs B before after c → Writes bs (map rowOf after) (nameIn c .used) (nameIn c .row) old new w
+      → ChecksOver bs before B (numbersIn (tale c)) old new (tale c .code)
+  tells-check c h v =
+      record {
+        told =
+            subst (λ (z : Reply (Answer ℕ)). Tells bs (journalAfter bs (map rowOf before) B) z (numbersIn (tale c)) old new (tale c .code)) (h .answer)
+            (subst (λ (rows : List (Row ℕ)). Tells bs rows (checkedOf c after) (numbersIn (tale c)) old new (tale c .code)) (h .journal) (tells c h v));
+        promises = h .promises;
+      }
+
+-- the row that was asked for is told
+shown-told : (c : Checked) (x y : LentRow) (f : ℕ) → toldBy c x y f .shown ≡ y
+shown-told (checked.Refused r) x y f = refl
+shown-told (checked.Answered (answer.Holds n)) x y f = refl
+shown-told (checked.Answered (answer.Broken i n)) x y f = refl
+shown-told (checked.Answered (answer.Full n)) x y f = refl
+shown-told (checked.Answered (answer.Spent n)) x y f = refl
+
+-- ---- as the code has it all in hand
+
+module _ (bs : List ℕ) (n : ℕ) (old : LentRow) (B p : ℕ) (before after : List ℕ) where
+  -- of the array xs the first m rows were lent, and are zs then; d is named and stands at row i, and row k is asked for
+  pub tells-alone : (xs : Journal) → xs ≡ replicate journalLimit old → (m : ℕ) → (m ≡ frontOf n) × (m ≤ journalLimit) → length (take m xs) ≡ m
+      → (zs : Journal) → length zs ≡ m → length (zs ++ drop m xs) ≡ journalLimit → (c : Checked) → Checks bs B (take m xs) zs c
+      → (d : Named) → d ≡ nameIn c → (i : ℕ) → i ≡ placeOf (d .row) → (k : ℕ) → (k ≡ placeOf p) × (k < journalLimit) → (w : Writing) → Writes bs (map rowOf zs) (d .used) (d .row) before after w
+      → (r : Told) → r ≡ toldBy c (getD (zs ++ drop m xs) i blank) (getD (zs ++ drop m xs) k blank) (refusedBy (writingOf w)) → ChecksAlone bs n old B p before after r
+  unfolding journalOf restOf
+  tells-alone xs e m em lent zs back all c h d ed i ei k ek w v r er =
+      let front : take m xs ≡ journalOf n old = ap (λ (j : Journal). take m j) e ∙ ap (λ (u : ℕ). take u (replicate journalLimit old)) (em .0) in
+      let rest : drop m xs ≡ restOf n old = ap (λ (j : Journal). drop m j) e ∙ ap (λ (u : ℕ). drop u (replicate journalLimit old)) (em .0) in
+      let v′ = subst (λ (z : Named). Writes bs (map rowOf zs) (z .used) (z .row) before after w) ed v in
+      let y = getD (zs ++ drop m xs) k blank in
+      let f = refusedBy (writingOf w) in
+      let same : toldBy c (getD (zs ++ drop m xs) (placeOf (nameIn c .row)) blank) y f ≡ r =
+      ap (λ (u : ℕ). toldBy c (getD (zs ++ drop m xs) u blank) y f) (sym (ei ∙ ap (λ (z : Named). placeOf (z .row)) ed)) ∙ sym er in
+      let t = tells-check bs B (take m xs) zs (drop m xs) (omega (arith, lent, em .1)) (back ∙ sym lent) before after w y c h v′ in
+      record {
+        over =
+            subst (λ (j : Journal). ChecksOver bs j B (numbersIn r) before after (r .code)) front
+            (subst (λ (z : Told). ChecksOver bs (take m xs) B (numbersIn z) before after (z .code)) same t);
+        shows =
+            ap (λ (z : Told). rowOf (z .shown)) er ∙ ap rowOf (shown-told c (getD (zs ++ drop m xs) i blank) y f)
+            ∙ row-read zs (drop m xs) k (omega (arith, ek .1, all))
+            ∙ ap (λ (rows : List (Row ℕ)). rowIn (rows ++ map rowOf (drop m xs)) k) (h .journal)
+            ∙ ap (λ (j : Journal). rowIn (journalAfter bs (map rowOf j) B ++ map rowOf (drop m xs)) k) front
+            ∙ ap (λ (j : Journal). rowIn (journalAfter bs (map rowOf (journalOf n old)) B ++ map rowOf j) k) rest
+            ∙ ap (rowIn (journalAfter bs (map rowOf (journalOf n old)) B ++ map rowOf (restOf n old))) (ek .0);
+      }

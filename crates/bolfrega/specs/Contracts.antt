@@ -8,7 +8,7 @@ use Rattle.working_order.specs.Journal.{Row}
 use Rattle.calls.specs.Checking.{journalAfter}
 use Rattle.calls.specs.Judging.{judgeOf}
 use Rattle.calls.specs.JudgingTruth.{Means}
-use Rattle.standalone.specs.Codes.{codeBy}
+use Rattle.telling.specs.Codes.{codeBy}
 use Rattle.standalone.specs.Told.{zeroRow}
 use Rattle.standalone.specs.Contracts.{ChecksBy}
 use Rattle.bolfrega.specs.Codes.{judgementCode, placeIn}

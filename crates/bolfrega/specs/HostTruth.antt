@@ -30,8 +30,9 @@ use Rattle.calls.specs.Promising.{from-order}
 use Rattle.calls.specs.Replies.{Reply, refused, answered, unless, unlessBy}
 use Rattle.calls.specs.Writing.{longWord, rowFault, roomFault, wordOf, writeOf, writtenBy, bufferAfter}
 use Rattle.witness.specs.BehindLaws.{behind-more}
-use Rattle.standalone.specs.Codes.{holdsCode, brokenCode, verdictCode, codeBy}
-use Rattle.standalone.specs.Told.{zeroRow, answerCode, rowIn, refusedBy, lastThree, detailsOf, shownBy, shownOf}
+use Rattle.telling.specs.Codes.{holdsCode, brokenCode, verdictCode, codeBy}
+use Rattle.telling.specs.Telling.{refusedBy}
+use Rattle.standalone.specs.Told.{zeroRow, answerCode, rowIn, lastThree, detailsOf, shownBy, shownOf}
 use Rattle.bolfrega.specs.Codes.{acceptedCode, turnedAwayCode, judgementCode}
 use Rattle.bolfrega.specs.Contracts.{Judges, zeroRows, ChecksZeros}
 use Rattle.bolfrega.specs.LowNumbers.{LowIn, check-low, judge-low}

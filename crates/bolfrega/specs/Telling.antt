@@ -9,7 +9,7 @@ use Rattle.calls.specs.Judging.{judgeOf}
 use Rattle.calls.specs.JudgingTruth.{Means}
 use Rattle.acceptance.specs.declared.Judged.{Judged}
 use Rattle.acceptance.specs.Answers.{judgedOf, Judging}
-use Rattle.standalone.specs.Codes.{codeBy}
+use Rattle.telling.specs.Codes.{codeBy}
 use Rattle.bolfrega.specs.Codes.{judgementCode, placeIn}
 use Rattle.bolfrega.specs.Contracts.{Refuses, Judges}
 

@@ -19,11 +19,11 @@ use Rattle.calls.specs.Replies.{Reply, refused}
 use Rattle.calls.specs.Rows.{rowOf, blank}
 use Rattle.calls.specs.declared.Row.{Row as LentRow}
 use Rattle.covers.specs.Rows.{Journal}
-use Rattle.standalone.specs.Fronts.{journalOf}
+use Rattle.telling.specs.Fronts.{journalOf}
 use Rattle.standalone.specs.Told.{zeroRow}
-use Rattle.standalone.specs.Telling.{numbersIn}
+use Rattle.telling.specs.Telling.{numbersIn}
 use Rattle.standalone.specs.Contracts.{Tells, ChecksBy, ChecksOver, ChecksAlone}
-use Rattle.standalone.specs.declared.Told.{Told}
+use Rattle.telling.specs.declared.Told.{Told}
 use Rattle.bolfrega.specs.Contracts.{zeroRows, ChecksZeros}
 
 -- ---- rows of zeros

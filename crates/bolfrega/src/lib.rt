@@ -1,9 +1,9 @@
 // The library for hosts in C and Rust: the calls of document 01 as functions on numbers and lent bytes. No function asks anything of
 // its caller. A result from 1 to 11 is the number that refused the call; the answers have the numbers below.
 use acceptance::Judged;
-use standalone::Told;
+use telling::Told;
 ghost use mathlib.Core.Path.{_≡_};
-ghost use Rattle.standalone.specs.Telling.{numbersIn};
+ghost use Rattle.telling.specs.Telling.{numbersIn};
 ghost use Rattle.bolfrega.specs.Codes.{version};
 ghost use Rattle.bolfrega.specs.Contracts.{Refuses, Judges, ChecksZeros};
 
@@ -70,7 +70,7 @@ fn details_of(told: Told) -> [u64; 8]
     ]
 }
 
-// Checks the plan against the sheet over a journal of so many rows, with a budget of joins: the verdict's number (crate standalone) or the
+// Checks the plan against the sheet over a journal of so many rows, with a budget of joins: the verdict's number (crate telling) or the
 // number that refuses the call. The details become the refused record's number, joins, used rows, pass, and for a broken answer the row, its
 // pairs, its length and what refuses to write its run, or 0; a run that is not refused stands at the front of the buffer.
 #[no_mangle]
@@ -83,7 +83,7 @@ pub extern "C" fn bolfrega_check(
 ) -> u64
     ensures { λ r. ⌜ ChecksZeros (now (file .entry)) rows budget (now (details .exit)) (now (buffer .entry)) (now (buffer .exit)) r ⌝ }
 {
-    let told = standalone::checked(file, rows, standalone::blank_row(), budget, 0, buffer);
+    let told = standalone::checked(file, rows, telling::blank_row(), budget, 0, buffer);
     *details = details_of(told);
     told.code
 }

@@ -3,7 +3,7 @@ use acceptance::Judged;
 use calls::Row;
 use random_files::Trial;
 use relation::Relation;
-use standalone::Told;
+use telling::Told;
 use unpruned::rows;
 
 const ROWS: usize = 1024;
@@ -123,9 +123,9 @@ fn shown(file: &[u8], journal: &[[u64; 8]], told: Told, buffer: &[u8]) -> bool {
 // The verdict is the one of the unpruned search, and a broken one has a word to show.
 fn right(file: &[u8], journal: &[[u64; 8]], told: Told, buffer: &[u8], broken: bool) -> bool {
     if broken {
-        return (told.code == standalone::BROKEN) & shown(file, journal, told, buffer);
+        return (told.code == telling::BROKEN) & shown(file, journal, told, buffer);
     }
-    told.code == standalone::HOLDS
+    told.code == telling::HOLDS
 }
 
 // The used rows have relations that the unpruned search found, and the live ones are an antichain; where the check holds, no relation
@@ -133,7 +133,7 @@ fn right(file: &[u8], journal: &[[u64; 8]], told: Told, buffer: &[u8], broken: b
 fn accounted(journal: &[[u64; 8]], told: Told, found: &[[u64; 2]; 512], count: usize) -> bool {
     let used = told.used as usize;
     let sound = rows::listed(journal, used, found, count) & rows::antichain(journal, used);
-    if told.code == standalone::HOLDS {
+    if told.code == telling::HOLDS {
         return sound & rows::covering(journal, used, found, count);
     }
     sound
@@ -142,17 +142,22 @@ fn accounted(journal: &[[u64; 8]], told: Told, found: &[[u64; 2]; 512], count: u
 // A longer journal and a larger budget give the same answer and the same rows.
 fn same_with_more(file: &[u8], journal: &[[u64; 8]], told: Told) -> bool {
     let mut longer = [[0u64; 8]; KEPT];
-    let again = ask(file, MORE_ROWS, standalone::blank_row(), LARGER_BUDGET, 0);
+    let again = ask(file, MORE_ROWS, telling::blank_row(), LARGER_BUDGET, 0);
     let n = looked_at(again.used);
     collect(
         file,
         MORE_ROWS,
-        standalone::blank_row(),
+        telling::blank_row(),
         LARGER_BUDGET,
         n,
         &mut longer,
     );
     same(told, again) & rows::same(journal, &longer, told.used as usize)
+}
+
+// A row that no file uses, anywhere in the rest of the journal: over all files each of these is looked at.
+fn far_row(drawn: u64) -> usize {
+    KEPT + (drawn % 960) as usize
 }
 
 // A journal with other old contents gives the same answer and the same rows, and the rest of it is untouched.
@@ -161,16 +166,21 @@ fn same_with_old(file: &[u8], journal: &[[u64; 8]], told: Told, old: [u64; 8]) -
     let again = ask(file, ROWS, row_of(old), BUDGET, 0);
     let n = looked_at(again.used);
     collect(file, ROWS, row_of(old), BUDGET, n, &mut other);
+    let far = ask(file, ROWS, row_of(old), BUDGET, far_row(old[2]));
+    let rest = [numbers(far.shown); 1];
     let used = told.used as usize;
-    same(told, again) & rows::same(journal, &other, used) & rows::untouched(&other, used, old)
+    same(told, again)
+        & rows::same(journal, &other, used)
+        & rows::untouched(&other, used, old)
+        & rows::untouched(&rest, 0, old)
 }
 
 // An answer with few rows and a small budget: full and spent just where the rows or the joins run out, and else the same answer.
 fn fair(told: Told, small: Told, few: usize, budget: u64) -> bool {
-    if small.code == standalone::SPENT {
+    if small.code == telling::SPENT {
         return (small.joins == budget) & (budget < told.joins);
     }
-    if small.code == standalone::FULL {
+    if small.code == telling::FULL {
         return (small.used == few as u64) & ((few as u64) < told.used);
     }
     same(told, small)
@@ -213,7 +223,7 @@ pub fn compare(
     trial: Trial,
 ) -> Outcome {
     let mut buffer = [0u8; 4096];
-    let old = standalone::blank_row();
+    let old = telling::blank_row();
     let told = standalone::checked(file, ROWS, old, BUDGET, 0, &mut buffer);
     let mut journal = [[0u64; 8]; KEPT];
     let n = looked_at(told.used);

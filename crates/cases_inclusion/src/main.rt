@@ -56,7 +56,7 @@ fn line(name: &[u8], n: u64) {
 
 // The verdict with ample rows and joins.
 fn count_verdict(tally: &mut [u64; 9], outcome: Outcome, verdict: Verdict) {
-    if outcome.verdict == standalone::BROKEN {
+    if outcome.verdict == telling::BROKEN {
         count_one(tally, BROKEN);
         return;
     }
@@ -71,9 +71,9 @@ fn count_verdict(tally: &mut [u64; 9], outcome: Outcome, verdict: Verdict) {
 
 // The verdict with few rows and a small budget.
 fn count_small(tally: &mut [u64; 9], verdict: u64) {
-    if verdict == standalone::FULL {
+    if verdict == telling::FULL {
         count_one(tally, FULL);
-    } else if verdict == standalone::SPENT {
+    } else if verdict == telling::SPENT {
         count_one(tally, SPENT);
     } else {
         count_one(tally, NEITHER);

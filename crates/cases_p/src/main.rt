@@ -160,12 +160,12 @@ const SYMBOL_192: [u8; 8] = [1, 0, 1, 192, 0, 0, 0, 0];
 const EQUAL: [u8; 16] = [1, 0, 0, 0, 0, 0, 0, 0, 1, 0, 0, 0, 0, 0, 0, 0];
 
 fn with_1024(file: &[u8], budget: u64) {
-    report::report(file, 1024, standalone::blank_row(), budget);
+    report::report(file, 1024, telling::blank_row(), budget);
 }
 
 // With so many rows.
 fn with_rows(file: &[u8], rows: usize) {
-    report::report(file, rows, standalone::blank_row(), 1000000);
+    report::report(file, rows, telling::blank_row(), 1000000);
 }
 
 // A row that holds 7s.

@@ -22,21 +22,21 @@ use Rattle.calls.specs.Rows.{rowOf}
 use Rattle.covers.specs.Rows.{Journal, firstRows}
 use Rattle.deciding.specs.declared.State.{State}
 use Rattle.deciding.specs.declared.Terms.{Terms}
-use Rattle.passes.specs.Contracts as search
-use Rattle.passes.specs.Contracts.{orderOf}
-use Rattle.passes.specs.Meanings.{answerIn, answerOf, totalsIn}
-use Rattle.passes.specs.Running.{Ran}
-use Rattle.passes.specs.declared.Answer.{Answer}
-use Rattle.passes.specs.declared.Answer.the-variants.{Holds, Broken, Full, Spent}
+use Rattle.verdicts.specs.Contracts as search
+use Rattle.verdicts.specs.Contracts.{orderOf}
+use Rattle.verdicts.specs.Meanings.{answerIn, answerOf, totalsIn}
+use Rattle.verdicts.specs.Running.{Ran}
+use Rattle.verdicts.specs.declared.Answer.{Answer}
+use Rattle.verdicts.specs.declared.Answer.the-variants.{Holds, Broken, Full, Spent}
 use Rattle.checker.specs.declared.Checked.{Checked}
 use Rattle.checker.specs.declared.Checked.the-variants as checked
-use Rattle.checker.specs.declared.Start.{Start}
+use Rattle.starting.specs.declared.Start.{Start}
 use Rattle.checker.specs.Answers.{checkedBy, checkedOf, usedIn}
 use Rattle.checker.specs.Contracts.{Checks}
 use Rattle.checker.specs.OrderLaws.{order-same}
-use Rattle.checker.specs.Starting.{refusalFor, Starts}
-use Rattle.checker.proofs.Refusals.{one-refusal, refused-by}
-use Rattle.checker.proofs.Started.{none-refused}
+use Rattle.requests.specs.Refusing.{refusalFor}
+use Rattle.starting.specs.Starting.{Starts}
+use Rattle.requests.proofs.Refusals.{one-refusal, refused-by, none-refused}
 
 -- ---- what an answer says of the journal
 

@@ -1,34 +1,24 @@
--- What the answers of the calls say, case by case, in the terms of the definitions. Definitions only. Assumes nothing.
+-- What the answers of a check say, case by case, in the terms of the definitions. Definitions only. Assumes nothing.
 use Prim.Native.Nat.{ℕ, zero, suc}
 use Rattle.plan_file.specs.Answers.{refusalOf}
 use Rattle.plan_file.specs.declared.Refusal.{Refusal}
 use Rattle.working_order.specs.Order as order
 use Rattle.calls.specs.Replies.{Reply, refused, answered}
 use Rattle.covers.specs.Rows.{Journal}
-use Rattle.passes.specs.Meanings.{answerOf}
-use Rattle.passes.specs.declared.Answer.{Answer}
+use Rattle.verdicts.specs.Meanings.{answerOf}
+use Rattle.verdicts.specs.declared.Answer.{Answer}
 use Rattle.checker.specs.declared.Checked.{Checked}
 use Rattle.checker.specs.declared.Checked.the-variants as checked
-use Rattle.checker.specs.declared.Writing.{Writing}
-use Rattle.checker.specs.declared.Writing.the-variants as writing
 
 -- by the number of the refusal
 abbrev pub checkedBy : ℕ → Refusal → Answer → Checked
 checkedBy zero r a = checked.Answered a
 checkedBy (suc f) r a = checked.Refused r
 
-abbrev pub writingBy : ℕ → Refusal → ℕ → Writing
-writingBy zero r n = writing.Length n
-writingBy (suc f) r n = writing.Refused r
-
 -- the answer, over the journal as it stands then
 abbrev pub checkedOf : Checked → Journal → Reply (order.Answer ℕ)
 checkedOf (checked.Refused r) j = refused (refusalOf r)
 checkedOf (checked.Answered a) j = answered (answerOf a j)
-
-abbrev pub writingOf : Writing → Reply ℕ
-writingOf (writing.Refused r) = refused (refusalOf r)
-writingOf (writing.Length n) = answered n
 
 -- the rows that a reply uses; none on a refusal
 abbrev pub usedIn : Reply (order.Answer ℕ) → ℕ

@@ -1,19 +1,16 @@
--- What the calls ensure, each in one record. Definitions only. Assumes nothing.
+-- What a check ensures, in one record. Definitions only. Assumes nothing.
 use mathlib.Core.Path.{_≡_}
 use mathlib.Core.List.{List, map}
 use Prim.Native.Nat.{ℕ}
 use lib.ListN.{length, drop}
-use Rattle.working_order.specs.Journal.{Row}
 use Rattle.working_order.specs.Order.{Answer}
 use Rattle.calls.specs.Replies.{answered}
 use Rattle.calls.specs.Rows.{rowOf}
 use Rattle.calls.specs.Checking.{checkOf, journalAfter}
 use Rattle.calls.specs.DemandThree.{Promises}
-use Rattle.calls.specs.Writing.{writeOf, bufferAfter}
 use Rattle.covers.specs.Rows.{Journal}
 use Rattle.checker.specs.declared.Checked.{Checked}
-use Rattle.checker.specs.declared.Writing.{Writing}
-use Rattle.checker.specs.Answers.{checkedOf, usedIn, writingOf}
+use Rattle.checker.specs.Answers.{checkedOf, usedIn}
 
 -- a check of the file bs with a budget of B joins, over a journal with the rows old before and new afterwards
 pub record Checks (bs : List ℕ) (B : ℕ) (old new : Journal) (r : Checked) : Type 0 where
@@ -25,10 +22,3 @@ pub record Checks (bs : List ℕ) (B : ℕ) (old new : Journal) (r : Checked) : 
   pub untouched : drop (usedIn (checkOf bs (length old) B)) new ≡ drop (usedIn (checkOf bs (length old) B)) old
   -- demand 3, the counts, the least height and stability, of the answer
   pub promises : (a : Answer ℕ) → checkOf bs (length old) B ≡ answered a → Promises bs (length old) B a
-
--- writing the word behind row i, with used rows, to a buffer that holds old before and new afterwards
-pub record Writes (bs : List ℕ) (rows : List (Row ℕ)) (used i : ℕ) (old new : List ℕ) (r : Writing) : Type 0 where
-  -- the refusal, or the word's length
-  pub answer : writingOf r ≡ writeOf bs rows used i (length old)
-  -- the word, and then the old bytes; the old bytes whole on a refusal
-  pub buffer : new ≡ bufferAfter bs rows used i old

@@ -29,8 +29,8 @@ use Rattle.calls.specs.Base.{base}
 use Rattle.calls.specs.Rows.{entryOf}
 use Rattle.calls.specs.Checking.{orderOn}
 use Rattle.rows.specs.Meanings.{letterIn}
-use Rattle.passes.specs.Contracts.{orderOf}
-use Rattle.passes.specs.OnAutomaton.{order-on}
+use Rattle.verdicts.specs.Contracts.{orderOf}
+use Rattle.verdicts.specs.OnAutomaton.{order-on}
 use Rattle.tables.specs.Tables.{letterTable}
 use Rattle.tables.specs.LetterLaws.{letters-length, letters-at}
 

@@ -10,6 +10,10 @@ use Rattle.rows.specs.Forming.{formedBy}
 use Rattle.places.specs.Places.{ruleAt}
 use Rattle.deciding.specs.declared.State.{State}
 
+-- the row of position i, if it is one of the first n, and else row 0
+abbrev pub positionRow : ℕ → ℕ → ℕ
+positionRow i n = cond (ltb i n) i 0
+
 -- the row at position i, if it is one of the first n
 abbrev pub amongFirst : LentRow → ℕ → ℕ → LentRow
 amongFirst r i n = cond (ltb i n) r blank

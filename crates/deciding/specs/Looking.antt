@@ -2,7 +2,7 @@
 use mathlib.Core.Path.{_≡_}
 use mathlib.Core.Bool.{Bool, true, false, cond}
 use mathlib.Core.List.{List}
-use Prim.Native.Nat.{ℕ, _+_, _-_, _*_, _≤_, _<_}
+use Prim.Native.Nat.{ℕ, _+_, _-_, _≤_, _<_}
 use lib.Dec.{T, ltb}
 use lib.ListN.{length, getD}
 use Rattle.relation.specs.Relation.{contained}
@@ -26,34 +26,43 @@ pub record Leads (rows : List order.Row) (u : ℕ) (t : List ℕ) : Type 0 where
 module _ (c : order.Candidate) (rows : List order.Row) (u : ℕ) (t : List ℕ) where
   -- looking has ended at a row that covers, if one does, and else at no row
   pub record Finds (l : Look) : Type 0 where
-    pub found : ltb (l .at) u ≡ dropped contained c rows
-    pub free : u ≤ l .at → Free c rows t (l .cell) (l .larger)
+    pub found : l .covers ≡ dropped contained c rows
+    pub row : l .covers ≡ true → l .at < u
+    pub free : l .covers ≡ false → Free c rows t (l .cell) (l .larger)
 
   abbrev pub Looks : Bool → Look → Type 0
-  Looks true l = (l .at < u) × (l .stage ≡ 2 → Unseen c rows t (l .at) (l .cell) (l .larger))
+  Looks true l = (l .at < u) × (l .linked ≡ true → Unseen c rows t (l .at) (l .cell) (l .larger))
   Looks false l = Finds l
 
   pub record InLook (l : Look) : Type 0 where
-    pub stage : l .stage < 3
     pub slot : (headCell heads ≤ l .slot) × (l .slot < listsFrom)
     pub looks : Looks (l .walking) l
 
 -- how many steps are left at most
 abbrev pub looksLeft : Look → ℕ
-looksLeft l = cond (l .walking) ((2 - l .stage) * 8192 + (8192 - l .at)) 0
+looksLeft l = cond (l .walking) (cond (l .linked) 0 8192 + (8192 - l .at)) 0
 
 -- ---- steps
 
 abbrev pub foundIn : Look → Look
-foundIn l = record { walking = false; at = l .at; stage = l .stage; cell = l .cell; larger = l .larger; slot = l .slot }
+foundIn l = record { walking = false; covers = true; linked = l .linked; at = l .at; cell = l .cell; larger = l .larger; slot = l .slot }
 
 abbrev pub lookAfter : List ℕ → ℕ → Look → Bool → Look
 lookAfter t u l b =
-    record { walking = ltb (getD t (l .at) 0) u; at = getD t (l .at) 0; stage = 2; cell = l .at; larger = b; slot = l .slot }
+    record { walking = ltb (getD t (l .at) 0) u; covers = false; linked = true; at = getD t (l .at) 0; cell = l .at; larger = b; slot = l .slot }
 
 -- looking begins so, with at most n steps
 abbrev pub LooksFrom : ℕ → List ℕ → ℕ → Candidate → Look → Type 0
 LooksFrom n t u c r = (rows : List order.Row) → Leads rows u t → InLook (candidateOf c) rows u t r × (looksLeft r ≤ n)
+
+-- the row of the nonterminal that is noted as the one that covered last, if it is a row
+abbrev pub lastNoted : List ℕ → Candidate → ℕ
+lastNoted t c = getD t (headCell heads + c .head) 0
+
+-- with that row
+abbrev pub LooksFirst : List ℕ → ℕ → Candidate → LentRow → Look → Type 0
+LooksFirst t u c last r =
+    (rows : List order.Row) → Leads rows u t → (lastNoted t c < u → rowOf last ≡ rowIn rows (lastNoted t c)) → InLook (candidateOf c) rows u t r × (looksLeft r ≤ 16384)
 
 abbrev pub LooksAlong : List ℕ → ℕ → Candidate → ℕ → Look → Type 0
 LooksAlong t u c slot r =

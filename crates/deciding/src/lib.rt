@@ -1,37 +1,25 @@
-// One candidate of the search, in steps on values: it is formed at its place, a row that covers it is looked for, and where there is none it
-// becomes a row and the larger rows retire. The journal is not here: a step that needs a row is given it by value, and says which row the
-// next one needs.
+// One candidate of the search, in steps on values: it is formed at its place, and a row that covers it is looked for. The journal is not here:
+// a step that needs a row is given it by value, and says which row the next one needs.
 use calls::Row;
 use relation::Relation;
 use rows::Candidate;
 use rows::Place;
 ghost use mathlib.Core.Path.{_≡_};
+ghost use mathlib.Core.Bool.{true};
 ghost use Prim.Native.Nat.{_≤_, _<_};
 ghost use lib.ListN.{length};
-ghost use Rattle.calls.specs.Rows.{rowOf};
 ghost use Rattle.rows.specs.Meanings.{candidateOf};
 ghost use Rattle.places.specs.Lists.{rowCells};
 ghost use Rattle.covers.specs.Covers.{tableCells};
-ghost use Rattle.deciding.specs.Looking.{foundIn, lookAfter, LooksFrom, LooksAlong, LooksOn};
-ghost use Rattle.deciding.specs.Clearing.{clearingFrom, keptRow, ClearsFirst, ClearsOn, MayClear};
-ghost use Rattle.deciding.specs.Forming.{amongFirst, formedIn};
+ghost use Rattle.deciding.specs.Looking.{lastNoted, foundIn, lookAfter, LooksFrom, LooksFirst, LooksAlong, LooksOn};
+ghost use Rattle.deciding.specs.Forming.{positionRow, amongFirst, formedIn};
 
 // Where the table has what (crate covers).
-const HEADS: usize = 4096;
+pub const HEADS: usize = 4096;
 
 const LASTS: usize = 4352;
 
 const SLOTS: usize = 4608;
-
-// No row comes after.
-const END: usize = 65536;
-
-// What is looked at: the row that covered last, the one of the same slot, or the linked rows one by one.
-const LAST: u8 = 0;
-
-const SLOT: u8 = 1;
-
-const LINK: u8 = 2;
 
 // Rows used and joins made.
 pub struct Counts {
@@ -63,6 +51,16 @@ pub struct State {
 }
 
 // ---- forming
+
+// The row of a position among the first rows, or row 0 where it is none.
+pub fn position_row(position: usize, count: usize) -> usize
+    ensures { λ r. ⌜ r ≡ positionRow position count ⌝ }
+{
+    if position < count {
+        return position;
+    }
+    0
+}
 
 // The row at a position among the rows that the pass began with, or a row of zeros where that is no row.
 fn among(row: Row, position: usize, start: usize) -> Row
@@ -99,12 +97,13 @@ pub fn form(letters: &[u64], rules: &[[u8; 4]], state: State, left: Row, right: 
 
 // ---- looking for a cover
 
-// Where looking stands: at a row, which the cell leads to; whether a row that was passed is larger; and the slot of the relation, where it is
-// known. It has ended at a row that covers, or at no row.
+// Where looking stands: at a row that was noted for the relation, or at a linked row, which the cell leads to; whether a row that was passed is
+// larger; and the slot of the relation, where it is known. It has ended at a row that covers, or at no row.
 pub struct Look {
     pub walking: bool,
+    pub covers: bool,
+    pub linked: bool,
     pub at: usize,
-    pub stage: u8,
     pub cell: usize,
     pub larger: bool,
     pub slot: usize,
@@ -119,8 +118,9 @@ fn look_along(table: &[u32], used: usize, candidate: Candidate, slot: usize) -> 
     let at = places::position(table[cell]);
     Look {
         walking: at < used,
+        covers: false,
+        linked: true,
         at,
-        stage: LINK,
         cell,
         larger: false,
         slot,
@@ -137,8 +137,9 @@ fn look_in_slot(table: &[u32], used: usize, candidate: Candidate) -> Look
     if hint < used {
         return Look {
             walking: true,
+            covers: false,
+            linked: false,
             at: hint,
-            stage: SLOT,
             cell: HEADS,
             larger: false,
             slot,
@@ -147,23 +148,36 @@ fn look_in_slot(table: &[u32], used: usize, candidate: Candidate) -> Look
     look_along(table, used, candidate, slot)
 }
 
-// The row that covered last, and then the others.
-pub fn look_first(table: &[u32], state: State, candidate: Candidate) -> Look
+// The row of the nonterminal that covered last, or row 0 where none is noted.
+pub fn last_row(table: &[u32], state: State, candidate: Candidate) -> usize
     requires { ⌜ length (now table) ≡ tableCells ⌝ }
-    ensures { λ r. ⌜ LooksFrom 24576 (now (table .entry)) (state .counts .used) candidate r ⌝ }
+    ensures { λ r. ⌜ r ≡ positionRow (lastNoted (now (table .entry)) candidate) (state .counts .used) ⌝ }
+{
+    let counts = state.counts;
+    let hint = places::position(table[LASTS + candidate.head as usize]);
+    position_row(hint, counts.used)
+}
+
+// Looking begins: the row that covered last, which is given, and then the others.
+pub fn look_first(table: &[u32], state: State, candidate: Candidate, last: Row) -> Look
+    requires { ⌜ length (now table) ≡ tableCells ⌝ }
+    ensures { λ r. ⌜ LooksFirst (now (table .entry)) (state .counts .used) candidate last r ⌝ }
 {
     let counts = state.counts;
     let used = counts.used;
     let hint = places::position(table[LASTS + candidate.head as usize]);
     if hint < used {
-        return Look {
-            walking: true,
-            at: hint,
-            stage: LAST,
-            cell: HEADS,
-            larger: false,
-            slot: SLOTS,
-        };
+        if rows::below(last, candidate) {
+            return Look {
+                walking: false,
+                covers: true,
+                linked: false,
+                at: hint,
+                cell: HEADS,
+                larger: false,
+                slot: SLOTS,
+            };
+        }
     }
     look_in_slot(table, used, candidate)
 }
@@ -174,8 +188,9 @@ fn found(look: Look) -> Look
 {
     Look {
         walking: false,
+        covers: true,
+        linked: look.linked,
         at: look.at,
-        stage: look.stage,
         cell: look.cell,
         larger: look.larger,
         slot: look.slot,
@@ -191,8 +206,9 @@ fn look_after(table: &[u32], used: usize, look: Look, larger: bool) -> Look
     let next = places::position(table[at]);
     Look {
         walking: next < used,
+        covers: false,
+        linked: true,
         at: next,
-        stage: LINK,
         cell: at,
         larger,
         slot: look.slot,
@@ -202,7 +218,7 @@ fn look_after(table: &[u32], used: usize, look: Look, larger: bool) -> Look
 // At a linked row, which is live and of the candidate's nonterminal: only its relation is tested.
 fn look_at_link(table: &[u32], used: usize, candidate: Candidate, look: Look, held: Row) -> Look
     requires { ⌜ (length (now table) ≡ tableCells) × (look .at < rowCells) ⌝ }
-    ensures { λ r. ⌜ (look .stage ≡ 2 → LooksOn (now (table .entry)) used candidate look held r) ⌝ }
+    ensures { λ r. ⌜ (look .linked ≡ true → LooksOn (now (table .entry)) used candidate look held r) ⌝ }
 {
     let relation = held.relation;
     let formed = candidate.relation;
@@ -220,115 +236,11 @@ pub fn look_on(table: &[u32], state: State, candidate: Candidate, look: Look, he
 {
     let counts = state.counts;
     let used = counts.used;
-    let stage = look.stage;
-    if stage == LINK {
+    if look.linked {
         return look_at_link(table, used, candidate, look, held);
     }
     if rows::below(held, candidate) {
         return found(look);
     }
-    if stage == SLOT {
-        return look_along(table, used, candidate, look.slot);
-    }
-    look_in_slot(table, used, candidate)
-}
-
-// ---- making room for a new row, and adding it
-
-// Where the retirement stands: at a linked row, which the cell leads to, or past the last one at the new row.
-pub struct Clearing {
-    pub walking: bool,
-    pub last: bool,
-    pub at: usize,
-    pub cell: usize,
-}
-
-// The linked row, or past the last one the new row.
-fn clear_from(used: usize, at: usize, cell: usize) -> Clearing
-    ensures { λ r. ⌜ r ≡ clearingFrom used at cell ⌝ }
-{
-    if at < used {
-        return Clearing {
-            walking: true,
-            last: false,
-            at,
-            cell,
-        };
-    }
-    Clearing {
-        walking: true,
-        last: true,
-        at: used,
-        cell,
-    }
-}
-
-// Nothing is to be done where a row covers, or there is no room; where no row is larger, only the new row is left.
-pub fn clear_first(table: &[u32], state: State, candidate: Candidate, look: Look) -> Clearing
-    requires { ⌜ length (now table) ≡ tableCells ⌝ }
-    ensures { λ r. ⌜ ClearsFirst (now (table .entry)) (state .counts .used) (state .rows) candidate look r ⌝ }
-{
-    let counts = state.counts;
-    let used = counts.used;
-    if (look.at < used) | (used == state.rows) {
-        return Clearing {
-            walking: false,
-            last: false,
-            at: used,
-            cell: HEADS,
-        };
-    }
-    if look.larger {
-        let cell = HEADS + candidate.head as usize;
-        return clear_from(used, places::position(table[cell]), cell);
-    }
-    clear_from(used, END, look.cell)
-}
-
-// What is to stand in the row's place: the new row, the row retired, or the row as it is.
-pub fn kept(state: State, candidate: Candidate, clearing: Clearing, held: Row) -> Row
-    ensures { λ r. ⌜ rowOf r ≡ keptRow (state .terms .pass) (candidateOf candidate) (clearing .last) (rowOf held) ⌝ }
-{
-    let terms = state.terms;
-    if clearing.last {
-        return rows::opened(terms.pass, candidate);
-    }
-    if rows::outgrown(held, candidate) {
-        return rows::retired(held, terms.pass);
-    }
-    held
-}
-
-// One step, with the row that it needs: a row that retires is linked no more, and the new row is linked.
-pub fn clear_on(
-    table: &mut [u32],
-    state: State,
-    candidate: Candidate,
-    clearing: Clearing,
-    held: Row,
-) -> Clearing
-    requires { ⌜ MayClear (state .counts .used) clearing (now table) ⌝ }
-    ensures { λ r. ⌜ ClearsOn (now (table .entry)) (state .counts .used) candidate clearing held (now (table .exit)) r ⌝ }
-{
-    let counts = state.counts;
-    let used = counts.used;
-    let at = clearing.at;
-    let cell = clearing.cell;
-    if clearing.last {
-        table[used] = places::cell(END);
-        table[cell] = places::cell(used);
-        return Clearing {
-            walking: false,
-            last: true,
-            at,
-            cell,
-        };
-    }
-    let link = table[at];
-    let next = places::position(link);
-    if rows::outgrown(held, candidate) {
-        table[cell] = link;
-        return clear_from(used, next, cell);
-    }
-    clear_from(used, next, at)
+    look_along(table, used, candidate, look.slot)
 }

@@ -189,9 +189,8 @@ abbrev pub binds : (hs : List Hand) (vs : List Value) → Names hs → Lfts (len
 binds hs vs cs = (lifetimes-of hs cs, shares-of hs cs, tt, arguments hs cs vs, machine hs vs)
 
 -- ---- the call
-pub record Handing {M : Type 1} (𝓤 : URA M) (H : Heap 𝓤) (A : Atoms 𝓤) (T : Ended) (c : Clauses 𝓤 T) : Type 2 where
-  pub slices : List Hand
-  pub values : List Value
+-- the callee's signature is of these slices and these values
+pub record Fits {M : Type 1} (𝓤 : URA M) (H : Heap 𝓤) (A : Atoms 𝓤) (T : Ended) (c : Clauses 𝓤 T) (slices : List Hand) (values : List Value) : Type 2 where
   -- `binds slices values`, at a callee that is written out
   pub bound : Names slices → Bound 𝓤 H A (T .signature)
   pub ghost : (cs : Names slices) → c (bound cs .0) (bound cs .3) .ghost
@@ -202,21 +201,26 @@ pub record Handing {M : Type 1} (𝓤 : URA M) (H : Heap 𝓤) (A : Atoms 𝓤) 
   -- and what it says is of the slices, and of the plain data: `refl`
   pub others : (cs : Names slices) → LastsOf T (bound cs .0) (bound cs .3) → Fml
   pub ends : (cs : Names slices) (ws : LastsOf T (bound cs .0) (bound cs .3)) → lasts T (bound cs .0) (bound cs .3) ws ≡ Sayings slices cs (lists cs ws) (others cs ws)
+
+pub record Handing {M : Type 1} (𝓤 : URA M) (H : Heap 𝓤) (A : Atoms 𝓤) (T : Ended) (c : Clauses 𝓤 T) : Type 2 where
+  pub slices : List Hand
+  pub values : List Value
+  pub fits : Fits 𝓤 H A T c slices values
   -- the two facts
-  pub asked : (cs : Names slices) → ent 𝓤 (emp 𝓤) (c (bound cs .0) (bound cs .3) .requires (ghost cs))
-  pub φ : (cs : Names slices) → Result 𝓤 H A T (bound cs) .Denot → LastsOf T (bound cs .0) (bound cs .3) → Type 0
-  pub says : (cs : Names slices) (r : Result 𝓤 H A T (bound cs) .Denot) (ws : LastsOf T (bound cs .0) (bound cs .3)) → ent 𝓤 (c (bound cs .0) (bound cs .3) .ensures (ghost cs) r (atExit T (bound cs .0) (bound cs .3) ws)) (fact 𝓤 (φ cs r ws))
+  pub asked : (cs : Names slices) → ent 𝓤 (emp 𝓤) (c (fits .bound cs .0) (fits .bound cs .3) .requires (fits .ghost cs))
+  pub φ : (cs : Names slices) → Result 𝓤 H A T (fits .bound cs) .Denot → LastsOf T (fits .bound cs .0) (fits .bound cs .3) → Type 0
+  pub says : (cs : Names slices) (r : Result 𝓤 H A T (fits .bound cs) .Denot) (ws : LastsOf T (fits .bound cs .0) (fits .bound cs .3)) → ent 𝓤 (c (fits .bound cs .0) (fits .bound cs .3) .ensures (fits .ghost cs) r (atExit T (fits .bound cs .0) (fits .bound cs .3) ws)) (fact 𝓤 (φ cs r ws))
   -- the result
-  pub val : (cs : Names slices) → Result 𝓤 H A T (bound cs) .Denot → Val
-  pub tells : (cs : Names slices) → Tells (Result 𝓤 H A T (bound cs)) (Is (Result 𝓤 H A T (bound cs))) (λ r. val cs r ∷ [])
+  pub val : (cs : Names slices) → Result 𝓤 H A T (fits .bound cs) .Denot → Val
+  pub tells : (cs : Names slices) → Tells (Result 𝓤 H A T (fits .bound cs)) (Is (Result 𝓤 H A T (fits .bound cs))) (λ r. val cs r ∷ [])
 
 module _ {M : Type 1} {𝓤 : URA M} {H : Heap 𝓤} {A : Atoms 𝓤} {T : Ended} {c : Clauses 𝓤 T} (h : Handing 𝓤 H A T c) where
   abbrev pre : Names (h .slices) → Item 𝓤
-  pre cs = raw (Called 𝓤 H A T c .pre (h .bound cs, h .ghost cs))
+  pre cs = raw (Called 𝓤 H A T c .pre (h .fits .bound cs, h .fits .ghost cs))
 
-  asks : (cs : Names (h .slices)) → ent 𝓤 (sep 𝓤 (sem 𝓤 H A (Tokens (h .slices) cs)) (sem 𝓤 H A (Owns (h .slices) cs (owns (types-of (h .values)) (values-of (h .values)) (machine-of (h .values)))))) (Called 𝓤 H A T c .pre (h .bound cs, h .ghost cs))
+  asks : (cs : Names (h .slices)) → ent 𝓤 (sep 𝓤 (sem 𝓤 H A (Tokens (h .slices) cs)) (sem 𝓤 H A (Owns (h .slices) cs (owns (types-of (h .values)) (values-of (h .values)) (machine-of (h .values)))))) (Called 𝓤 H A T c .pre (h .fits .bound cs, h .fits .ghost cs))
   asks cs = let P = sep 𝓤 (sem 𝓤 H A (Tokens (h .slices) cs)) (sem 𝓤 H A (Owns (h .slices) cs (owns (types-of (h .values)) (values-of (h .values)) (machine-of (h .values))))) in
-      via 𝓤 (sep 𝓤 (emp 𝓤) P) (emp∗ 𝓤 P) (via 𝓤 (sep 𝓤 P (emp 𝓤)) (comm∗ 𝓤 (emp 𝓤) P) (mono∗ 𝓤 (h .enters cs) (h .asked cs)))
+      via 𝓤 (sep 𝓤 (emp 𝓤) P) (emp∗ 𝓤 P) (via 𝓤 (sep 𝓤 P (emp 𝓤)) (comm∗ 𝓤 (emp 𝓤) P) (mono∗ 𝓤 (h .fits .enters cs) (h .asked cs)))
 
   handing : {K : Type 0} {W : Given 𝓤 H A} {Γ : List (Item 𝓤)} {G : Goal 𝓤 H} → K → Soaks G → ((cs : Names (h .slices)) → Seq K W (pre cs ∷ ‵ (Keepings (h .slices) cs) ∷ Γ) G) → Seq K W (Holding (h .slices) Γ) G
   handing {W = W} t s go =
@@ -225,21 +229,21 @@ module _ {M : Type 1} {𝓤 : URA M} {H : Heap 𝓤} {A : Atoms 𝓤} {T : Ended
 -- what follows the call
 abbrev pub Goes : {M : Type 1} {𝓤 : URA M} {H : Heap 𝓤} {A : Atoms 𝓤} (K : Type 0) (W : Given 𝓤 H A) (Γ : List (Item 𝓤)) {T : Ended} {c : Clauses 𝓤 T} (h : Handing 𝓤 H A T c) → (Val → Goal 𝓤 H) → Type 1
 Goes {𝓤 = 𝓤} {H = H} {A = A} K W Γ {T} h after =
-    (cs : Names (h .slices)) (r : Result 𝓤 H A T (h .bound cs) .Denot) (ws : LastsOf T (h .bound cs .0) (h .bound cs .3)) → h .φ cs r ws → Is (Result 𝓤 H A T (h .bound cs)) r (h .val cs r ∷ []) → Long (h .slices) (h .lists cs ws)
-    → Seq K W (After (h .slices) (h .lists cs ws) Γ) (after (h .val cs r))
+    (cs : Names (h .slices)) (r : Result 𝓤 H A T (h .fits .bound cs) .Denot) (ws : LastsOf T (h .fits .bound cs .0) (h .fits .bound cs .3)) → h .φ cs r ws → Is (Result 𝓤 H A T (h .fits .bound cs)) r (h .val cs r ∷ []) → Long (h .slices) (h .fits .lists cs ws)
+    → Seq K W (After (h .slices) (h .fits .lists cs ws) Γ) (after (h .val cs r))
 
 module _ {M : Type 1} {𝓤 : URA M} {H : Heap 𝓤} {A : Atoms 𝓤} {K : Type 0} {W : Given 𝓤 H A} {Γ : List (Item 𝓤)} {T : Ended} {c : Clauses 𝓤 T} where
-  finished : K → (h : Handing 𝓤 H A T c) (after : Val → Goal 𝓤 H) → ((u : Val) → Soaks (after u)) → Goes K W Γ h after → (cs : Names (h .slices)) → AfterCall K W (‵ (Keepings (h .slices) cs) ∷ Γ) T (h .bound cs) (h .φ cs) (h .val cs) after
+  finished : K → (h : Handing 𝓤 H A T c) (after : Val → Goal 𝓤 H) → ((u : Val) → Soaks (after u)) → Goes K W Γ h after → (cs : Names (h .slices)) → AfterCall K W (‵ (Keepings (h .slices) cs) ∷ Γ) T (h .fits .bound cs) (h .φ cs) (h .val cs) after
   finished t h after s go cs r ws e is =
-      drop t $ use1 W (‵ (Tokens (h .slices) cs)) (h .leaves cs) $ move t (1 ∷ []) $ rewrite t 0 (λ (P : Fml). ‵ P) (h .ends cs ws) refl $ move t (1 ∷ 0 ∷ 2 ∷ []) $
-      nothing t $ move t (1 ∷ 2 ∷ 3 ∷ 0 ∷ []) $ back-all t (s (h .val cs r)) (h .slices) cs (h .lists cs ws) ftrue (h .others cs ws) (λ l. drop t $ go cs r ws e is l)
+      drop t $ use1 W (‵ (Tokens (h .slices) cs)) (h .fits .leaves cs) $ move t (1 ∷ []) $ rewrite t 0 (λ (P : Fml). ‵ P) (h .fits .ends cs ws) refl $ move t (1 ∷ 0 ∷ 2 ∷ []) $
+      nothing t $ move t (1 ∷ 2 ∷ 3 ∷ 0 ∷ []) $ back-all t (s (h .val cs r)) (h .slices) cs (h .fits .lists cs ws) ftrue (h .fits .others cs ws) (λ l. drop t $ go cs r ws e is l)
 
   module _ {E : Env 𝓤 H} {C : Calls 𝓤 H} {Λ : Loops 𝓤 H} {z : Post 𝓤 H} {k : Name} {xs : List Operand} {d : Place} (t : K) (fm : FmC 𝓤 H (W .laws) C) (known : Triple 𝓤 (C k) (Called 𝓤 H A T c)) (h : Handing 𝓤 H A T c) where
     -- the operands are read as if nothing were handed over
-    pub calls-handing : {rest : Body} → ((cs : Names (h .slices)) → Opds K W Γ E xs (Called 𝓤 H A T c .args (h .bound cs, h .ghost cs))) → Goes K W Γ h (λ u. lands C Λ E d u rest z) → Seq K W (Holding (h .slices) Γ) (runs C Λ E (seq (call k xs d) rest) z)
+    pub calls-handing : {rest : Body} → ((cs : Names (h .slices)) → Opds K W Γ E xs (Called 𝓤 H A T c .args (h .fits .bound cs, h .fits .ghost cs))) → Goes K W Γ h (λ u. lands C Λ E d u rest z) → Seq K W (Holding (h .slices) Γ) (runs C Λ E (seq (call k xs d) rest) z)
     calls-handing {rest} os go =
-        handing h t tt (λ cs. calls-lasting T c (h .bound cs) (h .ghost cs) (h .φ cs) (h .says cs) (h .val cs) (h .tells cs) t fm known (past-head t (past-head t (os cs))) (finished t h (λ u. lands C Λ E d u rest z) (λ _. tt) go cs))
+        handing h t tt (λ cs. calls-lasting T c (h .fits .bound cs) (h .fits .ghost cs) (h .φ cs) (h .says cs) (h .val cs) (h .tells cs) t fm known (past-head t (past-head t (os cs))) (finished t h (λ u. lands C Λ E d u rest z) (λ _. tt) go cs))
 
-    pub calls-handing-last : ((cs : Names (h .slices)) → Opds K W Γ E xs (Called 𝓤 H A T c .args (h .bound cs, h .ghost cs))) → Goes K W Γ h (λ u. settles E d u z) → Seq K W (Holding (h .slices) Γ) (runs C Λ E (call k xs d) z)
+    pub calls-handing-last : ((cs : Names (h .slices)) → Opds K W Γ E xs (Called 𝓤 H A T c .args (h .fits .bound cs, h .fits .ghost cs))) → Goes K W Γ h (λ u. settles E d u z) → Seq K W (Holding (h .slices) Γ) (runs C Λ E (call k xs d) z)
     calls-handing-last os go =
-        handing h t tt (λ cs. calls-lasting-last T c (h .bound cs) (h .ghost cs) (h .φ cs) (h .says cs) (h .val cs) (h .tells cs) t fm known (past-head t (past-head t (os cs))) (finished t h (λ u. settles E d u z) (λ _. tt) go cs))
+        handing h t tt (λ cs. calls-lasting-last T c (h .fits .bound cs) (h .fits .ghost cs) (h .φ cs) (h .says cs) (h .val cs) (h .tells cs) t fm known (past-head t (past-head t (os cs))) (finished t h (λ u. settles E d u z) (λ _. tt) go cs))

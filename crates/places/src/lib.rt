@@ -39,7 +39,7 @@ pub fn cell(position: usize) -> u32
 }
 
 // The position after this one.
-fn after(lists: &[u32], i: usize) -> usize
+pub fn after(lists: &[u32], i: usize) -> usize
     requires { ⌜ listCells ≤ length (now lists) ⌝ }
     ensures { λ r. ⌜ r ≡ afterIn (now (lists .entry)) i ⌝ }
 {
@@ -115,22 +115,14 @@ pub fn first_place(lists: &[u32], rules: &[[u8; 4]], r: usize) -> Place
     }
 }
 
-// The place after this one.
-pub fn next_place(lists: &[u32], rules: &[[u8; 4]], place: Place) -> Place
-    requires { ⌜ listCells ≤ length (now lists) ⌝ }
+// The place after this one, which has no right position after it: the next left, or the next rule.
+pub fn next_row(lists: &[u32], rules: &[[u8; 4]], place: Place) -> Place
+    requires { ⌜ (listCells ≤ length (now lists)) × (afterIn (now lists) (place .right) ≡ end) ⌝ }
     ensures { λ p. ⌜ Follows (now (lists .entry)) (now (rules .entry)) place p ⌝ }
 {
     let r = place.rule;
     if rules.len() <= r {
         return place;
-    }
-    let right = after(lists, place.right);
-    if right != END {
-        return Place {
-            rule: r,
-            left: place.left,
-            right,
-        };
     }
     let left = after(lists, place.left);
     if left != END {

@@ -37,7 +37,7 @@ fn drain() -> usize
 // The file is the first n bytes.
 fn report_front(input: &[u8], n: usize) {
     if n <= input.len() {
-        report::report(&input[..n], ROWS, standalone::blank_row(), BUDGET);
+        report::report(&input[..n], ROWS, telling::blank_row(), BUDGET);
     }
 }
 

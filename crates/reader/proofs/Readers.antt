@@ -21,14 +21,14 @@ use contract.Lifetimes.{Lfts}
 use types.Kit.{Given, ‵, _⊛_, given, _$_, _∵_, !, qed, by, move, drop, use1, split, learn, done}
 use denote.RattleType.{RattleType, Denots, Valss, owns}
 use denote.Laws.{Is, Ises, Are, Tells, Makes, Makess}
-use denote.Plain.{uint-makes, uint-vals, uint-tells, uint-lawful}
+use denote.Plain.{uint-makes}
 use denote.Builtin.{u8, usize}
 use denote.Ref.{RefT, NamedLft}
-use denote.Slice.{sliceVal, ShrSlice, slice-vals, shr-slice-tells, shr-slice-lawful, shr-slice-copy}
-use denote.Signature.{plain, shrSliceOf}
+use denote.Slice.{sliceVal, ShrSlice, shr-slice-copy}
+use denote.Signature.{plain}
 use denote.Exit.{yes}
-use denote.Triple.Walked.{stay-none, stay-none-slice, goes-none, goes-none-slice}
-use Rattle.lent.proofs.Parameters.{Param}
+use denote.Triple.Walked.{stay-none, goes-none}
+use Rattle.lent.proofs.Parameters.{Param, by-value, number, shared}
 use Rattle.lent.proofs.CallOwning.{with-plain}
 use denote.Enum.Laws as EL
 use denote.Struct.Declared.{Declared}
@@ -80,15 +80,7 @@ File κ = ShrSlice (named 0) κ u8
 
 -- the parameters of the functions that are walked
 abbrev pub the-file : Param 1
-the-file = record {
-  slot = shrSliceOf (0 ∷ []) tt (plain (λ _. u8));
-  kept = yes;
-  stay = stay-none-slice (0 ∷ []) tt (plain (λ _. u8)) yes;
-  goes = λ 𝓤 H A W. goes-none-slice 𝓤 H A W 1 (0 ∷ []) tt (plain (λ _. u8)) yes;
-  vals = λ κs. slice-vals;
-  tells = λ κs. shr-slice-tells (named 0) (κs .0) u8;
-  lawful = λ 𝓤 H A W κs. shr-slice-lawful 𝓤 H A W (named 0) (κs .0) u8;
-}
+the-file = shared 0 tt (plain (λ _. u8))
 
 abbrev pub the-reader : Param 1
 the-reader = record {
@@ -102,26 +94,10 @@ the-reader = record {
 }
 
 abbrev pub a-count : Param 1
-a-count = record {
-  slot = plain (λ _. usize);
-  kept = yes;
-  stay = stay-none (λ _. usize) yes;
-  goes = λ 𝓤 H A W. goes-none 𝓤 H A W 1 (λ _. usize) yes (λ κs x f. refl);
-  vals = λ κs. uint-vals w64;
-  tells = λ κs. uint-tells w64;
-  lawful = λ 𝓤 H A W κs. uint-lawful 𝓤 H A W w64;
-}
+a-count = number w64
 
 abbrev pub a-step : Param 1
-a-step = record {
-  slot = plain (λ _. S.the-row);
-  kept = yes;
-  stay = stay-none (λ _. S.the-row) yes;
-  goes = λ 𝓤 H A W. goes-none 𝓤 H A W 1 (λ _. S.the-row) yes (λ κs x f. refl);
-  vals = λ κs s. stepVal s ∷ [];
-  tells = λ κs. step-tells;
-  lawful = λ 𝓤 H A W κs. EL.lawful S.the-type S′.the-laws 𝓤 H A W tt;
-}
+a-step = by-value S.the-row (λ s. stepVal s ∷ []) step-tells (λ M 𝓤 H A W. EL.lawful S.the-type S′.the-laws 𝓤 H A W tt) (λ x f. refl)
 
 module _ {M : Type 1} (𝓤 : URA M) (H : Heap 𝓤) (A : Atoms 𝓤) (W : Given 𝓤 H A) (κ : Lft) where
   abbrev D : Declared

@@ -1,7 +1,7 @@
 // Prints the answer of a check as document 01, "The check program", has it: the lines that the check program writes.
 use calls::Row;
 use libc::STDOUT_FILENO;
-use standalone::Told;
+use telling::Told;
 
 // The run buffer of the check program.
 const RUN: usize = 4096;
@@ -73,13 +73,13 @@ fn print_broken(told: Told, buffer: &[u8]) {
 }
 
 fn print_told(told: Told, buffer: &[u8]) {
-    if told.code == standalone::HOLDS {
+    if told.code == telling::HOLDS {
         print_totals(b"holds", told);
-    } else if told.code == standalone::FULL {
+    } else if told.code == telling::FULL {
         print_totals(b"full", told);
-    } else if told.code == standalone::SPENT {
+    } else if told.code == telling::SPENT {
         print_totals(b"spent", told);
-    } else if told.code == standalone::BROKEN {
+    } else if told.code == telling::BROKEN {
         print_totals(b"broken", told);
         print_broken(told, buffer);
     } else {

@@ -1,12 +1,9 @@
--- The plain data of the search (`PlainData.antt`), the places of the fields that the walks read, and the types of the slices. These stand here alone.
+-- The plain data of the search (`PlainData.antt`), the places of the fields that the walks read, and the type of a cell. These stand here alone.
 -- Assumes nothing.
 use mathlib.Core.List.{[], _∷_}
 use Prim.Native.Nat.{_<_, _^_}
-use mir.Syntax.{Ty, Lifetime, Mutability, w32, tyInt, tyRef}
 use denote.RattleType.{RattleType}
 use denote.Builtin.{u32}
-use denote.Memory.{pointee}
-use denote.Slice.{sliceTy}
 use denote.Struct.Laws as LL
 use Rattle.calls.proofs.Row as R
 use Rattle.calls.proofs.Row.Laws as R′
@@ -16,13 +13,13 @@ use Rattle.rows.proofs.Candidate as D
 use Rattle.rows.proofs.Candidate.Laws as D′
 use Rattle.deciding.specs.declared.State.{State}
 use Rattle.deciding.specs.declared.Look.{Look}
-use Rattle.deciding.specs.declared.Clearing.{Clearing}
+use Rattle.retiring.specs.declared.Clearing.{Clearing}
 use Rattle.deciding.proofs.State as S
 use Rattle.deciding.proofs.State.Laws as S′
 use Rattle.deciding.proofs.Look as L
 use Rattle.deciding.proofs.Look.Laws as L′
-use Rattle.deciding.proofs.Clearing as G
-use Rattle.deciding.proofs.Clearing.Laws as G′
+use Rattle.retiring.proofs.Clearing as G
+use Rattle.retiring.proofs.Clearing.Laws as G′
 use Rattle.lent.proofs.PlainData.{Data, Means}
 
 abbrev pub row : Data
@@ -52,24 +49,11 @@ pub head-fits : (c : Candidate) → Means candidate c → c .head < heads
 head-fits c is = LL.owed D.the-type D′.the-laws c (D′.lowered c ∷ []) is .0 .1
 
 pub look-at-fits : (l : Look) → Means look l → l .at < 2 ^ 64
-look-at-fits l is = LL.owed L.the-type L′.the-laws l (L′.lowered l ∷ []) is .1 .0 .1
+look-at-fits l is = LL.owed L.the-type L′.the-laws l (L′.lowered l ∷ []) is .1 .1 .1 .0 .1
 
 pub clearing-at-fits : (g : Clearing) → Means clearing g → g .at < 2 ^ 64
 clearing-at-fits g is = LL.owed G.the-type G′.the-laws g (G′.lowered g ∷ []) is .1 .1 .0 .1
 
--- ---- the slices of rows and of cells
 -- a cell of the table
 abbrev pub cell : RattleType
 cell = u32
-
-abbrev pub rows-ref : Lifetime → Mutability → Ty
-rows-ref ℓ μ = tyRef ℓ μ (pointee (R.the-row .written))
-
-abbrev pub cells-ref : Lifetime → Mutability → Ty
-cells-ref ℓ μ = tyRef ℓ μ (tyInt w32)
-
-abbrev pub rows-slice : Lifetime → Mutability → Ty
-rows-slice ℓ μ = sliceTy (rows-ref ℓ μ)
-
-abbrev pub cells-slice : Lifetime → Mutability → Ty
-cells-slice ℓ μ = sliceTy (cells-ref ℓ μ)

@@ -4,15 +4,17 @@ use deciding::Look;
 use deciding::State;
 use rows::Candidate;
 ghost use Rattle.rows.specs.Meanings.{candidateOf};
-ghost use Rattle.deciding.specs.Clearing.{Settled};
-ghost use Rattle.passes.specs.Running.{MayFind, Found, MaySettle, Running, Ran};
+ghost use Rattle.retiring.specs.Clearing.{Settled};
+ghost use Rattle.verdicts.specs.Running.{MayFind, Found, MaySettle, Running, Ran};
 
 // The first row that covers the candidate, if there is one.
 fn find(journal: &[Row], table: &[u32], state: State, candidate: Candidate) -> Look
     requires { ⌜ MayFind state (now journal) (now table) ⌝ }
     ensures { λ r. ⌜ Found state candidate (now (journal .entry)) (now (table .entry)) r ⌝ }
 {
-    let mut look = deciding::look_first(table, state, candidate);
+    let last = deciding::last_row(table, state, candidate);
+    let noted = journal[last];
+    let mut look = deciding::look_first(table, state, candidate, noted);
     while look.walking {
         let at = look.at;
         let held = journal[at];
@@ -26,12 +28,12 @@ fn settle(journal: &mut [Row], table: &mut [u32], state: State, candidate: Candi
     requires { ⌜ MaySettle state candidate look (now journal) (now table) ⌝ }
     ensures { λ r. ⌜ Settled (state .terms .pass) (candidateOf candidate) (state .counts .used) look (now (journal .entry)) (now (table .entry)) (now (journal .exit)) (now (table .exit)) ⌝ }
 {
-    let mut clearing = deciding::clear_first(table, state, candidate, look);
+    let mut clearing = retiring::clear_first(table, state, candidate, look);
     while clearing.walking {
         let at = clearing.at;
         let held = journal[at];
-        journal[at] = deciding::kept(state, candidate, clearing, held);
-        clearing = deciding::clear_on(table, state, candidate, clearing, held);
+        journal[at] = retiring::kept(state, candidate, clearing, held);
+        clearing = retiring::clear_on(table, state, candidate, clearing, held);
     }
 }
 

@@ -11,11 +11,11 @@ use Rattle.calls.specs.Replies.{Reply, answered}
 use Rattle.calls.specs.Rows.{rowOf}
 use Rattle.calls.specs.declared.Row.{Row as LentRow}
 use Rattle.covers.specs.Rows.{Journal}
-use Rattle.standalone.specs.Codes.{codeBy}
-use Rattle.standalone.specs.Fronts.{journalOf, restOf, placeOf}
+use Rattle.telling.specs.Codes.{codeBy}
+use Rattle.telling.specs.Fronts.{journalOf, restOf, placeOf}
 use Rattle.standalone.specs.Told.{answerCode, rowIn, detailsOf, shownOf}
-use Rattle.standalone.specs.Telling.{numbersIn}
-use Rattle.standalone.specs.declared.Told.{Told}
+use Rattle.telling.specs.Telling.{numbersIn}
+use Rattle.telling.specs.declared.Told.{Told}
 
 -- a reply x to a check of the file bs, which left these rows in the journal, told as the number r, the eight numbers d, and the buffer
 pub record Tells (bs : List ℕ) (rows : List (Row ℕ)) (x : Reply (Answer ℕ)) (d old new : List ℕ) (r : ℕ) : Type 0 where

@@ -22,18 +22,20 @@ use Rattle.calls.specs.Rows.{rowOf, blank}
 use Rattle.calls.specs.Writing.{rowFault, wordOf, writeOf, writtenBy, bufferAfter}
 use Rattle.calls.specs.declared.Row.{Row as LentRow}
 use Rattle.covers.specs.Rows.{Journal}
-use Rattle.passes.specs.declared.Answer.the-variants as answer
+use Rattle.verdicts.specs.declared.Answer.the-variants as answer
 use Rattle.checker.specs.declared.Checked.{Checked}
 use Rattle.checker.specs.declared.Checked.the-variants as checked
-use Rattle.checker.specs.declared.Writing.{Writing}
-use Rattle.checker.specs.Answers.{checkedOf, writingOf}
-use Rattle.checker.specs.Contracts.{Checks, Writes}
-use Rattle.standalone.specs.Fronts.{frontOf, journalOf, restOf, placeOf, nameIn}
-use Rattle.standalone.specs.Told.{zeroRow, rowIn, refusedBy}
-use Rattle.standalone.specs.Telling.{toldBy, numbersIn}
+use Rattle.writer.specs.declared.Writing.{Writing}
+use Rattle.checker.specs.Answers.{checkedOf}
+use Rattle.writer.specs.Answers.{writingOf}
+use Rattle.checker.specs.Contracts.{Checks}
+use Rattle.writer.specs.Contracts.{Writes}
+use Rattle.telling.specs.Fronts.{frontOf, journalOf, restOf, placeOf, nameIn}
+use Rattle.telling.specs.Telling.{refusedBy, toldBy, numbersIn}
+use Rattle.standalone.specs.Told.{zeroRow, rowIn}
 use Rattle.standalone.specs.Contracts.{Tells, ChecksOver, ChecksAlone}
-use Rattle.standalone.specs.declared.Named.{Named}
-use Rattle.standalone.specs.declared.Told.{Told}
+use Rattle.telling.specs.declared.Named.{Named}
+use Rattle.telling.specs.declared.Told.{Told}
 
 -- ---- the row of a broken answer
 

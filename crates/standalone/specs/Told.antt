@@ -7,7 +7,8 @@ use Rattle.working_order.specs.Journal.{Row}
 use Rattle.working_order.specs.Order.{Answer, Verdict, holds, broken, full, spent}
 use Rattle.calls.specs.Replies.{Reply, refused, answered}
 use Rattle.calls.specs.Writing.{writeOf, bufferAfter}
-use Rattle.standalone.specs.Codes.{verdictCode, codeBy}
+use Rattle.telling.specs.Codes.{verdictCode}
+use Rattle.telling.specs.Telling.{refusedBy}
 
 -- what is read past the end of a journal: a row of zeros
 abbrev pub zeroRow : Row ℕ
@@ -23,10 +24,6 @@ answerCode a = verdictCode (a .verdict)
 -- row i of the journal after the check
 abbrev pub rowIn : List (Row ℕ) → ℕ → Row ℕ
 rowIn rows i = getD rows i zeroRow
-
--- what refuses to write the run, or 0
-abbrev pub refusedBy : Reply ℕ → ℕ
-refusedBy w = codeBy (λ n. 0) w
 
 -- the last three, of the row and of writing its run; 0 unless broken
 abbrev pub lastThree : Verdict → Row ℕ → Reply ℕ → List ℕ

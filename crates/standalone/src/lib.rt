@@ -1,199 +1,9 @@
 // One call for programs and hosts: the check over a journal of the library's own, and the run of a broken answer in the lent buffer. Its
 // parameters and its answer are plain values and lent bytes, so whoever calls it is proved by the toolchain.
 use calls::Row;
-use checker::Checked;
-use checker::Writing;
-use passes::Answer;
-use passes::Totals;
-use relation::Relation;
-ghost use mathlib.Core.Path.{_≡_};
-ghost use Prim.Native.Nat.{_≤_, _<_};
-ghost use Rattle.calls.specs.Rows.{blank};
-ghost use Rattle.checker.specs.Answers.{writingOf};
-ghost use Rattle.standalone.specs.Fronts.{frontOf, placeOf, nameOf, nameIn};
-ghost use Rattle.standalone.specs.Told.{refusedBy};
-ghost use Rattle.standalone.specs.Telling.{unbrokenBy, brokenBy, toldOf, toldBy};
+use telling::ROWS;
+use telling::Told;
 ghost use Rattle.standalone.specs.Contracts.{ChecksAlone};
-
-pub const HOLDS: u64 = 100;
-
-pub const BROKEN: u64 = 101;
-
-pub const FULL: u64 = 102;
-
-pub const SPENT: u64 = 103;
-
-// A row number that names no row.
-const ABSENT: u64 = 65535;
-
-// Rows of a journal at most.
-const ROWS: usize = 4096;
-
-// What a host is told: the number that refuses, or the verdict's; the refused record's number; joins, used rows and pass; and of a broken
-// answer the row, its pairs, its length, and what refuses to write its run, or 0. And the row that was asked for, as it stands then.
-pub struct Told {
-    pub code: u64,
-    pub place: u64,
-    pub joins: u64,
-    pub used: u64,
-    pub pass: u64,
-    pub row: u64,
-    pub pairs: u64,
-    pub length: u64,
-    pub refused: u64,
-    pub shown: Row,
-}
-
-// The row of which the run is to be written, and the used rows.
-struct Named {
-    used: usize,
-    row: usize,
-}
-
-// ---- before the check
-
-// A row of zeros.
-pub fn blank_row() -> Row
-    ensures { λ r. ⌜ r ≡ blank ⌝ }
-{
-    Row {
-        head: 0,
-        rule: 0,
-        relation: Relation { bits: 0 },
-        left: 0,
-        right: 0,
-        len: 0,
-        birth: 0,
-        retired: 0,
-    }
-}
-
-// So many rows, or none where a journal may not have them: number 8 refuses both no rows and too many.
-fn front(rows: usize) -> usize
-    ensures { λ r. ⌜ (r ≡ frontOf rows) × (r ≤ 4096) ⌝ }
-{
-    if rows <= ROWS {
-        return rows;
-    }
-    0
-}
-
-// ---- after the check
-
-// The row, if a journal may have it, or else row 0.
-fn row_number(i: usize) -> usize
-    ensures { λ r. ⌜ (r ≡ placeOf i) × (r < 4096) ⌝ }
-{
-    if i < ROWS {
-        return i;
-    }
-    0
-}
-
-// The row of a broken answer. Where nothing is broken, a row that is not below the used ones: its run is not written.
-fn named_by(answer: Answer) -> Named
-    ensures { λ r. ⌜ r ≡ nameOf answer ⌝ }
-{
-    match answer {
-        Answer::Holds(_) => Named { used: 0, row: 0 },
-        Answer::Full(_) => Named { used: 0, row: 0 },
-        Answer::Spent(_) => Named { used: 0, row: 0 },
-        Answer::Broken(row, totals) => Named {
-            used: totals.used,
-            row,
-        },
-    }
-}
-
-fn named_in(checked: Checked) -> Named
-    ensures { λ r. ⌜ r ≡ nameIn checked ⌝ }
-{
-    match checked {
-        Checked::Refused(_) => Named { used: 0, row: 0 },
-        Checked::Answered(answer) => named_by(answer),
-    }
-}
-
-// ---- telling
-
-// What refused to write the run, or 0.
-fn refused_by(writing: Writing) -> u64
-    ensures { λ r. ⌜ r ≡ refusedBy (writingOf writing) ⌝ }
-{
-    match writing {
-        Writing::Refused(refusal) => refusal.number,
-        Writing::Length(_) => 0,
-    }
-}
-
-// An answer that is not broken.
-fn tell_unbroken(code: u64, totals: Totals, shown: Row) -> Told
-    ensures { λ r. ⌜ r ≡ unbrokenBy code totals shown ⌝ }
-{
-    Told {
-        code,
-        place: 0,
-        joins: totals.joins,
-        used: totals.used as u64,
-        pass: totals.pass,
-        row: ABSENT,
-        pairs: 0,
-        length: 0,
-        refused: 0,
-        shown,
-    }
-}
-
-// A broken answer with its row.
-fn tell_broken(i: usize, totals: Totals, row: Row, shown: Row, writing: Writing) -> Told
-    ensures { λ r. ⌜ r ≡ brokenBy i totals row shown (refusedBy (writingOf writing)) ⌝ }
-{
-    let relation = row.relation;
-    Told {
-        code: BROKEN,
-        place: 0,
-        joins: totals.joins,
-        used: totals.used as u64,
-        pass: totals.pass,
-        row: i as u64,
-        pairs: relation.pairs() as u64,
-        length: row.len,
-        refused: refused_by(writing),
-        shown,
-    }
-}
-
-fn tell_answer(answer: Answer, row: Row, shown: Row, writing: Writing) -> Told
-    ensures { λ r. ⌜ r ≡ toldOf answer row shown (refusedBy (writingOf writing)) ⌝ }
-{
-    match answer {
-        Answer::Holds(totals) => tell_unbroken(HOLDS, totals, shown),
-        Answer::Full(totals) => tell_unbroken(FULL, totals, shown),
-        Answer::Spent(totals) => tell_unbroken(SPENT, totals, shown),
-        Answer::Broken(i, totals) => tell_broken(i, totals, row, shown, writing),
-    }
-}
-
-// With the row that is named, and the one that is asked for.
-fn tell(checked: Checked, row: Row, shown: Row, writing: Writing) -> Told
-    ensures { λ r. ⌜ r ≡ toldBy checked row shown (refusedBy (writingOf writing)) ⌝ }
-{
-    match checked {
-        Checked::Refused(refusal) => Told {
-            code: refusal.number,
-            place: refusal.place as u64,
-            joins: 0,
-            used: 0,
-            pass: 0,
-            row: 0,
-            pairs: 0,
-            length: 0,
-            refused: 0,
-            shown,
-        },
-        Checked::Answered(answer) => tell_answer(answer, row, shown, writing),
-    }
-}
 
 // Checks the file over a journal of so many rows, each old before, with a budget of joins, writes the run of a broken answer, and tells what
 // came, with the row at the probe: proved by hand.
@@ -208,13 +18,13 @@ pub fn checked(
     ensures { λ r. ⌜ ChecksAlone (now (file .entry)) rows old budget probe (now (buffer .entry)) (now (buffer .exit)) r ⌝ }
 {
     let mut journal = [old; ROWS];
-    let n = front(rows);
+    let n = telling::front(rows);
     let checked = checker::check(file, &mut journal[..n], budget);
-    let named = named_in(checked);
-    let at = row_number(named.row);
+    let named = telling::named_in(checked);
+    let at = telling::row_number(named.row);
     let row = journal[at];
-    let asked = row_number(probe);
+    let asked = telling::row_number(probe);
     let shown = journal[asked];
-    let writing = checker::write(file, &journal[..n], named.used, named.row, buffer);
-    tell(checked, row, shown, writing)
+    let writing = writer::write(file, &journal[..n], named.used, named.row, buffer);
+    telling::tell(checked, row, shown, writing)
 }

@@ -16,35 +16,35 @@ use prog.Routine.{Routine}
 use prog.Wp.{Heap, WpFn, Tables}
 use ghost.Atoms.{Atoms}
 use contract.Monad.{Fun}
-use contract.Running.{givenOf, tables, tablesOf}
+use contract.Running.{tablesOf}
 use types.Kit.{Given, Item, ‵, raw, given, _⊛_, ⋆, mean, _$_, _∵_, !, qed, by, move, keep, drop, split, join, learn, use1, use2, fsplit, fjoin, feqL, check, suffices, frame, done}
 use types.Part.{whole, sub, look-in, agg, rep}
-use types.Run.{look, init, stop, hop, fld, from, load, lit, addr, of-opd, and-then, no-more, land, returns, enter, alloc1, alloc0, params1, pass1, pass0, free0}
+use types.Run.{init, stop, hop, fld, from, lit, addr, of-opd, and-then, no-more, land}
 use sound.WpLaws.{fmOf}
 use denote.Array.{Array}
 use denote.Builtin.{u8, u32, u64, usize}
 use denote.Enum.Laws as EL
-use denote.Exit.{yes}
 use denote.Laws.{Is}
-use denote.Plain.{uint-vals, uint-tells, uint-makes, uint-lawful}
+use denote.Plain.{uint-makes, uint-lawful}
 use denote.RattleType.{owns}
 use denote.Ref.{RefT, MutRef, now}
-use denote.Signature.{plain, shrSliceOf}
-use denote.Slice.{sliceVal, MutSlice, ShrSlice, Room, finally, slice-vals, mut-slice-tells, shr-slice-tells}
+use denote.Signature.{plain}
+use denote.Slice.{sliceVal, MutSlice, ShrSlice, Room, finally, slice-vals}
 use denote.Steps.{owned, nothing}
 use denote.Struct.Laws as LL
+use denote.Triple.Bound.{Bound}
 use denote.Triple.Clauses.{lasts}
 use denote.Triple.Entry.{Args, Vals, alive, onEntry}
-use denote.Triple.Spec.{Meets, tripleOf}
-use denote.Triple.Statement.{Contract, Triple}
-use denote.Triple.Table.{entered, cited}
-use denote.Triple.Walked.{says, Stays, stay-dropped, gave-slice, walkOf, ends-at, goes-dropped, goes-gave-slice}
-use Rattle.lent.proofs.CallStep.{calls-lasting}
+use denote.Triple.Statement.{Contract}
+use denote.Triple.Walked.{says, walkOf, ends-at}
+use Rattle.lent.proofs.CallStep.{Called, calls-lasting}
 use Rattle.lent.proofs.CallPlain.{past-head, asks-plain, calls-plain}
-use Rattle.lent.proofs.Frees.{free-room, free-cell}
-use Rattle.lent.proofs.Locals.{its, sets}
+use Rattle.lent.proofs.Closing.{closing}
+use Rattle.lent.proofs.Functions.{Callee, callee, Function, Knows, Walk, walked}
+use Rattle.lent.proofs.Locals.{its, field-of, sets}
 use Rattle.lent.proofs.LocalArrays.{lifts, lays, uses, from-start, big-lit, array-made, array-gone, lends-whole, whole-back, lends-array, array-back, shares-array, array-unshared}
-use Rattle.lent.proofs.MetByWalk.{met-by-walk}
+use Rattle.lent.proofs.Opening.{Arguments, entering}
+use Rattle.lent.proofs.Parameters.{Param, shared, handed, number, dropped, stays, typed-all}
 use Rattle.plan_file.specs.declared.Refusal.{Refusal}
 use Rattle.plan_file.proofs.Refusal as F
 use Rattle.plan_file.proofs.Refusal.Laws as F′
@@ -55,55 +55,56 @@ use Rattle.deciding.proofs.State as S
 use Rattle.deciding.proofs.State.Laws as S′
 use Rattle.covers.specs.Covers.{tableCells}
 use Rattle.places.specs.Lists.{end}
-use Rattle.passes.specs.Meanings.{answerIn}
-use Rattle.passes.specs.Running.{Running, Ran}
+use Rattle.verdicts.specs.Meanings.{answerIn}
+use Rattle.verdicts.specs.Running.{Running, Ran}
 use Rattle.search.proofs.run as running
 use Rattle.search.proofs.run.Symbol as running-def
-use Rattle.search.proofs.run.Symbol.{name as #running}
 use Rattle.search.proofs.run.Met as running-thm
 use Rattle.checker.specs.declared.Checked.{Checked}
-use Rattle.checker.specs.declared.Start.{Start}
+use Rattle.starting.specs.declared.Start.{Start}
 use Rattle.checker.specs.Answers.{checkedBy}
 use Rattle.checker.specs.Contracts.{Checks}
-use Rattle.checker.specs.Starting.{Starts}
+use Rattle.starting.specs.Starting.{Starts}
 use Rattle.checker.proofs.Answered.{checks-by}
-use Rattle.checker.proofs.Started.{may-run}
-use Rattle.checker.proofs.Walks.{Entry, zeros, zeros-is, tok, entry-lawful, entry-makes, zeros-typed, typed}
+use Rattle.starting.proofs.Started.{may-run}
+use Rattle.requests.proofs.Walks.{Entry, zeros, zeros-is, tok, entry-lawful, entry-makes, zeros-typed, typed}
 use Rattle.checker.proofs.Checked as Ck
 use Rattle.checker.proofs.Checked.Laws as Ck′
-use Rattle.checker.proofs.Start as B
-use Rattle.checker.proofs.Start.Laws as B′
-use Rattle.checker.proofs.prepare as prepare
-use Rattle.checker.proofs.prepare.Symbol as prepare-def
-use Rattle.checker.proofs.prepare.Symbol.{name as #prepare}
-use Rattle.checker.proofs.prepare.Met as prepare-thm
+use Rattle.starting.proofs.Start as B
+use Rattle.starting.proofs.Start.Laws as B′
+use Rattle.starting.proofs.prepare as prepare
+use Rattle.starting.proofs.prepare.Symbol as prepare-def
+use Rattle.starting.proofs.prepare.Met as prepare-thm
 use Rattle.checker.proofs.as_checked as saying
 use Rattle.checker.proofs.as_checked.Symbol as saying-def
-use Rattle.checker.proofs.as_checked.Symbol.{name as #saying}
 use Rattle.checker.proofs.as_checked.Met as saying-thm
 use Rattle.checker.proofs.check.Key.{name as #check}
 use Rattle.checker.proofs.check as f
 use Rattle.checker.proofs.check.Statement as stated
 use Rattle.checker.proofs.check.Code as code
 
-abbrev stayed : Stays (f.ended .signature .params) (f.ended .kept)
-stayed = (stay-dropped _ _, (gave-slice (1 ∷ []) tt (plain (λ _. RowType)), (stay-dropped _ _, tt)))
+abbrev ps : List (Param 2)
+ps = dropped (shared 0 tt (plain (λ _. u8))) (λ κs x f. refl) ∷ handed 1 tt (plain (λ _. RowType)) ∷ dropped (number w64) (λ κs x f. refl) ∷ []
+
+abbrev callees : List Callee
+callees =
+    callee prepare.ended (λ M. prepare.clauses) prepare-def.name prepare-def.routine (λ M. prepare-thm.met) ∷ callee running.ended (λ M. running.clauses) running-def.name running-def.routine (λ M. running-thm.met)
+    ∷ callee saying.ended (λ M. saying.clauses) saying-def.name saying-def.routine (λ M. saying-thm.met) ∷ []
+
+abbrev it : Function
+it = record { lifetimes = 2; outlives = []; params = ps; result = f.signature .result; clauses = f.clauses; callees = callees; mir = code.function }
 
 abbrev checkedVal : Checked → Val
 checkedVal c = EL.val Ck.the-type Ck′.the-laws c
 
-module _ {M : Type 1} (𝓤 : URA M) (H : Heap 𝓤) (A : Atoms 𝓤) (mem : Memory → SProp 𝓤) (run : Routine → Fun 𝓤) where
-  abbrev Prepares : Contract 𝓤
-  Prepares = tripleOf 𝓤 H A prepare.signature (prepare.spec 𝓤 H A mem run)
-
-  abbrev Runs : Contract 𝓤
-  Runs = tripleOf 𝓤 H A running.signature (running.spec 𝓤 H A mem run)
-
-  abbrev Says : Contract 𝓤
-  Says = tripleOf 𝓤 H A saying.signature (saying.spec 𝓤 H A mem run)
-
 module _ {M : Type 1} (𝓤 : URA M) (H : Heap 𝓤) (A : Atoms 𝓤) (W : Given 𝓤 H A) (mem : Memory → SProp 𝓤) (run : Routine → Fun 𝓤) (κ κ′ : Lft) (q q′ : Share)
     (s : RefT (List ℕ)) (j : RefT (List Row)) (x : ℕ) (gs : Room u8 (length (now s))) (gj : Room RowType (length (now j))) (gx : x < 2 ^ 64) where
+  abbrev Prepares : Contract 𝓤
+  Prepares = Called 𝓤 H A prepare.ended (prepare.clauses 𝓤 H A mem run)
+
+  abbrev Runs : Contract 𝓤
+  Runs = Called 𝓤 H A running.ended (running.clauses 𝓤 H A mem run)
+
   abbrev a : Args f.signature (κ, (κ′, tt))
   a = (s, (j, (x, tt)))
 
@@ -111,7 +112,7 @@ module _ {M : Type 1} (𝓤 : URA M) (H : Heap 𝓤) (A : Atoms 𝓤) (W : Given
   at = (slice-vals s, (slice-vals j, (vint w64 x ∷ [], tt)))
 
   abbrev Post : Val → SProp 𝓤
-  Post = walkOf 𝓤 H A f.ended stayed (f.clauses 𝓤 H A mem run) .post (((κ, (κ′, tt)), (q, (q′, tt)), tt, a, at), tt)
+  Post = walkOf 𝓤 H A f.ended (stays ps) (f.clauses 𝓤 H A mem run) .post (((κ, (κ′, tt)), (q, (q′, tt)), tt, a, at), tt)
 
   -- ---- the values
   checked-typed : (c : Checked) → Is Ck.the-row c (checkedVal c ∷ []) → T (hasTy Ck′.mir (checkedVal c)) × WT (checkedVal c)
@@ -121,7 +122,7 @@ module _ {M : Type 1} (𝓤 : URA M) (H : Heap 𝓤) (A : Atoms 𝓤) (W : Given
       → ent 𝓤 (⋆ 𝓤 H A (‵ (flft κ q) ∷ ‵ (flft κ′ q′) ∷ ‵ ftrue ∷ ‵ (finally RowType (j .name) js) ∷ [])) (Post (checkedVal c))
   exits c js is l e =
       qed W (‵ (flft κ q) ∷ ‵ (flft κ′ q′) ∷ ‵ ftrue ∷ ‵ (finally RowType (j .name) js) ∷ []) ∵
-      suffices ! _ (ends-at 𝓤 H A f.ended stayed (f.clauses 𝓤 H A mem run) W (((κ, (κ′, tt)), (q, (q′, tt)), tt, a, at), tt) (checkedVal c) c (tt, (js, (tt, tt))) (tt, (l, (tt, tt)))) $ says ! e $
+      suffices ! _ (ends-at 𝓤 H A f.ended (stays ps) (f.clauses 𝓤 H A mem run) W (((κ, (κ′, tt)), (q, (q′, tt)), tt, a, at), tt) (checkedVal c) c (tt, (js, (tt, tt))) (tt, (l, (tt, tt)))) $ says ! e $
       move ! (1 ∷ 2 ∷ []) $ join ! $ move ! (1 ∷ 0 ∷ []) $ join ! $ frame ! $ nothing ! $ nothing ! $ fjoin ! $ move ! (1 ∷ 0 ∷ []) $ fjoin ! $ nothing ! $ fjoin ! $ frame ! $
       owned ! Ck.the-row (Is Ck.the-row) (EL.makes Ck.the-type Ck′.the-plain 𝓤 H A) c _ is $ done !
 
@@ -147,7 +148,7 @@ module _ {M : Type 1} (𝓤 : URA M) (H : Heap 𝓤) (A : Atoms 𝓤) (W : Given
     Table = ‵ (MutSlice (named 0) (ν₃ ∷ []) u32 .own table (sliceVal (b₃, 0) 45824 ∷ []))
 
     -- `prepare` is lent all three
-    abbrev to-prepare : Prepares 𝓤 H A mem run .Ghost
+    abbrev to-prepare : Prepares .Ghost
     to-prepare = (
       (
         (κ, (ν₁ ∷ [], (ν₂ ∷ [], (ν₃ ∷ [], tt)))),
@@ -162,7 +163,7 @@ module _ {M : Type 1} (𝓤 : URA M) (H : Heap 𝓤) (A : Atoms 𝓤) (W : Given
     abbrev For-prepare : List (Item 𝓤)
     For-prepare = ‵ (flft κ q) ∷ Bytes ∷ tok ν₃ ∷ Table ∷ tok ν₂ ∷ ‵ (MutRef (named 0) (ν₂ ∷ []) (Array Entry 256) .own rules (vptr b₂ 0 ∷ [])) ∷ tok ν₁ ∷ ‵ (MutRef (named 0) (ν₁ ∷ []) (Array u64 128) .own letters (vptr b₁ 0 ∷ [])) ∷ []
 
-    asks-prepare : ts ≡ replicate tableCells end → ent 𝓤 (⋆ 𝓤 H A For-prepare) (Prepares 𝓤 H A mem run .pre to-prepare)
+    asks-prepare : ts ≡ replicate tableCells end → ent 𝓤 (⋆ 𝓤 H A For-prepare) (Prepares .pre to-prepare)
     asks-prepare e =
         qed W For-prepare ∵ says ! e $ nothing ! $ move ! (3 ∷ 0 ∷ []) $ join ! $ move ! (4 ∷ 0 ∷ []) $ join ! $ move ! (5 ∷ 0 ∷ []) $ join ! $ move ! (1 ∷ 0 ∷ []) $ join ! $ frame ! $
         nothing ! $ owned ! u64 (Is u64) (uint-makes 𝓤 H A W w64) x _ (refl, gx) $ fjoin ! $ owned ! usize (Is usize) (uint-makes 𝓤 H A W w64) (length (now j)) _ (refl, gj .0) $ fjoin ! $
@@ -183,7 +184,7 @@ module _ {M : Type 1} (𝓤 : URA M) (H : Heap 𝓤) (A : Atoms 𝓤) (W : Given
 
     -- `run` is given the journal, lent the table, and shared the other two
     module _ (st : State) (st-is : Is S.the-row st (S′.lowered st ∷ [])) where
-      abbrev to-run : Runs 𝓤 H A mem run .Ghost
+      abbrev to-run : Runs .Ghost
       to-run = (
         (
           (κ′, (ν₃ ∷ [], (ν₁ ∷ [], (ν₂ ∷ [], tt)))),
@@ -198,7 +199,7 @@ module _ {M : Type 1} (𝓤 : URA M) (H : Heap 𝓤) (A : Atoms 𝓤) (W : Given
       abbrev For-run : List (Item 𝓤)
       For-run = ‵ (flft κ′ q′) ∷ Journal ∷ tok ν₂ ∷ ‵ (ShrSlice (named 0) (ν₂ ∷ []) Entry .own rules (sliceVal (b₂, 0) 256 ∷ [])) ∷ tok ν₁ ∷ ‵ (ShrSlice (named 0) (ν₁ ∷ []) u64 .own letters (sliceVal (b₁, 0) 128 ∷ [])) ∷ tok ν₃ ∷ Table ∷ []
 
-      asks-run : Running ls rs st (now j) st (now j) ts → ent 𝓤 (⋆ 𝓤 H A For-run) (Runs 𝓤 H A mem run .pre to-run)
+      asks-run : Running ls rs st (now j) st (now j) ts → ent 𝓤 (⋆ 𝓤 H A For-run) (Runs .pre to-run)
       asks-run h =
           qed W For-run ∵ says ! h $ nothing ! $ move ! (3 ∷ 0 ∷ []) $ join ! $ move ! (4 ∷ 0 ∷ []) $ join ! $ move ! (5 ∷ 0 ∷ []) $ join ! $ move ! (1 ∷ 0 ∷ []) $ join ! $ frame ! $
           nothing ! $ owned ! S.the-row (Is S.the-row) (LL.makes S.the-type S′.the-plain 𝓤 H A) st _ st-is $ fjoin ! $ move ! (2 ∷ 0 ∷ []) $ fjoin ! $ move ! (2 ∷ 0 ∷ []) $ fjoin ! $ move ! (2 ∷ 0 ∷ []) $ fjoin ! $ move ! (1 ∷ 0 ∷ []) $ fjoin ! $ done !
@@ -216,12 +217,12 @@ module _ {M : Type 1} (𝓤 : URA M) (H : Heap 𝓤) (A : Atoms 𝓤) (W : Given
 
   -- ---- the answer
   module _ (r : Refusal) (r-is : Is F.the-row r (F′.lowered r ∷ [])) (st : State) (st-is : Is S.the-row st (S′.lowered st ∷ [])) where
-    abbrev to-saying : Says 𝓤 H A mem run .Ghost
-    to-saying = ((tt, tt, tt, (r, (st, tt)), (F′.lowered r ∷ [], (S′.lowered st ∷ [], tt))), tt)
+    abbrev to-saying : Bound 𝓤 H A saying.signature
+    to-saying = (tt, tt, tt, (r, (st, tt)), (F′.lowered r ∷ [], (S′.lowered st ∷ [], tt)))
 
-    asks-saying : ent 𝓤 (emp 𝓤) (Says 𝓤 H A mem run .pre to-saying)
+    asks-saying : ent 𝓤 (emp 𝓤) (Called 𝓤 H A saying.ended (saying.clauses 𝓤 H A mem run) .pre (to-saying, tt))
     asks-saying =
-        asks-plain 𝓤 H A saying.ended (saying.clauses 𝓤 H A mem run) (to-saying .0) tt (id⊢ 𝓤 _) (id⊢ 𝓤 _) (LL.makes F.the-type F′.the-plain 𝓤 H A, (LL.makes S.the-type S′.the-plain 𝓤 H A, tt)) (r-is, (st-is, tt))
+        asks-plain 𝓤 H A saying.ended (saying.clauses 𝓤 H A mem run) to-saying tt (id⊢ 𝓤 _) (id⊢ 𝓤 _) (LL.makes F.the-type F′.the-plain 𝓤 H A, (LL.makes S.the-type S′.the-plain 𝓤 H A, tt)) (r-is, (st-is, tt))
 
   -- ---- the two parts of a start
   module _ (b : Start) (b-is : Is B.the-row b (B′.lowered b ∷ [])) where
@@ -231,29 +232,30 @@ module _ {M : Type 1} (𝓤 : URA M) (H : Heap 𝓤) (A : Atoms 𝓤) (W : Given
     state-is : Is S.the-row (b .state) (S′.lowered (b .state) ∷ [])
     state-is = LL.owed B.the-type B′.the-laws b _ b-is .1 .0
 
-  module _ (𝓣 : Tables 𝓤 H) (known-prepare : Triple 𝓤 (𝓣 .C #prepare) (Prepares 𝓤 H A mem run)) (known-run : Triple 𝓤 (𝓣 .C #running) (Runs 𝓤 H A mem run)) (known-saying : Triple 𝓤 (𝓣 .C #saying) (Says 𝓤 H A mem run)) where
-    walk : ent 𝓤 (onEntry 𝓤 H A f.signature (κ, (κ′, tt)) (q, (q′, tt)) a at) (WpFn 𝓤 H (𝓣 .C) (𝓣 .Λ) code.function (sliceVal (s .ptr) (length (now s)) ∷ sliceVal (j .ptr) (length (now j)) ∷ vint w64 x ∷ []) Post)
-    walk =
+  module _ (𝓣 : Tables 𝓤 H) (known : Knows 𝓤 H A mem run 𝓣 callees) (wt : Arguments (code.function .locals) (sliceVal (s .ptr) (length (now s)) ∷ sliceVal (j .ptr) (length (now j)) ∷ vint w64 x ∷ [])) where
+    from-entry : ent 𝓤 (onEntry 𝓤 H A f.signature (κ, (κ′, tt)) (q, (q′, tt)) a at) (WpFn 𝓤 H (𝓣 .C) (𝓣 .Λ) code.function (sliceVal (s .ptr) (length (now s)) ∷ sliceVal (j .ptr) (length (now j)) ∷ vint w64 x ∷ []) Post)
+    from-entry =
         let fm = fmOf 𝓤 H (W .laws) 𝓣 in
         qed W ((‵ (flft κ q) ⊛ ‵ (flft κ′ q′) ⊛ ‵ ftrue) ∷ ‵ (owns (ShrSlice (named 0) κ u8 ∷ MutSlice (named 1) κ′ RowType ∷ u64 ∷ []) a at) ∷ []) ∵
         split ! $ move ! (1 ∷ []) $ split ! $ move ! (3 ∷ []) $ fsplit ! $ move ! (1 ∷ []) $ fsplit ! $ keep ! (5 ∷ 3 ∷ 2 ∷ 0 ∷ []) $
-        enter ! (𝓣 .C) (𝓣 .Λ) code.function (sliceVal (s .ptr) (length (now s)) ∷ sliceVal (j .ptr) (length (now j)) ∷ vint w64 x ∷ []) _ $
-        alloc1 ! (λ l₀. alloc1 ! (λ l₁. alloc1 ! (λ l₂. alloc1 ! (λ l₃. alloc1 ! (λ l₄. alloc1 ! (λ l₅. alloc1 ! (λ l₆. alloc1 ! (λ l₇. alloc1 ! (λ l₈. alloc1 ! (λ l₉. alloc1 ! (λ l₁₀. alloc1 ! (λ l₁₁. alloc1 ! (λ l₁₂. alloc1 ! (λ l₁₃. alloc1 ! (λ l₁₄. alloc1 ! (λ l₁₅. alloc1 ! (λ l₁₆. alloc1 ! (λ l₁₇. alloc1 ! (λ l₁₈. alloc1 ! (λ l₁₉. alloc1 ! (λ l₂₀. alloc1 ! (λ l₂₁. alloc1 ! (λ l₂₂. alloc0 ! $ params1 ! $
-        pass1 ! (init ! 42 refl (tt, (tt, (record { fits = gs .0 }, tt)))) $ pass1 ! (init ! 40 refl (tt, (tt, (record { fits = gj .0 }, tt)))) $ pass1 ! (init ! 38 refl (tt, record { fits = gx })) $ pass0 ! $
+        entering ! (𝓣 .C) (𝓣 .Λ) code.function _ wt (λ bs.
+        let l₄ = bs .1 .1 .1 .1 .0 in
+        let l₅ = bs .1 .1 .1 .1 .1 .0 in
+        let l₆ = bs .1 .1 .1 .1 .1 .1 .0 in
         -- [the locals, from _22 down; the tokens of the file and of the journal; the file; the journal]
         array-made ! u64 tt (uint-lawful 𝓤 H A W w64) (uint-makes 𝓤 H A W w64) 0 (vint w64 0) (refl, lit< tt) 36 (lit ! tt) (from ! (stop !)) refl (λ ls e₁ n₁.
         sets ! (rep ! 4 (lit ! tt)) (init ! 24 refl (zeros-typed 𝓤 H A W)) $
         array-made ! Entry tt (entry-lawful 𝓤 H A W) (entry-makes 𝓤 H A W) (replicate 4 0) zeros zeros-is 34 (its ! 24 refl) (from ! (stop !)) refl (λ rs e₂ n₂.
         array-made ! u32 tt (uint-lawful 𝓤 H A W w32) (uint-makes 𝓤 H A W w32) 65536 (vint w32 65536) (refl, lit< tt) 32 (big-lit ! (lit< tt)) (from ! (stop !)) refl (λ ts e₃ n₃.
-        sets ! (of-opd ! (load ! (from ! (fld ! refl (stop !))) (look-in ! 40 (sub ! 1 refl (whole !))))) (init ! 30 refl (tt, record { fits = gj .0 })) $
+        sets ! (of-opd ! (field-of ! 40 refl refl refl)) (init ! 30 refl (tt, record { fits = gj .0 })) $
         sets ! (addr ! (from ! (stop !))) (init ! 22 refl (tt, tt)) $
         sets ! (addr ! (from ! (stop !))) (init ! 20 refl (tt, tt)) $
         sets ! (addr ! (from ! (stop !))) (init ! 18 refl (tt, tt)) $
         sets ! (agg ! (and-then ! (its ! 18 refl) (and-then ! (big-lit ! (lit< tt)) (no-more !)))) (init ! 16 refl (tt, (tt, (record { fits = lit< tt }, tt)))) $
         -- where it starts
         lends-whole ! tt u64 128 ls n₁ l₄ 36 refl (λ ν₁ δ₁. lends-whole ! tt Entry 256 rs n₂ l₅ 36 refl (λ ν₂ δ₂. lends-array ! tt u32 ts 45824 n₃ (lit< tt, lit< tt) l₆ 36 refl (λ ν₃ δ₃.
-        lifts ! 54 refl $ lifts ! 53 refl $ uses ! (For-prepare l₄ l₅ l₆ ls rs ts ν₁ δ₁ ν₂ δ₂ ν₃ δ₃) (raw (Prepares 𝓤 H A mem run .pre (to-prepare l₄ l₅ l₆ ls rs ts ν₁ δ₁ ν₂ δ₂ ν₃ δ₃))) (asks-prepare l₄ l₅ l₆ ls rs ts ν₁ δ₁ ν₂ δ₂ ν₃ δ₃ e₃) $
-        calls-lasting prepare.ended (prepare.clauses 𝓤 H A mem run) (to-prepare l₄ l₅ l₆ ls rs ts ν₁ δ₁ ν₂ δ₂ ν₃ δ₃ .0) tt (λ b ws. Starts (now s) (length (now j)) x (ws .1 .0) (ws .1 .1 .0) (ws .1 .1 .1 .0) b) (λ b ws. id⊢ 𝓤 _) B′.lowered (B′.lowers .val-is) ! fm known-prepare
+        lifts ! 54 refl $ lifts ! 53 refl $ uses ! (For-prepare l₄ l₅ l₆ ls rs ts ν₁ δ₁ ν₂ δ₂ ν₃ δ₃) (raw (Prepares .pre (to-prepare l₄ l₅ l₆ ls rs ts ν₁ δ₁ ν₂ δ₂ ν₃ δ₃))) (asks-prepare l₄ l₅ l₆ ls rs ts ν₁ δ₁ ν₂ δ₂ ν₃ δ₃ e₃) $
+        calls-lasting prepare.ended (prepare.clauses 𝓤 H A mem run) (to-prepare l₄ l₅ l₆ ls rs ts ν₁ δ₁ ν₂ δ₂ ν₃ δ₃ .0) tt (λ b ws. Starts (now s) (length (now j)) x (ws .1 .0) (ws .1 .1 .0) (ws .1 .1 .1 .0) b) (λ b ws. id⊢ 𝓤 _) B′.lowered (B′.lowers .val-is) ! fm (known .0)
         (past-head ! (and-then ! (its ! 42 refl) (and-then ! (its ! 22 refl) (and-then ! (its ! 20 refl) (and-then ! (its ! 16 refl) (and-then ! (its ! 30 refl) (and-then ! (its ! 38 refl) (no-more !)))))))) (λ b ws h b-is.
         let xs = ws .1 .0 in
         let ys = ws .1 .1 .0 in
@@ -262,7 +264,7 @@ module _ {M : Type 1} (𝓤 : URA M) (H : Heap 𝓤) (A : Atoms 𝓤) (W : Given
         split ! $ split ! $ whole-back ! tt u64 tt ν₁ δ₁ 128 xs l₄ 37 refl (λ m₁. split ! $ split ! $ whole-back ! tt Entry tt ν₂ δ₂ 256 ys l₅ 35 refl (λ m₂. split ! $ array-back ! tt u32 ν₃ δ₃ 45824 zs l₆ 32 refl (λ m₃.
         land ! (from ! (stop !)) (init ! 28 refl (typed 𝓤 H A W B.the-type B′.the-laws b b-is .0)) $
         sets ! (addr ! (from ! (fld ! refl (hop ! (look-in ! 40 (sub ! 0 refl (whole !))) (stop !))))) (init ! 14 refl (tt, tt)) $
-        sets ! (agg ! (and-then ! (its ! 14 refl) (and-then ! (load ! (from ! (fld ! refl (stop !))) (look-in ! 40 (sub ! 1 refl (whole !)))) (no-more !)))) (init ! 12 refl (tt, (tt, (record { fits = gj .0 }, tt)))) $
+        sets ! (agg ! (and-then ! (its ! 14 refl) (and-then ! (field-of ! 40 refl refl refl) (no-more !)))) (init ! 12 refl (tt, (tt, (record { fits = gj .0 }, tt)))) $
         sets ! (addr ! (from ! (stop !))) (init ! 10 refl (tt, tt)) $
         sets ! (agg ! (and-then ! (its ! 10 refl) (and-then ! (big-lit ! (lit< tt)) (no-more !)))) (init ! 8 refl (tt, (tt, (record { fits = lit< tt }, tt)))) $
         sets ! (addr ! (from ! (stop !))) (init ! 6 refl (tt, tt)) $
@@ -271,37 +273,26 @@ module _ {M : Type 1} (𝓤 : URA M) (H : Heap 𝓤) (A : Atoms 𝓤) (W : Given
         sets ! (agg ! (and-then ! (its ! 2 refl) (and-then ! (lit ! tt) (no-more !)))) (init ! 0 refl (tt, (tt, (record { fits = lit< tt }, tt)))) $
         -- the search
         lends-array ! tt u32 zs 45824 m₃ (lit< tt, lit< tt) l₆ 32 refl (λ μ₃ ε₃. shares-array ! tt u64 xs 128 m₁ (lit< tt, lit< tt) l₄ 38 refl (λ μ₁ ε₁. shares-array ! tt Entry ys 256 m₂ (lit< tt, lit< tt) l₅ 38 refl (λ μ₂ ε₂.
-        lifts ! 55 refl $ lifts ! 54 refl $ uses ! (For-run l₄ l₅ l₆ xs ys zs μ₁ ε₁ μ₂ ε₂ μ₃ ε₃ (b .state) (state-is b b-is)) (raw (Runs 𝓤 H A mem run .pre (to-run l₄ l₅ l₆ xs ys zs μ₁ ε₁ μ₂ ε₂ μ₃ ε₃ (b .state) (state-is b b-is))))
+        lifts ! 55 refl $ lifts ! 54 refl $ uses ! (For-run l₄ l₅ l₆ xs ys zs μ₁ ε₁ μ₂ ε₂ μ₃ ε₃ (b .state) (state-is b b-is)) (raw (Runs .pre (to-run l₄ l₅ l₆ xs ys zs μ₁ ε₁ μ₂ ε₂ μ₃ ε₃ (b .state) (state-is b b-is))))
         (asks-run l₄ l₅ l₆ xs ys zs μ₁ ε₁ μ₂ ε₂ μ₃ ε₃ (b .state) (state-is b b-is) (may-run (now s) (length (now j)) x xs ys zs b h (now j) refl)) $
-        calls-lasting running.ended (running.clauses 𝓤 H A mem run) (to-run l₄ l₅ l₆ xs ys zs μ₁ ε₁ μ₂ ε₂ μ₃ ε₃ (b .state) (state-is b b-is) .0) tt (λ r us. Ran xs ys (b .state) (now j) (us .0) (us .1 .0) r) (λ r us. id⊢ 𝓤 _) S′.lowered (S′.lowers .val-is) ! fm known-run
-        (past-head ! (and-then ! (its ! 12 refl) (and-then ! (its ! 8 refl) (and-then ! (its ! 4 refl) (and-then ! (its ! 0 refl) (and-then ! (load ! (from ! (fld ! refl (stop !))) (look-in ! 28 (sub ! 1 refl (whole !)))) (no-more !))))))) (λ st us o st-is.
+        calls-lasting running.ended (running.clauses 𝓤 H A mem run) (to-run l₄ l₅ l₆ xs ys zs μ₁ ε₁ μ₂ ε₂ μ₃ ε₃ (b .state) (state-is b b-is) .0) tt (λ r us. Ran xs ys (b .state) (now j) (us .0) (us .1 .0) r) (λ r us. id⊢ 𝓤 _) S′.lowered (S′.lowers .val-is) ! fm (known .1 .0)
+        (past-head ! (and-then ! (its ! 12 refl) (and-then ! (its ! 8 refl) (and-then ! (its ! 4 refl) (and-then ! (its ! 0 refl) (and-then ! (field-of ! 28 refl refl refl) (no-more !))))))) (λ st us o st-is.
         drop ! $ use2 W (From-run l₄ l₅ l₆ xs ys zs μ₁ ε₁ μ₂ ε₂ μ₃ ε₃ (b .state) (state-is b b-is) (us .0) (us .1 .0)) (from-run l₄ l₅ l₆ xs ys zs μ₁ ε₁ μ₂ ε₂ μ₃ ε₃ (b .state) (state-is b b-is) (us .0) (us .1 .0)) $ learn ! (λ nj.
         split ! $ split ! $ lays ! 49 $ lays ! 50 $
         split ! $ split ! $ array-back ! tt u32 μ₃ ε₃ 45824 (us .1 .0) l₆ 33 refl (λ k₃. split ! $ array-unshared ! tt u64 μ₁ xs l₄ 37 refl $ array-unshared ! tt Entry μ₂ ys l₅ 34 refl $
         land ! (from ! (stop !)) (init ! 26 refl (typed 𝓤 H A W S.the-type S′.the-laws st st-is .0)) $
         -- the answer
-        calls-plain saying.ended (saying.clauses 𝓤 H A mem run) (to-saying (b .refusal) (refusal-is b b-is) st st-is .0) tt (asks-saying (b .refusal) (refusal-is b b-is) st st-is) (λ c. c ≡ checkedBy (b .refusal .number) (b .refusal) (answerIn st)) (λ c vs. id⊢ 𝓤 _)
-        checkedVal (EL.tells Ck.the-type Ck′.the-laws) ! fm known-saying (and-then ! (load ! (from ! (fld ! refl (stop !))) (look-in ! 28 (sub ! 0 refl (whole !)))) (and-then ! (its ! 26 refl) (no-more !))) (λ c ec c-is.
+        calls-plain saying.ended (saying.clauses 𝓤 H A mem run) (to-saying (b .refusal) (refusal-is b b-is) st st-is) tt (asks-saying (b .refusal) (refusal-is b b-is) st st-is) (λ c. c ≡ checkedBy (b .refusal .number) (b .refusal) (answerIn st)) (λ c vs. id⊢ 𝓤 _)
+        checkedVal (EL.tells Ck.the-type Ck′.the-laws) ! fm (known .1 .1 .0) (and-then ! (field-of ! 28 refl refl refl) (and-then ! (its ! 26 refl) (no-more !))) (λ c ec c-is.
         land ! (from ! (stop !)) (init ! 44 refl (checked-typed c c-is)) $
         array-gone ! u64 128 xs l₄ 36 m₁ refl $ array-gone ! Entry 256 ys l₅ 34 m₂ refl $ array-gone ! u32 45824 (us .1 .0) l₆ 32 k₃ refl $
-        returns ! (look ! 44 refl) $ free-cell ! 44 refl refl $ free-cell ! 42 refl refl $ free-cell ! 40 refl refl $ free-cell ! 38 refl refl $ free-room ! 36 refl refl $ free-room ! 34 refl refl $ free-room ! 32 refl refl $ free-cell ! 30 refl refl $ free-cell ! 28 refl refl $ free-cell ! 26 refl refl $ free-cell ! 24 refl refl $ free-cell ! 22 refl refl $ free-cell ! 20 refl refl $ free-cell ! 18 refl refl $ free-cell ! 16 refl refl $ free-cell ! 14 refl refl $ free-cell ! 12 refl refl $ free-cell ! 10 refl refl $ free-cell ! 8 refl refl $ free-cell ! 6 refl refl $ free-cell ! 4 refl refl $ free-cell ! 2 refl refl $ free-cell ! 0 refl refl $ free0 ! $
-        by ! (exits c (us .0) c-is nj (checks-by (now s) x (now j) xs ys zs (us .1 .0) b h (us .0) st o c ec))))))))))))))))))))))))))))))))))))))))))
+        move ! (46 ∷ 47 ∷ 48 ∷ 49 ∷ []) $ closing ! 4 refl refl $
+        by ! (exits c (us .0) c-is nj (checks-by (now s) x (now j) xs ys zs (us .1 .0) b h (us .0) st o c ec))))))))))))))))))))
 
-meets : {M : Type 1} (𝓤 : URA M) (H : Heap 𝓤) (A : Atoms 𝓤) (W : Given 𝓤 H A) (mem : Memory → SProp 𝓤) (run : Routine → Fun 𝓤) (𝓣 : Tables 𝓤 H)
-    → Triple 𝓤 (𝓣 .C #prepare) (Prepares 𝓤 H A mem run) → Triple 𝓤 (𝓣 .C #running) (Runs 𝓤 H A mem run) → Triple 𝓤 (𝓣 .C #saying) (Says 𝓤 H A mem run) → Meets 𝓤 H A f.signature (WpFn 𝓤 H (𝓣 .C) (𝓣 .Λ) code.function) (f.spec 𝓤 H A mem run)
-meets 𝓤 H A W mem run 𝓣 k₁ k₂ k₃ =
-    met-by-walk 𝓤 H A W f.ended stayed (goes-dropped 𝓤 H A W 2 (shrSliceOf (0 ∷ []) tt (plain (λ _. u8))) yes (λ κs y g. refl), (goes-gave-slice 𝓤 H A W 2 1 tt (plain (λ _. RowType)), (goes-dropped 𝓤 H A W 2 (plain (λ _. u64)) yes (λ κs y g. refl), tt)))
-    (f.clauses 𝓤 H A mem run) 𝓣 code.function (λ κs. (slice-vals, (slice-vals, (uint-vals w64, tt)))) (λ κs. (shr-slice-tells (named 0) (κs .0) u8, (mut-slice-tells (named 1) (κs .1 .0) RowType, (uint-tells w64, tt))))
-    (λ κs qs bounds a g are. walk 𝓤 H A W mem run (κs .0) (κs .1 .0) (qs .0) (qs .1 .0) (a .0) (a .1 .0) (a .1 .1 .0) (are .0 .0 .1) (are .1 .0 .0 .1) (are .1 .1 .0 .1) 𝓣 k₁ k₂ k₃)
+walk : Walk it
+walk M 𝓤 H A W mem run 𝓣 known κs qs bounds a g are =
+    from-entry 𝓤 H A W mem run (κs .0) (κs .1 .0) (qs .0) (qs .1 .0) (a .0) (a .1 .0) (a .1 .1 .0) (are .0 .0 .1) (are .1 .0 .0 .1) (are .1 .1 .0 .1) 𝓣 known (typed-all ps 𝓤 H A W κs a are)
 
 pub check-spec : {M : Type 1} → stated.statement M
 unfolding code.routine tablesOf
-check-spec 𝓤 H 𝓜 𝓖 𝓡 =
-    let A = 𝓖 .A in
-    let m = 𝓜 .mem in
-    let u = 𝓡 .run in
-    entered 𝓤 H (tripleOf 𝓤 H A f.signature (f.spec 𝓤 H A m u)) (tables 𝓤 H 𝓜 𝓡 code.env .C) (tables 𝓤 H 𝓜 𝓡 code.env .Λ) #check code.function (code.unfolded 𝓤 H 𝓜 𝓡)
-    (meets 𝓤 H A (givenOf 𝓤 H 𝓜 𝓖) m u (tablesOf 𝓤 H 𝓜 (tables 𝓤 H 𝓜 𝓡 code.env))
-    (cited 𝓤 H (Prepares 𝓤 H A m u) 𝓜 𝓡 code.env #prepare prepare-def.routine code.calls-checker·prepare (prepare-thm.met 𝓤 H 𝓜 𝓖 𝓡))
-    (cited 𝓤 H (Runs 𝓤 H A m u) 𝓜 𝓡 code.env #running running-def.routine code.calls-search·run (running-thm.met 𝓤 H 𝓜 𝓖 𝓡))
-    (cited 𝓤 H (Says 𝓤 H A m u) 𝓜 𝓡 code.env #saying saying-def.routine code.calls-checker·as-checked (saying-thm.met 𝓤 H 𝓜 𝓖 𝓡)))
+check-spec 𝓤 H 𝓜 𝓖 𝓡 = walked it 𝓤 H 𝓜 𝓖 𝓡 code.env #check (code.unfolded 𝓤 H 𝓜 𝓡) (code.calls-starting·prepare, (code.calls-search·run, (code.calls-checker·as-checked, tt))) walk

@@ -6,7 +6,7 @@ use Rattle.deciding.proofs.look_in_slot.Statement.{statement}
 use Rattle.deciding.proofs.look_in_slot.Tie as tie
 
 returns : tie.Need-returns
-returns c = λ rows d. look-hinted d _ 1 _ _ (omega arith) (c .if1 .taken) (omega arith) (omega (arith, c .before .before .before .slot .ensures))
+returns c = λ rows d. look-hinted d _ _ _ (c .if1 .taken) (omega arith) (omega (arith, c .before .before .before .slot .ensures))
 
 returns-2 : tie.Need-returns-2
 returns-2 c =

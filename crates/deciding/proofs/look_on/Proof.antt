@@ -1,4 +1,4 @@
--- `deciding::look_on` meets its contract: a linked row, a row that covers, or the next stage. Assumes nothing.
+-- `deciding::look_on` meets its contract: a linked row, a row that covers, or the linked rows. Assumes nothing.
 use mathlib.Core.Path.{sym, _∙_}
 use native.Mathlib.Omega.{arith}
 use borrow.Author.Needs.{needs}
@@ -16,13 +16,7 @@ returns-3 : tie.Need-returns-3
 returns-3 c =
     λ rows d i w p.
     let h = c .look-along .ensures rows d (i .slot .0) (i .slot .1) in
-    (h .0, omega (arith, h .1, look-many d i w, c .before .if3 .taken))
-
-returns-4 : tie.Need-returns-4
-returns-4 c =
-    λ rows d i w p.
-    let h = c .look-in-slot .ensures rows d in
-    (h .0, omega (arith, h .1, look-many d i w, i .stage, c .before .if3 .left, c .before .before .before .before .if1 .left))
+    (h .0, omega (arith, h .1, look-many d i w (c .before .before .before .if1 .left)))
 
 pub look-on-spec : {M : Type 1} → statement M
-look-on-spec = tie.close (tie.spec (λ c κs. search needs) returns (λ c κs. search needs) (λ c κs. search needs) returns-2 (λ c κs. search needs) returns-3 (λ c κs. search needs) returns-4)
+look-on-spec = tie.close (tie.spec (λ c κs. search needs) returns (λ c κs. search needs) (λ c κs. search needs) returns-2 (λ c κs. search needs) returns-3)

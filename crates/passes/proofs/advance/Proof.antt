@@ -8,12 +8,12 @@ use denote.Enum.Declared.{tagOf}
 use types.Run.{OneOf}
 use borrow.Author.Needs.{needs}
 use Rattle.rows.specs.Meanings.{candidateOf}
-use Rattle.passes.specs.Advancing.{Stops, Right, decided-right, stopped-running, going-running, decided-used}
-use Rattle.passes.specs.Meanings.{countsIn}
-use Rattle.passes.specs.declared.Outcome.the-variants.{Going, Spent, Full, Broken}
-use Rattle.passes.specs.declared.Outcome.{Outcome}
+use Rattle.verdicts.specs.Advancing.{Stops, Right, decided-right, stopped-running, going-running, decided-used}
+use Rattle.verdicts.specs.Meanings.{countsIn}
+use Rattle.verdicts.specs.declared.Outcome.the-variants.{Going, Spent, Full, Broken}
+use Rattle.verdicts.specs.declared.Outcome.{Outcome}
 use Rattle.places.specs.Lists.{rowCells}
-use Rattle.passes.proofs.Outcome.{the-type}
+use Rattle.verdicts.proofs.Outcome.{the-type}
 use Rattle.passes.proofs.advance.Statement.{statement}
 use Rattle.passes.proofs.advance.Tie as tie
 
@@ -35,7 +35,7 @@ go-on-requires : tie.Need-go-on-requires
 go-on-requires c κs =
     let s = c .before .before .before .before .before .before .before .before .before .before in
     let o = c .before .before .before .before .decide in
-    let u = decided-used (s .args .state) (candidateOf (s .args .candidate)) (s .args .look .at) (s .pre .room) (s .pre .limit) in
+    let u = decided-used (s .args .state) (candidateOf (s .args .candidate)) (s .args .look .covers) (s .pre .room) (s .pre .limit) in
     record {
       opens = record {
         table = c .before .before .before .before .before .before .before .note .ensures .size ∙ s .pre .note .table;

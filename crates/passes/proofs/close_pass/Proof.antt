@@ -4,12 +4,12 @@ use Prim.Native.Nat.{_+_}
 use lib.ListN.{length, take}
 use lib.Seq.{length-take-le}
 use borrow.Author.Needs.{needs}
-use Rattle.passes.specs.Contracts.{Answers}
-use Rattle.passes.specs.Running.{Onward}
-use Rattle.passes.specs.States.{ended}
-use Rattle.passes.specs.Walks.{passIn}
-use Rattle.passes.specs.declared.Outcome.the-variants.{Going}
-use Rattle.passes.specs.RunningLaws.{close-last, close-again}
+use Rattle.verdicts.specs.Contracts.{Answers}
+use Rattle.verdicts.specs.Running.{Onward}
+use Rattle.verdicts.specs.States.{ended}
+use Rattle.verdicts.specs.Walks.{passIn}
+use Rattle.verdicts.specs.declared.Outcome.the-variants.{Going}
+use Rattle.verdicts.specs.RunningLaws.{close-last, close-again}
 use Rattle.deciding.specs.declared.Terms.{Terms}
 use Rattle.passes.proofs.close_pass.Statement.{statement}
 use Rattle.passes.proofs.close_pass.Tie as tie

@@ -6,7 +6,7 @@ use lib.ListN.{length, drop, take}
 use lib.Seq.{length-take-le}
 use borrow.Author.Needs.{needs}
 use Rattle.places.specs.Places.{Opens}
-use Rattle.passes.specs.NoteLaws.{lent-lists}
+use Rattle.verdicts.specs.NoteLaws.{lent-lists}
 use Rattle.passes.proofs.first_in.Statement.{statement}
 use Rattle.passes.proofs.first_in.Tie as tie
 

@@ -4,9 +4,9 @@ use native.Mathlib.Omega.{arith}
 use lib.ListN.{length, take}
 use lib.Seq.{length-take-le}
 use borrow.Author.Needs.{needs}
-use Rattle.passes.specs.Running.{Onward}
-use Rattle.passes.specs.States.{ended, standing}
-use Rattle.passes.specs.RunningLaws.{open-there, open-none}
+use Rattle.verdicts.specs.Running.{Onward}
+use Rattle.verdicts.specs.States.{ended, standing}
+use Rattle.verdicts.specs.RunningLaws.{open-there, open-none}
 use Rattle.deciding.specs.declared.Terms.{Terms}
 use Rattle.passes.proofs.open_pass.Statement.{statement}
 use Rattle.passes.proofs.open_pass.Tie as tie

@@ -36,20 +36,18 @@ unfolding code.write-row-routine code.write-symbol-routine tablesOf
     let W = givenOf 𝓤 H 𝓜 𝓖 in
     let ts = tables 𝓤 H 𝓜 𝓡 code.env in
     let 𝓣 : Tables 𝓤 H = tablesOf 𝓤 H 𝓜 ts in
-    let r = row.row-argument 𝓤 H A W in
-    let s = symbol.part-argument 𝓤 H A in
     let of-row : ℕ → ℕ = λ i. i + i + 1 in
-    let μr = measure 𝓤 H A W usize olderRow r of-row in
-    let μs = measure 𝓤 H A W P.the-row (λ x. x) s rank in
+    let μr = measure 𝓤 H A W usize olderRow row.row-argument of-row in
+    let μs = measure 𝓤 H A W P.the-row (λ x. x) symbol.part-argument rank in
     mutual-elim 𝓤 H A (cycle.functions 𝓤 H A (𝓜 .mem) (𝓡 .run)) _<_ (Nat·lt-wfRel .wf) (
       measured 𝓤 H A (record { signature = write-row.signature; run = 𝓡 .run code.write-row-routine; spec = write-row.spec 𝓤 H A (𝓜 .mem) (𝓡 .run) }) μr,
       measured 𝓤 H A (record { signature = write-symbol.signature; run = 𝓡 .run code.write-symbol-routine; spec = write-symbol.spec 𝓤 H A (𝓜 .mem) (𝓡 .run) }) μs,
     )
     (λ t below. at-on 𝓤 H A write-row.signature (write-row.spec 𝓤 H A (𝓜 .mem) (𝓡 .run)) (WpFn 𝓤 H (𝓣 .C) (𝓣 .Λ) code.write-row-function) (ts .C #write-row) (code.write-row-unfolded 𝓤 H 𝓜 𝓡) μr t
-    (at-measure 𝓤 H A W usize olderRow r 𝓣 code.write-row-function of-row t (λ κj κr κ qj qr q j u i b o γ ys gj gr gi gb e ready.
+    (at-measure 𝓤 H A W usize olderRow row.row-argument 𝓣 code.write-row-function of-row t (λ κj κr κ qj qr q j u i b o γ ys are typed e ready.
     row.walk 𝓤 H A W (𝓜 .mem) (𝓡 .run) 𝓣 (cited 𝓤 H (HandsOver 𝓤 H A W (𝓜 .mem) (𝓡 .run)) 𝓜 𝓡 code.env #row-parts parts-def.routine code.calls-witness·row-parts (parts-thm.met 𝓤 H 𝓜 𝓖 𝓡))
-    κj κr κ qj qr q j u i b o γ ys gj gr (gi .1) gb ready (λ y l. below .1 (μs y) (subst (λ (n : ℕ). μs y < n) e l) y refl))))
+    κj κr κ qj qr q j u i b o γ ys typed (are .0 .0 .1) (are .1 .1 .0 .1) (are .1 .1 .1 .0 .0 .1) ready (λ y l. below .1 (μs y) (subst (λ (n : ℕ). μs y < n) e l) y refl))))
     (λ t below. at-on 𝓤 H A write-symbol.signature (write-symbol.spec 𝓤 H A (𝓜 .mem) (𝓡 .run)) (WpFn 𝓤 H (𝓣 .C) (𝓣 .Λ) code.write-symbol-function) (ts .C #write-symbol) (code.write-symbol-unfolded 𝓤 H 𝓜 𝓡) μs t
-    (at-measure 𝓤 H A W P.the-row (λ x. x) s 𝓣 code.write-symbol-function rank t (λ κj κr κ qj qr q j u x b o γ ys gj gr gx gb e ready.
+    (at-measure 𝓤 H A W P.the-row (λ x. x) symbol.part-argument 𝓣 code.write-symbol-function rank t (λ κj κr κ qj qr q j u x b o γ ys are typed e ready.
     symbol.walk 𝓤 H A W (𝓜 .mem) (𝓡 .run) 𝓣 (cited 𝓤 H (Terminal 𝓤 H A W (𝓜 .mem) (𝓡 .run)) 𝓜 𝓡 code.env #write-terminal terminal-def.routine code.calls-witness·write-terminal (terminal-thm.met 𝓤 H 𝓜 𝓖 𝓡))
-    κj κr κ qj qr q j u x b o γ ys gj gr gx gb ready (λ y l. below .0 (μr y) (subst (λ (n : ℕ). μr y < n) e l) y refl))))
+    κj κr κ qj qr q j u x b o γ ys typed (are .1 .1 .0) (are .1 .1 .1 .0 .0 .1) ready (λ y l. below .0 (μr y) (subst (λ (n : ℕ). μr y < n) e l) y refl))))

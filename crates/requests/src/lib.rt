@@ -1,0 +1,30 @@
+// What the two calls on a file share: what refuses each of them, the file's rules in their table, and steps of their proofs by hand.
+use plan_file::Refusal;
+ghost use mathlib.Core.Path.{_≡_};
+ghost use Rattle.calls.specs.Checking.{journalFault};
+ghost use Rattle.plan_file.specs.Answers.{refusalOf};
+ghost use Rattle.requests.specs.Refusing.{refusalFor};
+
+// 8: the journal has no row or too many.
+fn journal_fault(rows: usize) -> u64
+    ensures { λ r. ⌜ r ≡ journalFault rows ⌝ }
+{
+    if (rows == 0) | (4096 < rows) {
+        return 8;
+    }
+    0
+}
+
+// The file's refusal, then 8; number 0 where there is none.
+pub fn refusal_for(file: &[u8], rows: usize) -> Refusal
+    ensures { λ r. ⌜ refusalOf r ≡ refusalFor (now (file .entry)) rows ⌝ }
+{
+    let of_file = walk::file_refusal(file);
+    if of_file.number != 0 {
+        return of_file;
+    }
+    Refusal {
+        number: journal_fault(rows),
+        place: 0,
+    }
+}

@@ -1,0 +1,74 @@
+// Where a check starts: what refuses it, and else the file's tables and the first pass.
+use deciding::Counts;
+use deciding::State;
+use deciding::Terms;
+use plan_file::Refusal;
+use rows::Place;
+ghost use mathlib.Core.Path.{_≡_};
+ghost use lib.ListN.{replicate};
+ghost use Rattle.places.specs.Lists.{end};
+ghost use Rattle.covers.specs.Covers.{tableCells};
+ghost use Rattle.starting.specs.Starting.{waiting, Starts};
+
+// Where the check starts: the refusal, with number 0 where there is none, and the first pass, which does not begin where something refuses.
+pub struct Start {
+    pub refusal: Refusal,
+    pub state: State,
+}
+
+// Before the first pass, on so many rules.
+fn wait(rows: usize, rules: usize, budget: u64, finals: u8) -> State
+    ensures { λ r. ⌜ r ≡ waiting rows rules budget finals ⌝ }
+{
+    State {
+        going: false,
+        left: 0,
+        right: 0,
+        terms: Terms {
+            budget,
+            finals,
+            pass: 1,
+            start: 0,
+        },
+        counts: Counts { used: 0, joins: 0 },
+        place: Place {
+            rule: 0,
+            left: 0,
+            right: 0,
+        },
+        rows,
+        rules,
+        verdict: 0,
+        broken: 0,
+    }
+}
+
+// Fills in the tables and begins the first pass, where nothing refuses.
+pub fn prepare(
+    file: &[u8],
+    letters: &mut [u64; 128],
+    rules: &mut [[u8; 4]; 256],
+    table: &mut [u32],
+    rows: usize,
+    budget: u64,
+) -> Start
+    requires { ⌜ now table ≡ replicate tableCells end ⌝ }
+    ensures { λ r. ⌜ Starts (now (file .entry)) rows budget (now (letters .exit)) (now (rules .exit)) (now (table .exit)) r ⌝ }
+{
+    let fault = requests::refusal_for(file, rows);
+    if fault.number != 0 {
+        return Start {
+            refusal: fault,
+            state: wait(rows, 0, budget, 0),
+        };
+    }
+    tables::letter_relations(file, letters);
+    let finals = tables::final_states(file);
+    let n = tables::rule_table(file, rules);
+    let before = wait(rows, n, budget, finals);
+    let state = passes::open_pass(&rules[..], table, before, before.terms, before.counts);
+    Start {
+        refusal: fault,
+        state,
+    }
+}

@@ -1,0 +1,45 @@
+-- The part of the library's array that is lent as the journal, and the rows of it that are looked at afterwards. Definitions only.
+-- Assumes nothing.
+use mathlib.Core.Bool.{cond}
+use mathlib.Core.List.{List}
+use Prim.Native.Nat.{ℕ}
+use lib.Dec.{leb, ltb}
+use lib.ListN.{take, drop, replicate}
+use Rattle.calls.specs.Checking.{journalLimit}
+use Rattle.calls.specs.declared.Row.{Row}
+use Rattle.verdicts.specs.declared.Answer.{Answer}
+use Rattle.verdicts.specs.declared.Answer.the-variants as answer
+use Rattle.checker.specs.declared.Checked.{Checked}
+use Rattle.checker.specs.declared.Checked.the-variants as checked
+use Rattle.telling.specs.declared.Named.{Named}
+
+-- so many rows, or none where a journal may not have them
+abbrev pub frontOf : ℕ → ℕ
+frontOf n = cond (leb n journalLimit) n 0
+
+-- the journal, and the rows of the array after it
+unfoldable pub journalOf : ℕ → Row → List Row
+journalOf n old = take (frontOf n) (replicate journalLimit old)
+
+unfoldable pub restOf : ℕ → Row → List Row
+restOf n old = drop (frontOf n) (replicate journalLimit old)
+
+-- ---- the rows that are looked at
+
+-- row i, or row 0 where a journal may not have it
+abbrev pub placeOf : ℕ → ℕ
+placeOf i = cond (ltb i journalLimit) i 0
+
+-- the row of which the run is written; one that is not used, where none is broken
+abbrev pub unnamed : Named
+unnamed = record { used = 0; row = 0 }
+
+abbrev pub nameOf : Answer → Named
+nameOf (answer.Holds n) = unnamed
+nameOf (answer.Broken i n) = record { used = n .used; row = i }
+nameOf (answer.Full n) = unnamed
+nameOf (answer.Spent n) = unnamed
+
+abbrev pub nameIn : Checked → Named
+nameIn (checked.Refused r) = unnamed
+nameIn (checked.Answered a) = nameOf a

@@ -1,0 +1,44 @@
+-- What is told, case by case, as the code has it; and the eight numbers of it. Definitions only. Assumes nothing.
+use mathlib.Core.List.{List, [], _∷_}
+use Prim.Native.Nat.{ℕ}
+use Rattle.relation.specs.Relation.{states, pairs}
+use Rattle.relation.specs.Representation.{value}
+use Rattle.working_order.specs.Journal.{absent}
+use Rattle.calls.specs.Replies.{Reply}
+use Rattle.calls.specs.declared.Row.{Row}
+use Rattle.verdicts.specs.declared.Answer.{Answer}
+use Rattle.verdicts.specs.declared.Answer.the-variants as answer
+use Rattle.verdicts.specs.declared.Totals.{Totals}
+use Rattle.checker.specs.declared.Checked.{Checked}
+use Rattle.checker.specs.declared.Checked.the-variants as checked
+use Rattle.telling.specs.Codes.{holdsCode, brokenCode, fullCode, spentCode, codeBy}
+use Rattle.telling.specs.declared.Told.{Told}
+
+-- what refuses to write the run, or 0
+abbrev pub refusedBy : Reply ℕ → ℕ
+refusedBy w = codeBy (λ n. 0) w
+
+-- with the row y that was asked for
+abbrev pub unbrokenBy : ℕ → Totals → Row → Told
+unbrokenBy c n y =
+    record { code = c; place = 0; joins = n .joins; used = n .used; pass = n .pass; row = absent; pairs = 0; length = 0; refused = 0; shown = y }
+
+-- row i, which is x, and what refused to write its run, f
+abbrev pub brokenBy : ℕ → Totals → Row → Row → ℕ → Told
+brokenBy i n x y f =
+    record { code = brokenCode; place = 0; joins = n .joins; used = n .used; pass = n .pass; row = i; pairs = pairs states (value (x .relation)); length = x .len; refused = f; shown = y }
+
+abbrev pub toldOf : Answer → Row → Row → ℕ → Told
+toldOf (answer.Holds n) x y f = unbrokenBy holdsCode n y
+toldOf (answer.Broken i n) x y f = brokenBy i n x y f
+toldOf (answer.Full n) x y f = unbrokenBy fullCode n y
+toldOf (answer.Spent n) x y f = unbrokenBy spentCode n y
+
+abbrev pub toldBy : Checked → Row → Row → ℕ → Told
+toldBy (checked.Refused r) x y f =
+    record { code = r .number; place = r .place; joins = 0; used = 0; pass = 0; row = 0; pairs = 0; length = 0; refused = 0; shown = y }
+toldBy (checked.Answered a) x y f = toldOf a x y f
+
+-- place, joins, used rows, pass, row, pairs, length, refused
+abbrev pub numbersIn : Told → List ℕ
+numbersIn t = t .place ∷ t .joins ∷ t .used ∷ t .pass ∷ t .row ∷ t .pairs ∷ t .length ∷ t .refused ∷ []

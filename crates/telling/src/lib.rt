@@ -1,0 +1,193 @@
+// What a host is told of a check, and what is decided around it: how many rows are lent, which of them are looked at afterwards.
+use calls::Row;
+use checker::Checked;
+use relation::Relation;
+use verdicts::Answer;
+use verdicts::Totals;
+use writer::Writing;
+ghost use mathlib.Core.Path.{_≡_};
+ghost use Prim.Native.Nat.{_≤_, _<_};
+ghost use Rattle.calls.specs.Rows.{blank};
+ghost use Rattle.writer.specs.Answers.{writingOf};
+ghost use Rattle.telling.specs.Fronts.{frontOf, placeOf, nameOf, nameIn};
+ghost use Rattle.telling.specs.Telling.{refusedBy, unbrokenBy, brokenBy, toldOf, toldBy};
+
+pub const HOLDS: u64 = 100;
+
+pub const BROKEN: u64 = 101;
+
+pub const FULL: u64 = 102;
+
+pub const SPENT: u64 = 103;
+
+// A row number that names no row.
+const ABSENT: u64 = 65535;
+
+// Rows of a journal at most.
+pub const ROWS: usize = 4096;
+
+// What a host is told: the number that refuses, or the verdict's; the refused record's number; joins, used rows and pass; and of a broken
+// answer the row, its pairs, its length, and what refuses to write its run, or 0. And the row that was asked for, as it stands then.
+pub struct Told {
+    pub code: u64,
+    pub place: u64,
+    pub joins: u64,
+    pub used: u64,
+    pub pass: u64,
+    pub row: u64,
+    pub pairs: u64,
+    pub length: u64,
+    pub refused: u64,
+    pub shown: Row,
+}
+
+// The row of which the run is to be written, and the used rows.
+pub struct Named {
+    pub used: usize,
+    pub row: usize,
+}
+
+// ---- before the check
+
+// A row of zeros.
+pub fn blank_row() -> Row
+    ensures { λ r. ⌜ r ≡ blank ⌝ }
+{
+    Row {
+        head: 0,
+        rule: 0,
+        relation: Relation { bits: 0 },
+        left: 0,
+        right: 0,
+        len: 0,
+        birth: 0,
+        retired: 0,
+    }
+}
+
+// So many rows, or none where a journal may not have them: number 8 refuses both no rows and too many.
+pub fn front(rows: usize) -> usize
+    ensures { λ r. ⌜ (r ≡ frontOf rows) × (r ≤ 4096) ⌝ }
+{
+    if rows <= ROWS {
+        return rows;
+    }
+    0
+}
+
+// ---- after the check
+
+// The row, if a journal may have it, or else row 0.
+pub fn row_number(i: usize) -> usize
+    ensures { λ r. ⌜ (r ≡ placeOf i) × (r < 4096) ⌝ }
+{
+    if i < ROWS {
+        return i;
+    }
+    0
+}
+
+// The row of a broken answer. Where nothing is broken, a row that is not below the used ones: its run is not written.
+fn named_by(answer: Answer) -> Named
+    ensures { λ r. ⌜ r ≡ nameOf answer ⌝ }
+{
+    match answer {
+        Answer::Holds(_) => Named { used: 0, row: 0 },
+        Answer::Full(_) => Named { used: 0, row: 0 },
+        Answer::Spent(_) => Named { used: 0, row: 0 },
+        Answer::Broken(row, totals) => Named {
+            used: totals.used,
+            row,
+        },
+    }
+}
+
+pub fn named_in(checked: Checked) -> Named
+    ensures { λ r. ⌜ r ≡ nameIn checked ⌝ }
+{
+    match checked {
+        Checked::Refused(_) => Named { used: 0, row: 0 },
+        Checked::Answered(answer) => named_by(answer),
+    }
+}
+
+// ---- telling
+
+// What refused to write the run, or 0.
+fn refused_by(writing: Writing) -> u64
+    ensures { λ r. ⌜ r ≡ refusedBy (writingOf writing) ⌝ }
+{
+    match writing {
+        Writing::Refused(refusal) => refusal.number,
+        Writing::Length(_) => 0,
+    }
+}
+
+// An answer that is not broken.
+fn tell_unbroken(code: u64, totals: Totals, shown: Row) -> Told
+    ensures { λ r. ⌜ r ≡ unbrokenBy code totals shown ⌝ }
+{
+    Told {
+        code,
+        place: 0,
+        joins: totals.joins,
+        used: totals.used as u64,
+        pass: totals.pass,
+        row: ABSENT,
+        pairs: 0,
+        length: 0,
+        refused: 0,
+        shown,
+    }
+}
+
+// A broken answer with its row.
+fn tell_broken(i: usize, totals: Totals, row: Row, shown: Row, writing: Writing) -> Told
+    ensures { λ r. ⌜ r ≡ brokenBy i totals row shown (refusedBy (writingOf writing)) ⌝ }
+{
+    let relation = row.relation;
+    Told {
+        code: BROKEN,
+        place: 0,
+        joins: totals.joins,
+        used: totals.used as u64,
+        pass: totals.pass,
+        row: i as u64,
+        pairs: relation.pairs() as u64,
+        length: row.len,
+        refused: refused_by(writing),
+        shown,
+    }
+}
+
+fn tell_answer(answer: Answer, row: Row, shown: Row, writing: Writing) -> Told
+    ensures { λ r. ⌜ r ≡ toldOf answer row shown (refusedBy (writingOf writing)) ⌝ }
+{
+    match answer {
+        Answer::Holds(totals) => tell_unbroken(HOLDS, totals, shown),
+        Answer::Full(totals) => tell_unbroken(FULL, totals, shown),
+        Answer::Spent(totals) => tell_unbroken(SPENT, totals, shown),
+        Answer::Broken(i, totals) => tell_broken(i, totals, row, shown, writing),
+    }
+}
+
+// With the row that is named, and the one that is asked for.
+pub fn tell(checked: Checked, row: Row, shown: Row, writing: Writing) -> Told
+    ensures { λ r. ⌜ r ≡ toldBy checked row shown (refusedBy (writingOf writing)) ⌝ }
+{
+    match checked {
+        Checked::Refused(refusal) => Told {
+            code: refusal.number,
+            place: refusal.place as u64,
+            joins: 0,
+            used: 0,
+            pass: 0,
+            row: 0,
+            pairs: 0,
+            length: 0,
+            refused: 0,
+            shown,
+        },
+        Checked::Answered(answer) => tell_answer(answer, row, shown, writing),
+    }
+}

@@ -1,0 +1,283 @@
+-- A candidate more: what became of it is what the working order makes of it, and the search stands on. Assumes nothing.
+use mathlib.Core.Path.{_≡_, refl, sym, ap, ap₂, _∙_, subst}
+use mathlib.Core.Bool.{Bool, true, false, true≢false, not, cond}
+use mathlib.Core.List.{List, []}
+use mathlib.Core.Logic.{_⊎_, inl, inr}
+use Prim.Native.Nat.{ℕ, suc, _+_, _-_, _≤_, _<_}
+use native.Mathlib.Omega.{arith}
+use lib.Arith.{lt-of-le-ne}
+use lib.Dec.{T, eqb}
+use lib.ListN.{length, getD, take, length-take}
+use lib.Seq.{getD-take, length-take-le}
+use borrow.Author.Tests.{eqb-true, eqb-false}
+use Rattle.relation.specs.Relation.{contained}
+use Rattle.language.specs.Grammar.{Rule}
+use Rattle.working_order.specs.Order.{dropped}
+use Rattle.calls.specs.Rows.{rowOf, blank, entryOf}
+use Rattle.rows.specs.Base as order
+use Rattle.rows.specs.Forming.{formedBy}
+use Rattle.rows.specs.Meanings.{candidateOf}
+use Rattle.rows.specs.declared.Candidate.{Candidate}
+use Rattle.places.specs.Lists.{rowCells, rowIn, Listed}
+use Rattle.places.specs.Places as places
+use Rattle.covers.specs.Covers.{tableCells, listsIn, Covering}
+use Rattle.covers.specs.Rows.{Journal, firstRows}
+use Rattle.covers.specs.RowLaws.{rows-length}
+use Rattle.retiring.specs.Clearing.{Outcome as Ending}
+use Rattle.deciding.specs.FormLaws.{among-row, position-row}
+use Rattle.deciding.specs.Forming.{positionRow, amongFirst}
+use Rattle.deciding.specs.LookLaws.{look-finds}
+use Rattle.deciding.specs.Looking.{Finds}
+use Rattle.deciding.specs.declared.Counts.{Counts}
+use Rattle.deciding.specs.declared.Look.{Look}
+use Rattle.deciding.specs.declared.State.{State}
+use Rattle.deciding.specs.declared.Terms.{Terms}
+use Rattle.verdicts.specs.Contracts.{Answers, Checked}
+use Rattle.verdicts.specs.Deciding.{answers-dropped, answers-full, answers-new}
+use Rattle.verdicts.specs.Meanings.{progressOf, countsIn, bornBy, fullBy, decidedBy, decidedIn, totalsOf, answerIn}
+use Rattle.verdicts.specs.Running.{target, Goes, Stands, Running, Considered, MayAdvance, Notes, GoesOn, GoesOnOver, Onward, candidatesLeft}
+use Rattle.verdicts.specs.RunLaws.{counted, started, stands-on, goes-on, sized, used-fits, limit}
+use Rattle.verdicts.specs.RunningLaws.{stops}
+use Rattle.verdicts.specs.States.{stoppedIn}
+use Rattle.verdicts.specs.Passing.{InPass, pass-stopped, pass-going}
+use Rattle.verdicts.specs.Remaining.{Ends}
+use Rattle.verdicts.specs.Walks.{considerIn, passIn}
+use Rattle.verdicts.specs.declared.Answer.the-variants as answer
+use Rattle.verdicts.specs.declared.Outcome.the-variants as outcome
+use Rattle.verdicts.specs.declared.Outcome.{Outcome}
+
+-- an outcome after which nothing is considered
+abbrev pub Stops : Outcome → Type 0
+Stops (outcome.Going w) = ⊥
+Stops (outcome.Spent w) = Unit {0}
+Stops (outcome.Full w) = Unit {0}
+Stops (outcome.Broken i w) = Unit {0}
+
+module _ {letters : List ℕ} {rules : List (List ℕ)} {start : State} {j₀ : Journal} {s : State} {c : Candidate} {l : Look} {j : Journal} {t : List ℕ} (x : Considered letters rules start j₀ s c l j t) where
+  abbrev u : ℕ
+  u = s .counts .used
+
+  go : Goes letters (counted (x .running) (x .going)) (start .terms .finals) (start .terms .budget) j₀ s (x .before) (x .table)
+  go = goes-on (x .running) (x .going)
+
+  room : u ≤ length (x .before)
+  room = used-fits (x .running) (x .going)
+
+  budget-is : s .terms .budget ≡ start .terms .budget
+  budget-is = ap (λ (b : _). b .budget) (go .begun .terms)
+
+  unspent : s .counts .joins < s .terms .budget
+  unspent = omega (arith, go .unspent, budget-is)
+
+  finds : Finds (candidateOf c) (firstRows u (x .before)) u (x .table) l
+  finds = look-finds (x .found .0) (x .found .1)
+
+  cells : length t ≡ tableCells
+  cells = by (x .settled .outcome)
+    where
+      by : Ending (s .terms .pass) (candidateOf c) u l (x .before) (x .table) j t → length t ≡ tableCells
+      by (inl z) = ap length (z .2) ∙ go .in-pass .covering .size
+      by (inr z) = z .1 .covering .size
+
+  pub may-advance : MayAdvance rules s c l t
+  may-advance =
+      record {
+        note = record { used = omega (arith, room, limit (x .running) (x .going)); table = cells; above = x .found .0 .slot .0; below = x .found .0 .slot .1; row = finds .row };
+        decide = record { used = omega (arith, room, limit (x .running) (x .going)); joins = unspent };
+        count = omega (arith, stands-on (x .running) (x .going) .count, length-take (start .rules) rules);
+        pass = omega (arith, ap (λ (b : _). b .pass) (go .begun .terms), go .begun .at-pass .count, go .begun .at-pass .room, sized (x .running) (x .going) .limit);
+        room = omega (arith, room, stands-on (x .running) (x .going) .rows, stands-on (x .running) (x .going) .size);
+        limit = omega (arith, stands-on (x .running) (x .going) .rows, sized (x .running) (x .going) .limit);
+      }
+
+  -- ---- what became of the candidate
+
+  rows-are : s .rows ≡ length (x .before)
+  rows-are = stands-on (x .running) (x .going) .rows ∙ sym (stands-on (x .running) (x .going) .size)
+
+  abbrev became : Outcome
+  became = decidedIn s (candidateOf c) (l .covers)
+
+  -- it is what the working order makes of it, and the table leads along the rows
+  abbrev pub Right : Outcome → Type 0
+  Right o = Answers (s .terms .budget) (considerIn (s .terms) (length (x .before)) (candidateOf c) (progressOf (s .counts) (x .before))) (s .counts) (x .before) j o
+      × Covering (firstRows (countsIn o .used) j) t
+
+  not-spent : s .counts .joins ≡ s .terms .budget → ⊥
+  not-spent e = omega (arith, e, unspent)
+
+  pub decided-right : Right became
+  decided-right = by (l .covers) refl (x .settled .outcome)
+    where
+      hb : s .counts .joins ≤ s .terms .budget
+      hb = omega (arith, unspent)
+
+      -- nothing changed
+      kept : (o : Outcome) → j ≡ x .before → t ≡ x .table → countsIn o .used ≡ u → Answers (s .terms .budget) (considerIn (s .terms) (length (x .before)) (candidateOf c) (progressOf (s .counts) (x .before))) (s .counts) (x .before) (x .before) o → Right o
+      kept o e f n a = (
+        subst (λ (i : Journal). Answers (s .terms .budget) (considerIn (s .terms) (length (x .before)) (candidateOf c) (progressOf (s .counts) (x .before))) (s .counts) (x .before) i o) (sym e) a,
+        rw (e, f, n) (go .in-pass .covering),
+      )
+
+      none : (v : Bool) → l .covers ≡ v → dropped contained (candidateOf c) (firstRows u (x .before)) ≡ v
+      none v e = sym (finds .found) ∙ e
+
+      by-room : (b : Bool) → eqb u (s .rows) ≡ b → l .covers ≡ false → Ending (s .terms .pass) (candidateOf c) u l (x .before) (x .table) j t → Right (fullBy b (order.breaking (s .terms .finals) (candidateOf c)) u (s .counts .joins + 1))
+      by-room true e f (inl z) = kept _ (z .1) (z .2) refl (answers-full (s .terms) (candidateOf c) (s .counts) (x .before) room hb not-spent (none false f) (eqb-true u (s .rows) e ∙ rows-are))
+      by-room true e f (inr z) = absurd (omega (arith, z .0 .room, eqb-true u (s .rows) e, rows-are))
+      by-room false e f (inl z) = absurd (idle (z .0))
+        where
+          idle : (l .covers ≡ true) ⊎ (u ≡ length (x .before)) → ⊥
+          idle (inl h) = true≢false (sym h ∙ f)
+          idle (inr h) = eqb-false u (s .rows) e (h ∙ sym rows-are)
+      by-room false e f (inr z) = (
+        answers-new (s .terms) (candidateOf c) (s .counts) (x .before) room hb not-spent (none false f) (λ h. omega (arith, h, z .0 .room)) j (z .1 .stored) (order.breaking (s .terms .finals) (candidateOf c)) refl,
+        new (order.breaking (s .terms .finals) (candidateOf c)),
+      )
+        where
+          new : (b : Bool) → Covering (firstRows (countsIn (bornBy b u (record { used = u + 1; joins = s .counts .joins + 1 })) .used) j) t
+          new true = z .1 .covering
+          new false = z .1 .covering
+
+      by : (b : Bool) → l .covers ≡ b → Ending (s .terms .pass) (candidateOf c) u l (x .before) (x .table) j t → Right (decidedBy b (eqb u (s .rows)) (order.breaking (s .terms .finals) (candidateOf c)) u (s .counts .joins + 1))
+      by true e (inl z) = kept _ (z .1) (z .2) refl (answers-dropped (s .terms) (candidateOf c) (s .counts) (x .before) room hb not-spent (none true e))
+      by true e (inr z) = absurd (true≢false (sym e ∙ z .0 .none))
+      by false e z = by-room (eqb u (s .rows)) refl e z
+
+  -- ---- the candidate is that of the place
+
+  start-is : s .terms .start ≡ go .first .used
+  start-is = ap (λ (b : _). b .start) (go .begun .terms)
+
+  start-room : s .terms .start ≤ length (x .before)
+  start-room = omega (arith, start-is, go .in-pass .left .grows, room)
+
+  row-there : (p i : ℕ) → i ≡ positionRow p (s .terms .start) → rowOf (amongFirst (getD (x .before) i blank) p (s .terms .start)) ≡ rowIn (firstRows (s .terms .start) (x .before)) p
+  row-there p i e =
+      among-row (x .before) (s .terms .start) p (getD (x .before) i blank) start-room
+      (λ h. ap (λ (n : ℕ). getD (x .before) n blank) (e ∙ position-row p (s .terms .start) h))
+
+  rule-there : places.ruleAt rules (s .place .rule) ≡ places.ruleAt (counted (x .running) (x .going)) (s .place .rule)
+  rule-there = ap entryOf (sym (getD-take (start .rules) rules (s .place .rule) [] (omega (arith, go .here, length-take (start .rules) rules))))
+
+  formed-there : candidateOf c ≡ formedBy letters (places.ruleAt (counted (x .running) (x .going)) (s .place .rule)) (s .place) (rowIn (firstRows (s .terms .start) (x .before)) (s .place .left)) (rowIn (firstRows (s .terms .start) (x .before)) (s .place .right))
+  formed-there =
+      x .formed
+      ∙ ap (λ (r : Rule). formedBy letters r (s .place) (rowOf (amongFirst (getD (x .before) (s .left) blank) (s .place .left) (s .terms .start))) (rowOf (amongFirst (getD (x .before) (s .right) blank) (s .place .right) (s .terms .start)))) rule-there
+      ∙ ap₂ (formedBy letters (places.ruleAt (counted (x .running) (x .going)) (s .place .rule)) (s .place)) (row-there (s .place .left) (s .left) (go .left)) (row-there (s .place .right) (s .right) (go .right))
+
+  -- ---- it stops the search
+
+  stopped-right : (o : Outcome) → Ends o → Right o → Answers (start .terms .budget) (passIn (record { budget = start .terms .budget; finals = start .terms .finals; pass = go .begun .pass; start = go .first .used }) letters (counted (x .running) (x .going)) (go .first) (go .journal)) (go .first) (go .journal) j o
+  stopped-right o e a =
+      subst (λ (b : Terms). Answers (b .budget) (passIn b letters (counted (x .running) (x .going)) (go .first) (go .journal)) (go .first) (go .journal) j o) (go .begun .terms)
+      (pass-stopped (s .terms) letters (listsIn (x .table)) (counted (x .running) (x .going)) (go .first) (go .journal) (go .listed) (go .in-pass) start-is (go .here) formed-there (x .settled .size) (a .0) e)
+
+  pass-is : s .terms .pass ≡ go .begun .pass
+  pass-is = ap (λ (b : Terms). b .pass) (go .begun .terms)
+
+  size-first : length j ≡ length (go .journal)
+  size-first = x .settled .size ∙ go .in-pass .left .same
+
+  pub stopped-checked : (o : Outcome) → Stops o → Right o → Checked (target letters (counted (x .running) (x .going)) (start .terms .finals) (start .terms .budget) j₀) j₀ j (answerIn (stoppedIn s o))
+  stopped-checked (outcome.Going w) z a = absurd z
+  stopped-checked (outcome.Spent w) z a =
+      subst (λ (k : ℕ). Checked (target letters (counted (x .running) (x .going)) (start .terms .finals) (start .terms .budget) j₀) j₀ j (answer.Spent (totalsOf w k))) (sym pass-is)
+      (stops letters (counted (x .running) (x .going)) (start .terms .finals) (start .terms .budget) j₀ s (stands-on (x .running) (x .going) .rows) (stands-on (x .running) (x .going) .count) (go .begun .at-pass) size-first (outcome.Spent w) (stopped-right (outcome.Spent w) (λ i K. refl) a) refl)
+  stopped-checked (outcome.Full w) z a =
+      subst (λ (k : ℕ). Checked (target letters (counted (x .running) (x .going)) (start .terms .finals) (start .terms .budget) j₀) j₀ j (answer.Full (totalsOf w k))) (sym pass-is)
+      (stops letters (counted (x .running) (x .going)) (start .terms .finals) (start .terms .budget) j₀ s (stands-on (x .running) (x .going) .rows) (stands-on (x .running) (x .going) .count) (go .begun .at-pass) size-first (outcome.Full w) (stopped-right (outcome.Full w) (λ i K. refl) a) refl)
+  stopped-checked (outcome.Broken i w) z a =
+      subst (λ (k : ℕ). Checked (target letters (counted (x .running) (x .going)) (start .terms .finals) (start .terms .budget) j₀) j₀ j (answer.Broken i (totalsOf w k))) (sym pass-is)
+      (stops letters (counted (x .running) (x .going)) (start .terms .finals) (start .terms .budget) j₀ s (stands-on (x .running) (x .going) .rows) (stands-on (x .running) (x .going) .count) (go .begun .at-pass) size-first (outcome.Broken i w) (stopped-right (outcome.Broken i w) (λ m K. refl) a) refl)
+
+  -- ---- the search stands on
+
+  resumes : {r : State} {t′ : List ℕ} → Stands letters (counted (x .running) (x .going)) (start .terms .finals) (start .terms .budget) j₀ r j t′ → Running letters rules start j₀ r j t′
+  resumes st = record { idle = λ z. absurd (both (start .going) (started (x .running) (x .going)) z); sized = x .running .sized; whole = x .running .whole; stands = λ _. st }
+    where
+      both : (b : Bool) → T b → T (not b) → ⊥
+      both true y n = n
+      both false y n = y
+
+  left-is : (b : Bool) → T b → (n : ℕ) → cond b (suc n) 0 ≡ suc n
+  left-is true y n = refl
+  left-is false y n = absurd y
+
+  pub stopped-running : (o : Outcome) → Stops o → Right o → (t′ : List ℕ) → Running letters rules start j₀ (stoppedIn s o) j t′ × (candidatesLeft (stoppedIn s o) < candidatesLeft s)
+  stopped-running o z a t′ = (
+    resumes (record { size = x .settled .size ∙ stands-on (x .running) (x .going) .size; rows = rows-of o; count = count-of o; goes = λ y. absurd (ended-so o y); ends = λ _. stopped-checked o z a }),
+    subst (λ (n : ℕ). candidatesLeft (stoppedIn s o) < n) (sym (left-is (s .going) (x .going) (s .terms .budget - s .counts .joins))) (none-left o),
+  )
+    where
+      rows-of : (o : Outcome) → stoppedIn s o .rows ≡ length j₀
+      rows-of (outcome.Going w) = stands-on (x .running) (x .going) .rows
+      rows-of (outcome.Spent w) = stands-on (x .running) (x .going) .rows
+      rows-of (outcome.Full w) = stands-on (x .running) (x .going) .rows
+      rows-of (outcome.Broken i w) = stands-on (x .running) (x .going) .rows
+
+      count-of : (o : Outcome) → stoppedIn s o .rules ≡ length (counted (x .running) (x .going))
+      count-of (outcome.Going w) = stands-on (x .running) (x .going) .count
+      count-of (outcome.Spent w) = stands-on (x .running) (x .going) .count
+      count-of (outcome.Full w) = stands-on (x .running) (x .going) .count
+      count-of (outcome.Broken i w) = stands-on (x .running) (x .going) .count
+
+      ended-so : (o : Outcome) → T (stoppedIn s o .going) → ⊥
+      ended-so (outcome.Going w) y = y
+      ended-so (outcome.Spent w) y = y
+      ended-so (outcome.Full w) y = y
+      ended-so (outcome.Broken i w) y = y
+
+      none-left : (o : Outcome) → candidatesLeft (stoppedIn s o) < suc (s .terms .budget - s .counts .joins)
+      none-left (outcome.Going w) = omega arith
+      none-left (outcome.Spent w) = omega arith
+      none-left (outcome.Full w) = omega arith
+      none-left (outcome.Broken i w) = omega arith
+
+  -- ---- and goes on
+
+  joins-more : countsIn became .joins ≡ s .counts .joins + 1
+  joins-more = by (l .covers) (eqb u (s .rows)) (order.breaking (s .terms .finals) (candidateOf c))
+    where
+      by : (d f b : Bool) → countsIn (decidedBy d f b u (s .counts .joins + 1)) .joins ≡ s .counts .joins + 1
+      by true f b = refl
+      by false true b = refl
+      by false false true = refl
+      by false false false = refl
+
+  rules-same : s .rules ≡ start .rules
+  rules-same = stands-on (x .running) (x .going) .count ∙ length-take-le (start .rules) rules (x .running .whole (started (x .running) (x .going)))
+
+  pub going-running : (tn : List ℕ) → Notes t tn → {w : Counts} → outcome.Going w ≡ became → {t′ : List ℕ} {r : State} → GoesOn rules tn s w t′ r → Running letters rules start j₀ r j t′ × (candidatesLeft r < candidatesLeft s)
+  going-running tn nt {w} e {t′} {r} g =
+      let rs = counted (x .running) (x .going) in
+      let a = decided-right in
+      let lists : listsIn tn ≡ listsIn (x .table) = nt .lists ∙ x .settled .lists in
+      let n : countsIn became .used ≤ rowCells = omega (arith, a .0 .room, limit (x .running) (x .going)) in
+      let cov : Covering (firstRows (countsIn became .used) j) tn = nt .covering (firstRows (countsIn became .used) j) (omega (arith, n, rows-length (countsIn became .used) j (omega (arith, a .0 .room, x .settled .size)))) (a .1) in
+      let on : Onward letters rs (start .terms .finals) (start .terms .budget) j₀ w r j t′ =
+      subst (λ (k : ℕ). GoesOnOver (take k rules) tn s w t′ r) rules-same g letters (start .terms .finals) (start .terms .budget) j₀ (go .first) (go .journal) j (sized (x .running) (x .going)) (stands-on (x .running) (x .going) .rows) (go .here) (go .begun)
+      (subst (λ (q : List ℕ). Listed (firstRows (go .first .used) (go .journal)) q) (sym lists) (go .listed))
+      (λ q f.
+      subst (λ (z : List ℕ). InPass (s .terms) letters z rs (go .first) (go .journal) tn w j q) (sym lists)
+      (pass-going (s .terms) letters (listsIn (x .table)) rs (go .first) (go .journal) (go .listed) (go .in-pass) start-is (go .here) formed-there (x .settled .size) (a .0) (sym e) cov (subst (λ (z : List ℕ). places.Follows z rs (s .place) q) lists f)))
+      in
+      let m : w .joins ≡ s .counts .joins + 1 = ap (λ (o : Outcome). countsIn o .joins) e ∙ joins-more in (
+        resumes (on .stands),
+        subst (λ (k : ℕ). candidatesLeft r < k) (sym (left-is (s .going) (x .going) (s .terms .budget - s .counts .joins)))
+            (less (r .going) (r .terms .budget) (r .counts .joins) (on .budget ∙ sym budget-is) (ap (λ (k : Counts). k .joins) (on .counts) ∙ m)),
+      )
+    where
+      less : (b : Bool) (B n : ℕ) → B ≡ s .terms .budget → n ≡ s .counts .joins + 1 → cond b (suc (B - n)) 0 < suc (s .terms .budget - s .counts .joins)
+      less true B n p q = omega (arith, p, q, unspent)
+      less false B n p q = omega arith
+
+-- a row more at most
+pub decided-used : (s : State) (c : order.Candidate) (k : Bool) → s .counts .used ≤ s .rows → s .rows ≤ rowCells → countsIn (decidedIn s c k) .used ≤ rowCells
+decided-used s c k h m = by k (eqb (s .counts .used) (s .rows)) refl (order.breaking (s .terms .finals) c)
+  where
+    by : (d f : Bool) → eqb (s .counts .used) (s .rows) ≡ f → (b : Bool) → countsIn (decidedBy d f b (s .counts .used) (s .counts .joins + 1)) .used ≤ rowCells
+    by true f e b = omega (arith, h, m)
+    by false true e b = omega (arith, h, m)
+    by false false e true = let n : s .counts .used < s .rows = lt-of-le-ne h (eqb-false (s .counts .used) (s .rows) e) in omega (arith, n, m)
+    by false false e false = let n : s .counts .used < s .rows = lt-of-le-ne h (eqb-false (s .counts .used) (s .rows) e) in omega (arith, n, m)

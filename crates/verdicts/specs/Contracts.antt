@@ -1,0 +1,43 @@
+-- What a candidate, a pass and the whole search ask and ensure, each in one record. Definitions only. Assumes nothing.
+use mathlib.Core.Path.{_≡_}
+use mathlib.Core.List.{List, map}
+use Prim.Native.Nat.{ℕ, _≤_, _<_}
+use lib.ListN.{length, drop}
+use Rattle.working_order.specs.Order.{check}
+use Rattle.calls.specs.Checking.{journalLimit}
+use Rattle.calls.specs.Rows.{entryOf}
+use Rattle.rows.specs.Base as order
+use Rattle.rows.specs.Meanings.{baseOf}
+use Rattle.covers.specs.Covers.{Covering}
+use Rattle.covers.specs.Rows.{Journal, firstRows}
+use Rattle.deciding.specs.declared.Counts.{Counts}
+use Rattle.deciding.specs.declared.Terms.{Terms}
+use Rattle.verdicts.specs.Meanings.{outcomeOf, countsIn, answerOf, totalsIn}
+use Rattle.verdicts.specs.declared.Answer.{Answer}
+use Rattle.verdicts.specs.declared.Outcome.{Outcome}
+
+-- where a candidate may be taken
+pub record Ready (t : Terms) (w : Counts) (j : Journal) (covers : List ℕ) : Type 0 where
+  pub room : w .used ≤ length j
+  pub limit : length j ≤ journalLimit
+  pub paid : w .joins ≤ t .budget
+  pub pass : 0 < t .pass
+  pub covering : Covering (firstRows (w .used) j) covers
+
+-- a part of a pass that began at w gave r: it is what the working order gives, and the rows beyond those used are as they were
+pub record Answers (B : ℕ) (given : order.Outcome) (w : Counts) (old new : Journal) (r : Outcome) : Type 0 where
+  pub answer : outcomeOf r new ≡ given
+  pub beyond : drop (countsIn r .used) new ≡ drop (countsIn r .used) old
+  pub grows : w .used ≤ countsIn r .used
+  pub room : countsIn r .used ≤ length old
+  pub paid : countsIn r .joins ≤ B
+
+-- the passes gave r
+pub record Checked (given : order.Answer) (old new : Journal) (r : Answer) : Type 0 where
+  pub answer : answerOf r new ≡ given
+  pub beyond : drop (totalsIn r .used) new ≡ drop (totalsIn r .used) old
+  pub room : totalsIn r .used ≤ length old
+
+-- the working order on the letters' relations, the rules and the mask of final states, with J rows and a budget of B joins
+unfoldable pub orderOf : List ℕ → List (List ℕ) → ℕ → ℕ → ℕ → order.Answer
+orderOf letters rules finals J B = check (baseOf letters finals) (map entryOf rules) J B

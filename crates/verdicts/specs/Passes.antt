@@ -1,0 +1,123 @@
+-- One turn of the check: what is left after a pass. Assumes nothing.
+use mathlib.Core.Path.{_≡_, refl, sym, ap, ap₂, _∙_, subst, subst₂}
+use mathlib.Core.List.{List, [], map}
+use Prim.Native.Nat.{ℕ, suc, _+_, _-_, _≤_, _<_}
+use native.Mathlib.Numerals.{add-one}
+use native.Mathlib.Omega.{arith}
+use lib.Arith.{lt-of-le-ne}
+use lib.ListN.{length, drop}
+use Rattle.basics.specs.Lists.{drop-later-same}
+use Rattle.working_order.specs.Candidates.{passCandidates}
+use Rattle.working_order.specs.Order.{close, onePass, passes, check}
+use Rattle.calls.specs.Rows.{entryOf}
+use Rattle.rows.specs.Base as order
+use Rattle.covers.specs.Rows.{Journal, firstRows}
+use Rattle.rows.specs.Meanings.{formsOf, baseOf}
+use Rattle.verdicts.specs.Meanings.{progressOf, countsIn, totalsIn}
+use Rattle.verdicts.specs.Walks.{walkIn, passIn}
+use Rattle.verdicts.specs.Contracts.{Answers, Checked, orderOf}
+use Rattle.covers.specs.Covers.{Covering}
+use Rattle.covers.specs.RowLaws.{rows-length}
+use Rattle.verdicts.specs.Closing.{PassEnd, Again, Done, endOf, endAnswer, endUsed, close-end, close-used, again-going}
+use Rattle.verdicts.specs.declared.Answer.{Answer}
+use Rattle.deciding.specs.declared.Counts.{Counts}
+use Rattle.verdicts.specs.declared.Outcome.the-variants as outcome
+use Rattle.verdicts.specs.declared.Outcome.{Outcome}
+use Rattle.deciding.specs.declared.Terms.{Terms}
+
+module _ (letters : List ℕ) (rules : List (List ℕ)) (finals B : ℕ) where
+  -- passes from one on, where f bounds their number
+  abbrev rest : ℕ → ℕ → ℕ → order.Progress → order.Answer
+  rest J = passes (baseOf letters finals) (map entryOf rules) J B
+
+  -- pass k is to begin at w over the journal j
+  pub record AtPass (target : order.Answer) (j₀ : Journal) (w : Counts) (j : Journal) (k : ℕ) : Type 0 where
+    pub left : rest (length j₀) (suc (suc (length j₀)) - k) k (progressOf w j) ≡ target
+    pub same : length j ≡ length j₀
+    pub beyond : drop (w .used) j ≡ drop (w .used) j₀
+    pub room : w .used ≤ length j₀
+    pub paid : w .joins ≤ B
+    pub first : 1 ≤ k
+    pub count : k ≤ w .used + 1
+
+  pub pass-first : (j : Journal) → AtPass (orderOf letters rules finals (length j) B) j (record { used = 0; joins = 0 }) j 1
+  unfolding orderOf check firstRows
+  pass-first j =
+      record {
+        left = ap (λ (f : ℕ). rest (length j) f 1 (record { rows = []; joins = 0 })) (let e : suc (suc (length j)) - 1 ≡ suc (length j) = omega arith in e);
+        same = refl;
+        beyond = refl;
+        room = omega arith;
+        paid = omega arith;
+        first = omega arith;
+        count = omega arith;
+      }
+
+module _ {letters : List ℕ} {rules : List (List ℕ)} {finals B : ℕ} {target : order.Answer} {j₀ : Journal} {w : Counts} {j : Journal} {k : ℕ} (a : AtPass letters rules finals B target j₀ w j k) where
+  abbrev terms : Terms
+  terms = record { budget = B; finals = finals; pass = k; start = w .used }
+
+  abbrev res : order.Outcome
+  res = passIn terms letters rules w j
+
+  hu : w .used ≤ length j
+  hu = subst (λ (n : ℕ). w .used ≤ n) (sym (a .same)) (a .room)
+
+  pass-eq : res ≡ onePass (baseOf letters finals) (map entryOf rules) (length j₀) B k (progressOf w j)
+  unfolding onePass
+  pass-eq = ap (λ (n : ℕ). walkIn terms n (passCandidates (formsOf letters) (firstRows (w .used) j) 0 (map entryOf rules)) (progressOf w j)) (a .same)
+
+  module _ {j′ : Journal} (s : length j′ ≡ length j) {r : Outcome} (x : Answers B res w j j′ r) where
+    N : order.Progress → order.Answer
+    N = rest letters rules finals B (length j₀) (suc (length j₀) - k) (suc k)
+
+    turned : endAnswer (endOf (w .used) k r) j′ N ≡ target
+    unfolding passes N
+    turned =
+        close-end (w .used) k j′ N r (subst (λ (n : ℕ). countsIn r .used ≤ n) (sym s) (x .room))
+        ∙ ap₂ (λ (u : ℕ) (y : order.Outcome). close k u N y) (sym (rows-length (w .used) j hu)) (x .answer ∙ pass-eq)
+        ∙ ap (λ (f : ℕ). rest letters rules finals B (length j₀) f k (progressOf w j)) (let e : suc (suc (length j₀) - k) ≡ suc (suc (length j₀)) - k = omega (arith, a .count, a .room) in e)
+        ∙ a .left
+
+    kept : drop (countsIn r .used) j′ ≡ drop (countsIn r .used) j₀
+    kept = x .beyond ∙ drop-later-same (w .used) (countsIn r .used) j j₀ (x .grows) (a .beyond)
+
+    pub pass-done : {y : Answer} → endOf (w .used) k r ≡ Done y → Checked target j₀ j′ y
+    pass-done {y} e =
+        let n : countsIn r .used ≡ totalsIn y .used = sym (close-used (w .used) k r) ∙ ap endUsed e in
+        record {
+          answer = ap (λ (z : PassEnd). endAnswer z j′ N) (sym e) ∙ turned;
+          beyond = subst (λ (m : ℕ). drop m j′ ≡ drop m j₀) n kept;
+          room = subst₂ (λ (m l : ℕ). m ≤ l) n (a .same) (x .room);
+        }
+
+    module _ {w′ : Counts} (e : endOf (w .used) k r ≡ Again w′) where
+      went : r ≡ outcome.Going w′
+      went = again-going (w .used) k r w′ e .0
+
+      abbrev xg : Answers B res w j j′ (outcome.Going w′)
+      xg = subst (λ (z : Outcome). Answers B res w j j′ z) went x
+
+      pub pass-covered : {covers : List ℕ} → Covering (firstRows (countsIn r .used) j′) covers → Covering (firstRows (w′ .used) j′) covers
+      pass-covered {covers} h = subst (λ (z : Outcome). Covering (firstRows (countsIn z .used) j′) covers) went h
+
+      pub pass-grew : w .used < w′ .used
+      pass-grew = lt-of-le-ne (xg .grows) (λ p. again-going (w .used) k r w′ e .1 (sym p))
+
+      pub pass-room : w′ .used ≤ length j₀
+      pass-room = subst (λ (n : ℕ). w′ .used ≤ n) (a .same) (xg .room)
+
+      pub pass-again : AtPass letters rules finals B target j₀ w′ j′ (k + 1)
+      unfolding N
+      pass-again =
+          record {
+            left =
+                ap₂ (λ (f m : ℕ). rest letters rules finals B (length j₀) f m (progressOf w′ j′)) (let p : suc (suc (length j₀)) - (k + 1) ≡ suc (length j₀) - k = omega arith in p) (add-one k)
+                ∙ ap (λ (z : PassEnd). endAnswer z j′ N) (sym e) ∙ turned;
+            same = s ∙ a .same;
+            beyond = xg .beyond ∙ drop-later-same (w .used) (w′ .used) j j₀ (xg .grows) (a .beyond);
+            room = pass-room;
+            paid = xg .paid;
+            first = omega arith;
+            count = omega (arith, pass-grew, a .count);
+          }

@@ -1,0 +1,190 @@
+-- One pass, place by place: the candidates left from the place give the answer, and the rows that the pass began with still form what they
+-- formed then. Assumes nothing.
+use mathlib.Core.Path.{_≡_, refl, sym, ap, ap₂, _∙_, subst}
+use mathlib.Core.Bool.{Bool, true, false}
+use mathlib.Core.List.{List, [], _∷_, map}
+use Prim.Native.Nat.{ℕ, suc, _-_, _≤_, _<_}
+use native.Mathlib.Nat.{le-refl}
+use native.Mathlib.Omega.{arith}
+use lib.Dec.{ltb}
+use lib.ListN.{length, length-map, length-append, List·getD-append, List·getD-eq-default}
+use borrow.Author.Tests.{ltb-true, ltb-false}
+use Rattle.basics.specs.Lists.{getD-map}
+use Rattle.language.specs.Grammar.{terminal, nonterminal, Rule}
+use Rattle.relation.specs.Relation.{contained}
+use Rattle.working_order.specs.Order.{Verdict, going, andThen, walk, retire, born, added}
+use Rattle.working_order.specs.Walking.{Post, step-post}
+use Rattle.calls.specs.Checking.{journalLimit}
+use Rattle.calls.specs.Rows.{rowOf, blank}
+use Rattle.rows.specs.Base as order
+use Rattle.rows.specs.Meanings.{baseOf}
+use Rattle.rows.specs.Forming.{Part, none, some, rowChoice, leftPart, rightPart, partChoice, combined, formedBy}
+use Rattle.rows.specs.declared.Place.{Place}
+use Rattle.places.specs.Lists.{rowIn, Listed}
+use Rattle.places.specs.Places.{ruleAt, onward, Stands, Opens, Follows}
+use Rattle.covers.specs.Covers.{Covering}
+use Rattle.covers.specs.Rows.{Journal, firstRows}
+use Rattle.covers.specs.RowLaws.{rows-length, rows-at}
+use Rattle.verdicts.specs.Meanings.{progressOf, countsIn}
+use Rattle.verdicts.specs.Walks.{considerIn, walkIn}
+use Rattle.verdicts.specs.Contracts.{Ready, Answers}
+use Rattle.verdicts.specs.Remaining.{Remaining, Ends, remaining-start, remaining-going, remaining-stopped, remaining-none}
+use Rattle.deciding.specs.declared.Counts.{Counts}
+use Rattle.verdicts.specs.declared.Outcome.the-variants.{Going}
+use Rattle.verdicts.specs.declared.Outcome.{Outcome}
+use Rattle.deciding.specs.declared.Terms.{Terms}
+
+-- ---- rows that the pass began with
+
+-- each is there, with the relation and the length that it had
+abbrev Kept : List order.Row → List order.Row → Type 0
+Kept A rows = (length A ≤ length rows) × ((i : ℕ) → i < length A → rowChoice i (rowIn rows i) ≡ rowChoice i (rowIn A i))
+
+kept-added : (k : ℕ) (c : order.Candidate) (A rows : List order.Row) → Kept A rows → Kept A (added contained k c rows)
+unfolding added retire
+kept-added k c A rows h =
+    let f : order.Row → order.Row = retire contained k c in
+    let n : length (map f rows) ≡ length rows = length-map rows f in (
+      omega (arith, h .0, n, length-append (map f rows) (born k c ∷ [])),
+      λ i l.
+          let m : i < length rows = omega (arith, l, h .0) in
+          ap (rowChoice i) (List·getD-append (map f rows) (born k c ∷ []) (rowOf blank) i (omega (arith, m, n)) ∙ getD-map f (rowOf blank) (rowOf blank) rows i m) ∙ h .1 i l,
+    )
+
+-- a candidate that goes on is one join more, over the same rows or with one added
+consider-goes : (t : Terms) (J : ℕ) (P : order.Progress → Type 0) (c : order.Candidate) (s s′ : order.Progress) → going s′ ≡ considerIn t J c s
+    → P (record { rows = s .rows; joins = suc (s .joins) }) → P (record { rows = added contained (t .pass) c (s .rows); joins = suc (s .joins) }) → P s′
+consider-goes t J P c s s′ e p q =
+    subst (Post P R) (sym e)
+    (step-post (baseOf [] (t .finals)) J (t .budget) (t .pass) P R c s (λ e₁. tt) (λ e₁ e₂. p) (λ e₁ e₂ e₃. tt) (λ e₁ e₂ e₃ e₄. tt) (λ e₁ e₂ e₃ e₄. q))
+  where
+    R : Verdict → ℕ → order.Progress → Type 0
+    R v i u = Unit
+
+-- ---- what is formed from them
+
+part-same : (letters : List ℕ) (p : Part) (i : ℕ) (r r′ : order.Row) → rowChoice i r ≡ rowChoice i r′ → partChoice letters p i r ≡ partChoice letters p i r′
+part-same letters none i r r′ e = refl
+part-same letters (some (terminal c)) i r r′ e = refl
+part-same letters (some (nonterminal x)) i r r′ e = e
+
+module _ (A : List order.Row) (u : ℕ) (j : Journal) (room : u ≤ length j) (kept : Kept A (firstRows u j)) where
+  row-same : (i : ℕ) → rowChoice i (rowIn (firstRows (length A) j) i) ≡ rowChoice i (rowIn A i)
+  row-same i = by (ltb i (length A)) refl
+    where
+      n : length A ≤ length j
+      n = omega (arith, kept .0, rows-length u j room, room)
+
+      by : (b : Bool) → ltb i (length A) ≡ b → rowChoice i (rowIn (firstRows (length A) j) i) ≡ rowChoice i (rowIn A i)
+      by true e =
+          let l : i < length A = ltb-true i (length A) e in
+          let m : i < u = omega (arith, l, kept .0, rows-length u j room) in
+          ap (rowChoice i) (rows-at (length A) j i l ∙ sym (rows-at u j i m)) ∙ kept .1 i l
+      by false e =
+          let l : length A ≤ i = ltb-false i (length A) e in
+          ap (rowChoice i)
+          (List·getD-eq-default (firstRows (length A) j) (rowOf blank) (subst (λ (m : ℕ). m ≤ i) (sym (rows-length (length A) j n)) l) ∙ sym (List·getD-eq-default A (rowOf blank) l))
+
+  formed-same : (letters : List ℕ) (x : Rule) (p : Place) → formedBy letters x p (rowIn (firstRows (length A) j) (p .left)) (rowIn (firstRows (length A) j) (p .right)) ≡ formedBy letters x p (rowIn A (p .left)) (rowIn A (p .right))
+  formed-same letters x p =
+      ap₂ (combined (x .head) (p .rule) (x .body))
+      (part-same letters (leftPart (x .body)) (p .left) (rowIn (firstRows (length A) j) (p .left)) (rowIn A (p .left)) (row-same (p .left)))
+      (part-same letters (rightPart (x .body)) (p .right) (rowIn (firstRows (length A) j) (p .right)) (rowIn A (p .right)) (row-same (p .right)))
+
+-- ---- the loop
+
+module _ (t : Terms) (letters lists : List ℕ) (rules : List (List ℕ)) (w₀ : Counts) (j₀ : Journal) where
+  -- the rows that the pass begins with
+  abbrev first : List order.Row
+  first = firstRows (w₀ .used) j₀
+
+  abbrev whole : order.Outcome
+  whole = walkIn t (length j₀) (onward letters first lists rules 0) (progressOf w₀ j₀)
+
+  -- the invariant
+  pub record InPass (covers : List ℕ) (w : Counts) (j : Journal) (p : Place) : Type 0 where
+    pub candidates : List order.Candidate
+    pub stands : Stands letters first lists rules p candidates
+    pub left : Remaining (t .budget) whole (walkIn t (length j₀) candidates (progressOf w j)) w₀ j₀ w j
+    pub kept : Kept first (firstRows (w .used) j)
+    pub covering : Covering (firstRows (w .used) j) covers
+
+  module _ (listed : Listed first lists) where
+    pub pass-start : (covers : List ℕ) (p : Place) → Ready t w₀ j₀ covers → Opens lists rules 0 p → InPass covers w₀ j₀ p
+    pass-start covers p r o =
+        record {
+          candidates = onward letters first lists rules 0;
+          stands = o letters first listed;
+          left = remaining-start (r .room) (r .paid);
+          kept = (le-refl (length first), λ i l. refl);
+          covering = r .covering;
+        }
+
+    module _ {covers : List ℕ} {w : Counts} {j : Journal} {p : Place} (g : InPass covers w j p) where
+      pub pass-ready : length j₀ ≤ journalLimit → 0 < t .pass → Ready t w j covers
+      pass-ready h k =
+          record { room = omega (arith, g .left .room, g .left .same); limit = omega (arith, h, g .left .same); paid = g .left .paid; pass = k; covering = g .covering }
+
+      pub pass-end : length rules ≤ p .rule → Answers (t .budget) whole w₀ j₀ j (Going w)
+      unfolding walk
+      pass-end h = by (g .candidates) (g .stands) (g .left)
+        where
+          by : (cs : List order.Candidate) → Stands letters first lists rules p cs → Remaining (t .budget) whole (walkIn t (length j₀) cs (progressOf w j)) w₀ j₀ w j → Answers (t .budget) whole w₀ j₀ j (Going w)
+          by [] s l = remaining-none l
+          by (c ∷ cs) s l = absurd (omega (arith, h, s .0))
+
+      module _ (hs : t .start ≡ w₀ .used) (h : p .rule < length rules) {c : order.Candidate} (e : c ≡ formedBy letters (ruleAt rules (p .rule)) p (rowIn (firstRows (t .start) j) (p .left)) (rowIn (firstRows (t .start) j) (p .right)))
+          {j′ : Journal} (s : length j′ ≡ length j) {r : Outcome} (a : Answers (t .budget) (considerIn t (length j) c (progressOf w j)) w j j′ r) where
+        -- the candidate is the first that is left
+        abbrev Next : order.Candidate → List order.Candidate → Type 0
+        Next d ds = (d ≡ c) × ((q : Place) → Follows lists rules p q → Stands letters first lists rules q ds)
+            × Remaining (t .budget) whole (walkIn t (length j₀) (d ∷ ds) (progressOf w j)) w₀ j₀ w j
+
+        start-length : t .start ≡ length first
+        start-length = hs ∙ sym (rows-length (w₀ .used) j₀ (omega (arith, g .left .grows, g .left .room)))
+
+        next : (d : order.Candidate) × (ds : List order.Candidate) × Next d ds
+        next = by (g .candidates) (g .stands) (g .left)
+          where
+            by : (cs : List order.Candidate) → Stands letters first lists rules p cs → Remaining (t .budget) whole (walkIn t (length j₀) cs (progressOf w j)) w₀ j₀ w j → (d : order.Candidate) × (ds : List order.Candidate) × Next d ds
+            by [] z l = absurd (z h)
+            by (d ∷ ds) z l = (
+              d,
+              ds,
+              (
+                z .1
+                    ∙ sym (formed-same first (w .used) j (omega (arith, g .left .room, g .left .same)) (g .kept) letters (ruleAt rules (p .rule)) p)
+                    ∙ ap (λ (n : ℕ). formedBy letters (ruleAt rules (p .rule)) p (rowIn (firstRows n j) (p .left)) (rowIn (firstRows n j) (p .right))) (sym start-length)
+                    ∙ sym e,
+                λ q f. f letters first listed d ds z,
+                l,
+              ),
+            )
+
+        -- it is taken, and the others are left
+        split : walkIn t (length j₀) (next .0 ∷ next .1) (progressOf w j) ≡ andThen (considerIn t (length j) c (progressOf w j)) (walkIn t (length j₀) (next .1))
+        unfolding walk
+        split = ap₂ (λ (n : ℕ) (d : order.Candidate). andThen (considerIn t n d (progressOf w j)) (walkIn t (length j₀) (next .1))) (sym (g .left .same)) (next .2 .0)
+
+        pub pass-stopped : Ends r → Answers (t .budget) whole w₀ j₀ j′ r
+        pass-stopped z = remaining-stopped (next .2 .2) (considerIn t (length j) c (progressOf w j)) (walkIn t (length j₀) (next .1)) split j′ s r z a
+
+        gone : {w′ : Counts} → r ≡ Going w′ → Answers (t .budget) (considerIn t (length j) c (progressOf w j)) w j j′ (Going w′)
+        gone z = subst (λ (o : Outcome). Answers (t .budget) (considerIn t (length j) c (progressOf w j)) w j j′ o) z a
+
+        pub pass-pays : {w′ : Counts} → r ≡ Going w′ → t .budget - w′ .joins < t .budget - w .joins
+        pass-pays {w′} z =
+            let x = gone z in
+            let m : suc (w .joins) ≤ w′ .joins = consider-goes t (length j) (λ u. suc (w .joins) ≤ u .joins) c (progressOf w j) (progressOf w′ j′) (x .answer) (le-refl (suc (w .joins))) (le-refl (suc (w .joins))) in
+            omega (arith, m, x .paid)
+
+        pub pass-going : {w′ : Counts} → r ≡ Going w′ → {covers′ : List ℕ} → Covering (firstRows (countsIn r .used) j′) covers′ → {q : Place} → Follows lists rules p q → InPass covers′ w′ j′ q
+        pass-going {w′} z {covers′} v {q} f =
+            let x = gone z in
+            record {
+              candidates = next .1;
+              stands = next .2 .1 q f;
+              left = remaining-going (next .2 .2) (considerIn t (length j) c (progressOf w j)) (walkIn t (length j₀) (next .1)) split j′ s w′ x;
+              kept = consider-goes t (length j) (λ u. Kept first (u .rows)) c (progressOf w j) (progressOf w′ j′) (x .answer) (g .kept) (kept-added (t .pass) c first (firstRows (w .used) j) (g .kept));
+              covering = subst (λ (o : Outcome). Covering (firstRows (countsIn o .used) j′) covers′) z v;
+            }

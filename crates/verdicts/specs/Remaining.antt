@@ -1,0 +1,70 @@
+-- What is left to do gives the answer: the invariant of each loop of a pass. Assumes nothing.
+use mathlib.Core.Path.{_≡_, refl, sym, ap, _∙_, subst}
+use Prim.Native.Nat.{ℕ, _≤_}
+use native.Mathlib.Nat.{le-refl, le-trans}
+use lib.ListN.{length, drop}
+use Rattle.basics.specs.Lists.{drop-later-same}
+use Rattle.working_order.specs.Order.{going, andThen}
+use Rattle.rows.specs.Base as order
+use Rattle.covers.specs.Rows.{Journal}
+use Rattle.verdicts.specs.Meanings.{progressOf, outcomeOf, countsIn}
+use Rattle.verdicts.specs.Contracts.{Answers}
+use Rattle.deciding.specs.declared.Counts.{Counts}
+use Rattle.verdicts.specs.declared.Outcome.the-variants.{Going}
+use Rattle.verdicts.specs.declared.Outcome.{Outcome}
+
+-- the loop began at w₀ and j₀, and stands at w and j; what is left gives rest, which is the target
+pub record Remaining (B : ℕ) (target rest : order.Outcome) (w₀ : Counts) (j₀ : Journal) (w : Counts) (j : Journal) : Type 0 where
+  pub left : rest ≡ target
+  pub same : length j ≡ length j₀
+  pub beyond : drop (w .used) j ≡ drop (w .used) j₀
+  pub grows : w₀ .used ≤ w .used
+  pub room : w .used ≤ length j₀
+  pub paid : w .joins ≤ B
+
+-- an outcome that ends everything
+abbrev pub Ends : Outcome → Type 0
+Ends r = (j : Journal) (K : order.Progress → order.Outcome) → andThen (outcomeOf r j) K ≡ outcomeOf r j
+
+module _ {B : ℕ} {target : order.Outcome} {w₀ : Counts} {j₀ : Journal} where
+  pub remaining-start : w₀ .used ≤ length j₀ → w₀ .joins ≤ B → Remaining B target target w₀ j₀ w₀ j₀
+  remaining-start h p = record { left = refl; same = refl; beyond = refl; grows = le-refl (w₀ .used); room = h; paid = p }
+
+  pub remaining-same : {rest rest′ : order.Outcome} {w : Counts} {j : Journal} → rest ≡ rest′ → Remaining B target rest w₀ j₀ w j → Remaining B target rest′ w₀ j₀ w j
+  remaining-same e l = record { left = sym e ∙ l .left; same = l .same; beyond = l .beyond; grows = l .grows; room = l .room; paid = l .paid }
+
+  -- a part f was done, and K is left
+  module _ {rest : order.Outcome} {w : Counts} {j : Journal} (l : Remaining B target rest w₀ j₀ w j) (f : order.Outcome) (K : order.Progress → order.Outcome) (e : rest ≡ andThen f K) (j′ : Journal) (s : length j′ ≡ length j) where
+    chain : (n : ℕ) → w .used ≤ n → drop n j′ ≡ drop n j → drop n j′ ≡ drop n j₀
+    chain n h d = d ∙ drop-later-same (w .used) n j j₀ h (l .beyond)
+
+    pub remaining-going : (w′ : Counts) → Answers B f w j j′ (Going w′) → Remaining B target (K (progressOf w′ j′)) w₀ j₀ w′ j′
+    remaining-going w′ a =
+        record {
+          left = ap (λ (r : order.Outcome). andThen r K) (a .answer) ∙ sym e ∙ l .left;
+          same = s ∙ l .same;
+          beyond = chain (w′ .used) (a .grows) (a .beyond);
+          grows = le-trans (l .grows) (a .grows);
+          room = subst (λ (n : ℕ). w′ .used ≤ n) (l .same) (a .room);
+          paid = a .paid;
+        }
+
+    pub remaining-stopped : (r : Outcome) → Ends r → Answers B f w j j′ r → Answers B target w₀ j₀ j′ r
+    remaining-stopped r h a =
+        record {
+          answer = sym (h j′ K) ∙ ap (λ (x : order.Outcome). andThen x K) (a .answer) ∙ sym e ∙ l .left;
+          beyond = chain (countsIn r .used) (a .grows) (a .beyond);
+          grows = le-trans (l .grows) (a .grows);
+          room = subst (λ (n : ℕ). countsIn r .used ≤ n) (l .same) (a .room);
+          paid = a .paid;
+        }
+
+  pub remaining-none : {w : Counts} {j : Journal} → Remaining B target (going (progressOf w j)) w₀ j₀ w j → Answers B target w₀ j₀ j (Going w)
+  remaining-none l = record { answer = l .left; beyond = l .beyond; grows = l .grows; room = l .room; paid = l .paid }
+
+-- a part that is nothing to do, or one that another is equal to
+pub answers-nothing : {B : ℕ} {f : order.Outcome} {w : Counts} {j : Journal} → f ≡ going (progressOf w j) → w .used ≤ length j → w .joins ≤ B → Answers B f w j j (Going w)
+answers-nothing {w = w} e h p = record { answer = sym e; beyond = refl; grows = le-refl (w .used); room = h; paid = p }
+
+pub answers-same : {B : ℕ} {f g : order.Outcome} {w : Counts} {j j′ : Journal} {r : Outcome} → g ≡ f → Answers B f w j j′ r → Answers B g w j j′ r
+answers-same e a = record { answer = a .answer ∙ sym e; beyond = a .beyond; grows = a .grows; room = a .room; paid = a .paid }

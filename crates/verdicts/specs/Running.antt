@@ -1,0 +1,181 @@
+-- Where the search stands between candidates, and what each step of it keeps, whatever the journal. Definitions only. Assumes nothing.
+use mathlib.Core.Path.{_≡_}
+use mathlib.Core.Bool.{true, not, cond}
+use mathlib.Core.List.{List}
+use Prim.Native.Nat.{ℕ, suc, _-_, _≤_, _<_}
+use lib.Dec.{T}
+use lib.ListN.{length, getD, take}
+use Rattle.calls.specs.Rows.{blank}
+use Rattle.rows.specs.Base as order
+use Rattle.rows.specs.Meanings.{candidateOf}
+use Rattle.rows.specs.declared.Candidate.{Candidate}
+use Rattle.rows.specs.declared.Place.{Place}
+use Rattle.places.specs.Lists.{rowCells, heads, headCell, Listed}
+use Rattle.places.specs.Places as places
+use Rattle.covers.specs.Covers.{tableCells, listsFrom, listsIn, Covering}
+use Rattle.covers.specs.Rows.{Journal, firstRows}
+use Rattle.retiring.specs.Clearing.{Settled}
+use Rattle.deciding.specs.Forming.{positionRow, formedIn}
+use Rattle.deciding.specs.Looking.{Leads, Finds, InLook}
+use Rattle.deciding.specs.declared.Counts.{Counts}
+use Rattle.deciding.specs.declared.Look.{Look}
+use Rattle.deciding.specs.declared.State.{State}
+use Rattle.deciding.specs.declared.Terms.{Terms}
+use Rattle.verdicts.specs.Contracts.{Answers, Checked, orderOf}
+use Rattle.verdicts.specs.Meanings.{answerIn}
+use Rattle.verdicts.specs.Passes.{AtPass}
+use Rattle.verdicts.specs.Passing.{InPass}
+use Rattle.verdicts.specs.Walks.{passIn}
+use Rattle.verdicts.specs.declared.Outcome.the-variants.{Going}
+
+-- ---- where the search stands
+
+-- on these letters, rules and final states, with a budget of B joins, over the journal j₀
+module _ (letters : List ℕ) (rules : List (List ℕ)) (finals B : ℕ) (j₀ : Journal) where
+  -- what it is to give
+  abbrev pub target : order.Answer
+  target = orderOf letters rules finals (length j₀) B
+
+  pub record Sized : Type 0 where
+    pub all : 128 ≤ length letters
+    pub some : 0 < length j₀
+    pub limit : length j₀ ≤ rowCells
+
+  -- in pass k, which began at w over the journal j
+  pub record Begun (s : State) (w : Counts) (j : Journal) : Type 0 where
+    pub pass : ℕ
+    pub at-pass : AtPass letters rules finals B target j₀ w j pass
+    pub terms : s .terms ≡ record { budget = B; finals = finals; pass = pass; start = w .used }
+
+  -- at a place of the pass
+  pub record Goes (s : State) (j : Journal) (t : List ℕ) : Type 0 where
+    pub first : Counts
+    pub journal : Journal
+    pub begun : Begun s first journal
+    pub listed : Listed (firstRows (first .used) journal) (listsIn t)
+    pub in-pass : InPass (s .terms) letters (listsIn t) rules first journal t (s .counts) j (s .place)
+    pub here : s .place .rule < length rules
+    pub left : s .left ≡ positionRow (s .place .left) (s .terms .start)
+    pub right : s .right ≡ positionRow (s .place .right) (s .terms .start)
+    pub unspent : s .counts .joins < B
+
+  -- at a place, or at the end
+  pub record Stands (s : State) (j : Journal) (t : List ℕ) : Type 0 where
+    pub size : length j ≡ length j₀
+    pub rows : s .rows ≡ length j₀
+    pub count : s .rules ≡ length rules
+    pub goes : T (s .going) → Goes s j t
+    pub ends : T (not (s .going)) → Checked target j₀ j (answerIn s)
+
+-- the search that began in start, over the journal j₀, stands in s, over j and t
+pub record Running (letters : List ℕ) (rules : List (List ℕ)) (start : State) (j₀ : Journal) (s : State) (j : Journal) (t : List ℕ) : Type 0 where
+  -- one that does not go on at all leaves all as it is
+  pub idle : T (not (start .going)) → (s ≡ start) × (j ≡ j₀)
+  pub sized : T (start .going) → Sized letters (take (start .rules) rules) (start .terms .finals) (start .terms .budget) j₀
+  pub whole : T (start .going) → start .rules ≤ length rules
+  pub stands : T (start .going) → Stands letters (take (start .rules) rules) (start .terms .finals) (start .terms .budget) j₀ s j t
+
+abbrev pub Ran : List ℕ → List (List ℕ) → State → Journal → Journal → List ℕ → State → Type 0
+Ran letters rules start j₀ j t r = T (not (r .going)) × Running letters rules start j₀ r j t
+
+-- ---- a candidate
+
+abbrev pub MayFind : State → Journal → List ℕ → Type 0
+MayFind s j t = (s .counts .used ≤ length j) × (0 < length j) × Leads (firstRows (s .counts .used) j) (s .counts .used) t
+
+abbrev pub Found : State → Candidate → Journal → List ℕ → Look → Type 0
+Found s c j t l = InLook (candidateOf c) (firstRows (s .counts .used) j) (s .counts .used) t l × T (not (l .walking))
+
+pub record MaySettle (s : State) (c : Candidate) (l : Look) (j : Journal) (t : List ℕ) : Type 0 where
+  pub pass : 0 < s .terms .pass
+  pub rows : s .rows ≡ length j
+  pub room : s .counts .used ≤ length j
+  pub limit : length j ≤ rowCells
+  pub covering : Covering (firstRows (s .counts .used) j) t
+  pub finds : Finds (candidateOf c) (firstRows (s .counts .used) j) (s .counts .used) t l
+
+-- the candidate of the place has been formed, looked for and settled
+pub record Considered (letters : List ℕ) (rules : List (List ℕ)) (start : State) (j₀ : Journal) (s : State) (c : Candidate) (l : Look) (j : Journal) (t : List ℕ) : Type 0 where
+  pub before : Journal
+  pub table : List ℕ
+  pub running : Running letters rules start j₀ s before table
+  pub going : T (s .going)
+  pub formed : candidateOf c ≡ formedIn letters rules s (getD before (s .left) blank) (getD before (s .right) blank)
+  pub found : Found s c before table l
+  pub settled : Settled (s .terms .pass) (candidateOf c) (s .counts .used) l before table j t
+
+-- how many candidates are left at most
+abbrev pub candidatesLeft : State → ℕ
+candidatesLeft s = cond (s .going) (suc (s .terms .budget - s .counts .joins)) 0
+
+-- ---- steps
+
+-- the table leads on as it did, over the same lists
+pub record Notes (old new : List ℕ) : Type 0 where
+  pub size : length new ≡ length old
+  pub lists : listsIn new ≡ listsIn old
+  pub covering : (rows : List order.Row) → length rows ≤ rowCells → Covering rows old → Covering rows new
+
+pub record MayNote (s : State) (l : Look) (t : List ℕ) : Type 0 where
+  pub used : s .counts .used ≤ rowCells
+  pub table : length t ≡ tableCells
+  pub above : headCell heads ≤ l .slot
+  pub below : l .slot < listsFrom
+  pub row : l .covers ≡ true → l .at < s .counts .used
+
+-- one join and one row more can be counted
+pub record MayDecide (s : State) : Type 0 where
+  pub used : s .counts .used ≤ rowCells
+  pub joins : s .counts .joins < s .terms .budget
+
+pub record MayOpen (rules : List (List ℕ)) (s : State) (w : Counts) (t : List ℕ) : Type 0 where
+  pub table : length t ≡ tableCells
+  pub count : s .rules ≤ length rules
+  pub used : w .used ≤ rowCells
+
+pub record MayGoOn (rules : List (List ℕ)) (s : State) (w : Counts) (t : List ℕ) : Type 0 where
+  pub opens : MayOpen rules s w t
+  pub pass : s .terms .pass ≤ 65535
+
+pub record MayAdvance (rules : List (List ℕ)) (s : State) (c : Candidate) (l : Look) (t : List ℕ) : Type 0 where
+  pub note : MayNote s l t
+  pub decide : MayDecide s
+  pub count : s .rules ≤ length rules
+  pub pass : s .terms .pass ≤ 65535
+  pub room : s .counts .used ≤ s .rows
+  pub limit : s .rows ≤ rowCells
+
+-- so many joins have been made, and the search stands on
+pub record Onward (letters : List ℕ) (rules : List (List ℕ)) (finals B : ℕ) (j₀ : Journal) (w : Counts) (r : State) (j : Journal) (t : List ℕ) : Type 0 where
+  pub stands : Stands letters rules finals B j₀ r j t
+  pub counts : r .counts ≡ w
+  pub budget : r .terms .budget ≡ B
+
+-- a pass begins at w
+abbrev pub Opens : List (List ℕ) → List ℕ → State → Terms → Counts → List ℕ → State → Type 0
+Opens rules t s b w t′ r =
+    (letters : List ℕ) (finals B : ℕ) (j₀ j : Journal) (k : ℕ) → Sized letters (take (s .rules) rules) finals B j₀ → s .rows ≡ length j₀
+    → AtPass letters (take (s .rules) rules) finals B (target letters (take (s .rules) rules) finals B j₀) j₀ w j k → b ≡ record { budget = B; finals = finals; pass = k; start = w .used }
+    → Covering (firstRows (w .used) j) t → Onward letters (take (s .rules) rules) finals B j₀ w r j t′
+
+-- the pass in which s stands is over, with the counts w
+abbrev pub Closes : List (List ℕ) → List ℕ → State → Counts → List ℕ → State → Type 0
+Closes rules t s w t′ r =
+    (letters : List ℕ) (finals B : ℕ) (j₀ : Journal) (first : Counts) (j₁ j : Journal) → Sized letters (take (s .rules) rules) finals B j₀ → s .rows ≡ length j₀
+    → Begun letters (take (s .rules) rules) finals B j₀ s first j₁ → length j ≡ length j₁ → Answers B (passIn (s .terms) letters (take (s .rules) rules) first j₁) first j₁ j (Going w)
+    → Covering (firstRows (w .used) j) t → Onward letters (take (s .rules) rules) finals B j₀ w r j t′
+
+-- the candidate at which s stands is done, with the counts w
+abbrev pub GoesOnOver : List (List ℕ) → List ℕ → State → Counts → List ℕ → State → Type 0
+GoesOnOver rules t s w t′ r =
+    (letters : List ℕ) (finals B : ℕ) (j₀ : Journal) (first : Counts) (j₁ j : Journal) → Sized letters rules finals B j₀ → s .rows ≡ length j₀ → s .place .rule < length rules → Begun letters rules finals B j₀ s first j₁
+    → Listed (firstRows (first .used) j₁) (listsIn t) → ((q : Place) → places.Follows (listsIn t) rules (s .place) q → InPass (s .terms) letters (listsIn t) rules first j₁ t w j q)
+    → Onward letters rules finals B j₀ w r j t′
+
+abbrev pub GoesOn : List (List ℕ) → List ℕ → State → Counts → List ℕ → State → Type 0
+GoesOn rules t s w t′ r = GoesOnOver (take (s .rules) rules) t s w t′ r
+
+-- a candidate more
+abbrev pub Advances : List (List ℕ) → List ℕ → State → Candidate → Look → List ℕ → State → Type 0
+Advances rules t s c l t′ r =
+    (letters : List ℕ) (start : State) (j₀ j : Journal) → Considered letters rules start j₀ s c l j t → Running letters rules start j₀ r j t′ × (candidatesLeft r < candidatesLeft s)

@@ -1,0 +1,16 @@
+-- What writing a word ensures, in one record. Definitions only. Assumes nothing.
+use mathlib.Core.Path.{_≡_}
+use mathlib.Core.List.{List}
+use Prim.Native.Nat.{ℕ}
+use lib.ListN.{length}
+use Rattle.working_order.specs.Journal.{Row}
+use Rattle.calls.specs.Writing.{writeOf, bufferAfter}
+use Rattle.writer.specs.declared.Writing.{Writing}
+use Rattle.writer.specs.Answers.{writingOf}
+
+-- writing the word behind row i, with used rows, to a buffer that holds old before and new afterwards
+pub record Writes (bs : List ℕ) (rows : List (Row ℕ)) (used i : ℕ) (old new : List ℕ) (r : Writing) : Type 0 where
+  -- the refusal, or the word's length
+  pub answer : writingOf r ≡ writeOf bs rows used i (length old)
+  -- the word, and then the old bytes; the old bytes whole on a refusal
+  pub buffer : new ≡ bufferAfter bs rows used i old

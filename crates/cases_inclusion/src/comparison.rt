@@ -155,7 +155,7 @@ fn same_with_more(file: &[u8], journal: &[[u64; 8]], told: Told) -> bool {
     same(told, again) & rows::same(journal, &longer, told.used as usize)
 }
 
-// A row that no file uses, anywhere in the rest of the journal: over all files each of these is looked at.
+// A row that no file uses, one of the 960 from row 64 on, by a number below 1,024.
 fn far_row(drawn: u64) -> usize {
     KEPT + (drawn % 960) as usize
 }
@@ -166,7 +166,7 @@ fn same_with_old(file: &[u8], journal: &[[u64; 8]], told: Told, old: [u64; 8]) -
     let again = ask(file, ROWS, row_of(old), BUDGET, 0);
     let n = looked_at(again.used);
     collect(file, ROWS, row_of(old), BUDGET, n, &mut other);
-    let far = ask(file, ROWS, row_of(old), BUDGET, far_row(old[2]));
+    let far = ask(file, ROWS, row_of(old), BUDGET, far_row(old[3]));
     let rest = [numbers(far.shown); 1];
     let used = told.used as usize;
     same(told, again)

@@ -132,7 +132,7 @@ fn right(file: &[u8], journal: &[[u64; 8]], told: Told, buffer: &[u8], broken: b
 // is without a live row below it, so that the live rows are the smallest relations.
 fn accounted(journal: &[[u64; 8]], told: Told, found: &[[u64; 2]; 512], count: usize) -> bool {
     let used = told.used as usize;
-    let sound = rows::listed(journal, used, found, count) & rows::antichain(journal, used);
+    let sound = rows::sound(journal, used, found, count);
     if told.code == telling::HOLDS {
         return sound & rows::covering(journal, used, found, count);
     }
@@ -152,7 +152,7 @@ fn same_with_more(file: &[u8], journal: &[[u64; 8]], told: Told) -> bool {
         n,
         &mut longer,
     );
-    same(told, again) & rows::same(journal, &longer, told.used as usize)
+    same(told, again) & rows::same(journal, &longer, 0, told.used as usize)
 }
 
 // A row that no file uses, one of the 960 from row 64 on, by a number below 1,024.
@@ -167,12 +167,12 @@ fn same_with_old(file: &[u8], journal: &[[u64; 8]], told: Told, old: [u64; 8]) -
     let n = looked_at(again.used);
     collect(file, ROWS, row_of(old), BUDGET, n, &mut other);
     let far = ask(file, ROWS, row_of(old), BUDGET, far_row(old[3]));
-    let rest = [numbers(far.shown); 1];
+    let fresh = [old; KEPT];
     let used = told.used as usize;
     same(told, again)
-        & rows::same(journal, &other, used)
-        & rows::untouched(&other, used, old)
-        & rows::untouched(&rest, 0, old)
+        & rows::same(journal, &other, 0, used)
+        & rows::same(&other, &fresh, used, KEPT)
+        & rows::same_row(numbers(far.shown), old)
 }
 
 // An answer with few rows and a small budget: full and spent just where the rows or the joins run out, and else the same answer.

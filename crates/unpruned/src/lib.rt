@@ -24,42 +24,48 @@ fn with(relation: u64, a: u64, b: u64) -> u64 {
     relation | (1u64 << (a % 8 * 8 + b % 8))
 }
 
+// A relation with the pair of record r, where that is a transition by the letter.
+fn with_transition(relation: u64, file: &[u8], code: u64, r: usize) -> u64 {
+    if (byte(file, r, 0) == 2) & (byte(file, r, 2) == code) {
+        return with(relation, byte(file, r, 1), byte(file, r, 3));
+    }
+    relation
+}
+
 // The pairs (a, b) for which the letter has a transition from a to b.
 fn letter(file: &[u8], code: u64) -> u64 {
     let mut relation: u64 = 0;
     for r in 0..24usize {
-        if (byte(file, r, 0) == 2) & (byte(file, r, 2) == code) {
-            relation = with(relation, byte(file, r, 1), byte(file, r, 3));
-        }
+        relation = with_transition(relation, file, code, r);
     }
     relation
 }
 
-// Some state lies between a and c.
-fn linked(x: u64, y: u64, a: u64, c: u64) -> bool {
-    for b in 0..8u64 {
-        if has(x, a, b) & has(y, b, c) {
-            return true;
-        }
+// A relation with the pair (a, c), where x has (a, b) and y has (b, c).
+fn with_linked(relation: u64, x: u64, y: u64, a: u64, b: u64, c: u64) -> u64 {
+    if has(x, a, b) & has(y, b, c) {
+        return with(relation, a, c);
     }
-    false
+    relation
 }
 
 fn compose(x: u64, y: u64) -> u64 {
     let mut relation: u64 = 0;
-    for i in 0..64u64 {
-        if linked(x, y, i / 8, i % 8) {
-            relation = with(relation, i / 8, i % 8);
-        }
+    for i in 0..512u64 {
+        relation = with_linked(relation, x, y, i / 64, i / 8 % 8, i % 8);
     }
     relation
 }
 
-// The relation of the empty word.
+// The relation of the empty word: each state with itself.
 fn identity() -> u64 {
-    let mut relation: u64 = 0;
-    for a in 0..8u64 {
-        relation = with(relation, a, a);
+    0x8040201008040201
+}
+
+// The relation of a word that has letter i of a buffer besides; no letter stands past the end.
+fn with_letter(relation: u64, file: &[u8], buffer: &[u8], i: usize) -> u64 {
+    if i < buffer.len() {
+        return compose(relation, letter(file, wide(buffer[i])));
     }
     relation
 }
@@ -68,17 +74,20 @@ fn identity() -> u64 {
 pub fn word(file: &[u8], buffer: &[u8], size: usize) -> u64 {
     let mut relation = identity();
     for i in 0..size {
-        if i < buffer.len() {
-            relation = compose(relation, letter(file, wide(buffer[i])));
-        }
+        relation = with_letter(relation, file, buffer, i);
     }
     relation
+}
+
+// Record r is a final state, and a pair leads to it from state 0.
+fn accepting(file: &[u8], relation: u64, r: usize) -> bool {
+    (byte(file, r, 0) == 3) & has(relation, 0, byte(file, r, 1))
 }
 
 // No pair leads from state 0 to a final state.
 fn rejecting(file: &[u8], relation: u64) -> bool {
     for r in 0..24usize {
-        if (byte(file, r, 0) == 3) & has(relation, 0, byte(file, r, 1)) {
+        if accepting(file, relation, r) {
             return false;
         }
     }
@@ -87,14 +96,20 @@ fn rejecting(file: &[u8], relation: u64) -> bool {
 
 // ---- the list
 
+// Pair i of the list, which has at most 512.
+fn pair_at(found: &[[u64; 2]; 512], i: usize) -> [u64; 2] {
+    found[i % 512]
+}
+
+fn same_pair(x: [u64; 2], y: [u64; 2]) -> bool {
+    (x[0] == y[0]) & (x[1] == y[1])
+}
+
 // The pair is among the first ones, of which there are so many.
-pub fn listed(found: &[[u64; 2]; 512], count: usize, symbol: u64, relation: u64) -> bool {
+pub fn listed(found: &[[u64; 2]; 512], count: usize, pair: [u64; 2]) -> bool {
     for i in 0..count {
-        if i < 512 {
-            let pair = found[i];
-            if (pair[0] == symbol) & (pair[1] == relation) {
-                return true;
-            }
+        if same_pair(pair_at(found, i), pair) {
+            return true;
         }
     }
     false
@@ -102,7 +117,7 @@ pub fn listed(found: &[[u64; 2]; 512], count: usize, symbol: u64, relation: u64)
 
 // Puts a pair on the list where it is new, and says how many there are then.
 fn add(found: &mut [[u64; 2]; 512], count: usize, symbol: u64, relation: u64) -> usize {
-    if listed(found, count, symbol, relation) {
+    if listed(found, count, [symbol, relation]) {
         return count;
     }
     if count < 512 {
@@ -150,16 +165,6 @@ fn begin(found: &mut [[u64; 2]; 512], count: usize, file: &[u8], rule: Rule) -> 
     add_letter(found, more, file, rule.second)
 }
 
-fn begin_all(found: &mut [[u64; 2]; 512], file: &[u8]) -> usize {
-    let mut count: usize = 0;
-    for r in 0..24usize {
-        if byte(file, r, 0) == 1 {
-            count = begin(found, count, file, read_rule(file, r));
-        }
-    }
-    count
-}
-
 // The rule's head with the composition of two relations, where their symbols are those of the body.
 fn spelled(
     found: &mut [[u64; 2]; 512],
@@ -174,7 +179,20 @@ fn spelled(
     count
 }
 
-// A body of two symbols: a pair of the list with each of the first ones, of which there are so many, in both orders.
+// A body of two symbols: a pair of the list with pair j, in both orders.
+fn spelled_both(
+    found: &mut [[u64; 2]; 512],
+    count: usize,
+    rule: Rule,
+    pair: [u64; 2],
+    j: usize,
+) -> usize {
+    let other = pair_at(found, j);
+    let more = spelled(found, count, rule, pair, other);
+    spelled(found, more, rule, other, pair)
+}
+
+// The same with each of the first pairs, of which there are so many.
 fn spelled_with(
     found: &mut [[u64; 2]; 512],
     count: usize,
@@ -184,11 +202,7 @@ fn spelled_with(
 ) -> usize {
     let mut count = count;
     for j in 0..firsts {
-        if j < 512 {
-            let other = found[j];
-            count = spelled(found, count, rule, pair, other);
-            count = spelled(found, count, rule, other, pair);
-        }
+        count = spelled_both(found, count, rule, pair, j);
     }
     count
 }
@@ -208,23 +222,40 @@ fn by_rule(found: &mut [[u64; 2]; 512], count: usize, rule: Rule, k: usize) -> u
     count
 }
 
-// What the rules of the file give with pair k of the list and those before it.
-fn by_rules(found: &mut [[u64; 2]; 512], count: usize, file: &[u8], k: usize) -> usize {
+// What record r gives at a turn, where it is a rule: at turn 0 what begin puts on the list, and at turn k + 1 what the rule gives with
+// pair k and those before it.
+fn by_record(
+    found: &mut [[u64; 2]; 512],
+    count: usize,
+    file: &[u8],
+    turn: usize,
+    r: usize,
+) -> usize {
+    if byte(file, r, 0) != 1 {
+        return count;
+    }
+    let rule = read_rule(file, r);
+    if turn == 0 {
+        return begin(found, count, file, rule);
+    }
+    by_rule(found, count, rule, turn - 1)
+}
+
+// What the records of the file give at a turn.
+fn by_records(found: &mut [[u64; 2]; 512], count: usize, file: &[u8], turn: usize) -> usize {
     let mut count = count;
     for r in 0..24usize {
-        if byte(file, r, 0) == 1 {
-            count = by_rule(found, count, read_rule(file, r), k);
-        }
+        count = by_record(found, count, file, turn, r);
     }
     count
 }
 
 // Lists every symbol with every relation of its words, and says how many pairs these are. Where the list is full, some may be missing.
 pub fn search(file: &[u8], found: &mut [[u64; 2]; 512]) -> usize {
-    let mut count = begin_all(found, file);
-    for k in 0..512usize {
-        if k < count {
-            count = by_rules(found, count, file, k);
+    let mut count: usize = 0;
+    for turn in 0..513usize {
+        if turn <= count {
+            count = by_records(found, count, file, turn);
         }
     }
     count
@@ -237,23 +268,26 @@ pub struct Verdict {
     pub relations: u64,
 }
 
-pub fn decide(file: &[u8], found: &[[u64; 2]; 512], count: usize) -> Verdict {
-    let mut words = false;
-    let mut broken = false;
-    let mut relations: u64 = 0;
-    for i in 0..count {
-        if i < 512 {
-            let pair = found[i];
-            words = words | (pair[0] == 128);
-            broken = broken | ((pair[0] == 128) & rejecting(file, pair[1]));
-            if 128 <= pair[0] {
-                relations = std::num::wrapping_add_u64(relations, 1);
-            }
-        }
+// What a list says that has one pair more.
+fn with_pair(said: Verdict, file: &[u8], pair: [u64; 2]) -> Verdict {
+    if pair[0] < 128 {
+        return said;
     }
     Verdict {
-        words,
-        broken,
-        relations,
+        words: said.words | (pair[0] == 128),
+        broken: said.broken | ((pair[0] == 128) & rejecting(file, pair[1])),
+        relations: std::num::wrapping_add_u64(said.relations, 1),
     }
+}
+
+pub fn decide(file: &[u8], found: &[[u64; 2]; 512], count: usize) -> Verdict {
+    let mut said = Verdict {
+        words: false,
+        broken: false,
+        relations: 0,
+    };
+    for i in 0..count {
+        said = with_pair(said, file, pair_at(found, i));
+    }
+    said
 }

@@ -1,91 +1,104 @@
 // The rows that a check leaves, held against the list of the unpruned search and against those in another journal.
 
-// Each used row has a relation that is on the list for its nonterminal.
-pub fn listed(journal: &[[u64; 8]], used: usize, found: &[[u64; 2]; 512], count: usize) -> bool {
-    for i in 0..used {
-        if i < journal.len() {
-            let row = journal[i];
-            if !crate::listed(found, count, 128 + row[0] % 64, row[2]) {
-                return false;
-            }
-        }
-    }
-    true
+// The pair of the list that a row stands for.
+fn pair_of(row: [u64; 8]) -> [u64; 2] {
+    [128 + row[0] % 64, row[2]]
 }
 
-// Some live row but the one left out is of the pair's symbol, and its relation is contained in the pair's.
+// A live row is of the pair's symbol, and its relation is contained in the pair's.
+fn below(row: [u64; 8], pair: [u64; 2]) -> bool {
+    let own = pair_of(row);
+    (row[7] == 0) & (own[0] == pair[0]) & ((own[1] | pair[1]) == pair[1])
+}
+
+// Row i is below the pair; no row stands past the end.
+fn below_at(journal: &[[u64; 8]], i: usize, pair: [u64; 2]) -> bool {
+    if i < journal.len() {
+        let row = journal[i];
+        return below(row, pair);
+    }
+    false
+}
+
+// Some row but the one left out is below the pair.
 fn has_below(journal: &[[u64; 8]], used: usize, left_out: usize, pair: [u64; 2]) -> bool {
     for i in 0..used {
-        if i < journal.len() {
-            let row = journal[i];
-            let below = (128 + row[0] % 64 == pair[0]) & ((row[2] | pair[1]) == pair[1]);
-            if below & (row[7] == 0) & (i != left_out) {
-                return true;
-            }
+        if (i != left_out) & below_at(journal, i, pair) {
+            return true;
         }
     }
     false
 }
 
+// Row i has a relation that is on the list for its nonterminal, and a live one has no other below it.
+fn sound_at(
+    journal: &[[u64; 8]],
+    used: usize,
+    i: usize,
+    found: &[[u64; 2]; 512],
+    count: usize,
+) -> bool {
+    if journal.len() <= i {
+        return true;
+    }
+    let row = journal[i];
+    let pair = pair_of(row);
+    crate::listed(found, count, pair) & ((row[7] != 0) | !has_below(journal, used, i, pair))
+}
+
+// The used rows have relations that are on the list, and the live ones are an antichain.
+pub fn sound(journal: &[[u64; 8]], used: usize, found: &[[u64; 2]; 512], count: usize) -> bool {
+    for i in 0..used {
+        if !sound_at(journal, used, i, found, count) {
+            return false;
+        }
+    }
+    true
+}
+
+// A pair of a nonterminal has a live row below it.
+fn covered(journal: &[[u64; 8]], used: usize, pair: [u64; 2]) -> bool {
+    (pair[0] < 128) | has_below(journal, used, used, pair)
+}
+
 // Each relation on the list of a nonterminal has a live row below it.
 pub fn covering(journal: &[[u64; 8]], used: usize, found: &[[u64; 2]; 512], count: usize) -> bool {
     for i in 0..count {
-        if i < 512 {
-            let pair = found[i];
-            if (128 <= pair[0]) & !has_below(journal, used, used, pair) {
-                return false;
-            }
-        }
-    }
-    true
-}
-
-// No live row has another one of its nonterminal below it.
-pub fn antichain(journal: &[[u64; 8]], used: usize) -> bool {
-    for i in 0..used {
-        if i < journal.len() {
-            let row = journal[i];
-            let pair = [128 + row[0] % 64, row[2]];
-            if (row[7] == 0) & has_below(journal, used, i, pair) {
-                return false;
-            }
-        }
-    }
-    true
-}
-
-fn same_row(x: [u64; 8], y: [u64; 8]) -> bool {
-    for k in 0..8usize {
-        if x[k] != y[k] {
+        if !covered(journal, used, crate::pair_at(found, i)) {
             return false;
         }
     }
     true
 }
 
-// The used rows of two journals are the same.
-pub fn same(one: &[[u64; 8]], other: &[[u64; 8]], used: usize) -> bool {
-    for i in 0..used {
-        if one.len() <= i {
-            return false;
-        }
-        if other.len() <= i {
-            return false;
-        }
-        let x = one[i];
-        let y = other[i];
-        if !same_row(x, y) {
-            return false;
-        }
-    }
-    true
+pub fn same_row(x: [u64; 8], y: [u64; 8]) -> bool {
+    (x[0] == y[0])
+        & (x[1] == y[1])
+        & (x[2] == y[2])
+        & (x[3] == y[3])
+        & (x[4] == y[4])
+        & (x[5] == y[5])
+        & (x[6] == y[6])
+        & (x[7] == y[7])
 }
 
-// The rows past the used ones have their old contents.
-pub fn untouched(journal: &[[u64; 8]], used: usize, old: [u64; 8]) -> bool {
-    for i in used..journal.len() {
-        let row = journal[i];
-        if !same_row(row, old) {
+// Both journals have a row i, and the two are the same.
+fn same_at(one: &[[u64; 8]], other: &[[u64; 8]], i: usize) -> bool {
+    if one.len() <= i {
+        return false;
+    }
+    if other.len() <= i {
+        return false;
+    }
+    let x = one[i];
+    let y = other[i];
+    same_row(x, y)
+}
+
+// The rows of two journals from one row on and before another are the same.
+pub fn same(one: &[[u64; 8]], other: &[[u64; 8]], from: usize, end: usize) -> bool {
+    for i in from..end {
+        if !same_at(one, other, i) {
             return false;
         }
     }

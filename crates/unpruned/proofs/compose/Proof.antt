@@ -1,26 +1,11 @@
--- `unpruned::compose` is safe and ends: the measure is what is left of the range, nothing has to hold from turn to turn, and
--- each need is found by `search`. Assumes nothing.
+-- `unpruned::compose` is safe and ends: the measure is what is left of the range, and nothing has to hold from turn to turn. Assumes nothing.
 use Prim.Native.Nat.{_-_}
-use borrow.Author.Needs.{needs}
+use native.Mathlib.Omega.{arith}
 use Rattle.unpruned.proofs.compose.Statement.{statement}
 use Rattle.unpruned.proofs.compose.Tie as tie
 
-abbrev Inv-loop : tie.InvT-loop
-Inv-loop x y relation₀ i₀ relation i = Unit {0}
-
 abbrev μ-loop : tie.MeasureT-loop
-μ-loop x y relation₀ i₀ relation i = 64 - i
+μ-loop x y relation₀ i₀ relation i = 512 - i
 
 pub compose-spec : {M : Type 1} → statement M
-compose-spec =
-    tie.close
-    (tie.spec
-    Inv-loop
-    μ-loop
-    (λ c. search needs)
-    (λ c κs. search needs)
-    (λ c κs. search needs)
-    (λ c. search needs)
-    (λ c. search needs)
-    (λ c. search needs)
-    (λ c. search needs))
+compose-spec = tie.close (tie.spec (λ x y relation₀ i₀ relation i. Unit {0}) μ-loop (λ c. tt) (λ c κs. tt) (λ c. omega arith) (λ c. omega arith) (λ c. tt) (λ c. tt))

@@ -1,29 +1,11 @@
--- `unpruned::letter` is safe and ends: the measure is what is left of the range, nothing has to hold from turn to turn, and
--- each need is found by `search`. Assumes nothing.
+-- `unpruned::letter` is safe and ends: the measure is what is left of the range, and nothing has to hold from turn to turn. Assumes nothing.
 use Prim.Native.Nat.{_-_}
-use borrow.Author.Needs.{needs}
+use native.Mathlib.Omega.{arith}
 use Rattle.unpruned.proofs.letter.Statement.{statement}
 use Rattle.unpruned.proofs.letter.Tie as tie
-
-abbrev Inv-loop : tie.InvT-loop
-Inv-loop file code relation₀ r₀ relation r = Unit {0}
 
 abbrev μ-loop : tie.MeasureT-loop
 μ-loop file code relation₀ r₀ relation r = 24 - r
 
 pub letter-spec : {M : Type 1} → statement M
-letter-spec =
-    tie.close
-    (tie.spec
-    Inv-loop
-    μ-loop
-    (λ c. search needs)
-    (λ c κs. search needs)
-    (λ c κs. search needs)
-    (λ c κs. search needs)
-    (λ c κs. search needs)
-    (λ c κs. search needs)
-    (λ c. search needs)
-    (λ c. search needs)
-    (λ c. search needs)
-    (λ c. search needs))
+letter-spec = tie.close (tie.spec (λ file code relation₀ r₀ relation r. Unit {0}) μ-loop (λ c. tt) (λ c κs. tt) (λ c. omega arith) (λ c. omega arith) (λ c. tt) (λ c. tt))

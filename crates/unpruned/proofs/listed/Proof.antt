@@ -1,29 +1,11 @@
--- `unpruned::listed` is safe and ends: the measure is what is left of the range, nothing has to hold from turn to turn, and
--- each need is found by `search`. Assumes nothing.
+-- `unpruned::listed` is safe and ends: the measure is what is left of the range, and nothing has to hold from turn to turn. Assumes nothing.
 use Prim.Native.Nat.{_-_}
-use borrow.Author.Needs.{needs}
+use native.Mathlib.Omega.{arith}
 use Rattle.unpruned.proofs.listed.Statement.{statement}
 use Rattle.unpruned.proofs.listed.Tie as tie
 
-abbrev Inv-loop : tie.InvT-loop
-Inv-loop found count symbol relation i₀ i = Unit {0}
-
 abbrev μ-loop : tie.MeasureT-loop
-μ-loop found count symbol relation i₀ i = count - i
+μ-loop found count pair i₀ i = count - i
 
 pub listed-spec : {M : Type 1} → statement M
-listed-spec =
-    tie.close
-    (tie.spec
-    Inv-loop
-    μ-loop
-    (λ c. search needs)
-    (λ c. search needs)
-    (λ c. search needs)
-    (λ c. search needs)
-    (λ c. search needs)
-    (λ c. search needs)
-    (λ c. search needs)
-    (λ c. search needs)
-    (λ c. search needs)
-    (λ c. search needs))
+listed-spec = tie.close (tie.spec (λ found count pair i₀ i. Unit {0}) μ-loop (λ c. tt) (λ c κs. tt) (λ c κs. tt) (λ c. tt) (λ c. omega arith) (λ c. omega arith) (λ c. tt) (λ c. tt))

@@ -1,28 +1,11 @@
--- `unpruned::rejecting` is safe and ends: the measure is what is left of the range, nothing has to hold from turn to turn, and
--- each need is found by `search`. Assumes nothing.
+-- `unpruned::rejecting` is safe and ends: the measure is what is left of the range, and nothing has to hold from turn to turn. Assumes nothing.
 use Prim.Native.Nat.{_-_}
-use borrow.Author.Needs.{needs}
+use native.Mathlib.Omega.{arith}
 use Rattle.unpruned.proofs.rejecting.Statement.{statement}
 use Rattle.unpruned.proofs.rejecting.Tie as tie
-
-abbrev Inv-loop : tie.InvT-loop
-Inv-loop file relation r₀ r = Unit {0}
 
 abbrev μ-loop : tie.MeasureT-loop
 μ-loop file relation r₀ r = 24 - r
 
 pub rejecting-spec : {M : Type 1} → statement M
-rejecting-spec =
-    tie.close
-    (tie.spec
-    Inv-loop
-    μ-loop
-    (λ c. search needs)
-    (λ c κs. search needs)
-    (λ c κs. search needs)
-    (λ c κs. search needs)
-    (λ c. search needs)
-    (λ c. search needs)
-    (λ c. search needs)
-    (λ c. search needs)
-    (λ c. search needs))
+rejecting-spec = tie.close (tie.spec (λ file relation r₀ r. Unit {0}) μ-loop (λ c. tt) (λ c κs. tt) (λ c. tt) (λ c. omega arith) (λ c. omega arith) (λ c. tt) (λ c. tt))

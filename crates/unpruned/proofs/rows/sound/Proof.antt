@@ -1,0 +1,11 @@
+-- `unpruned::rows::sound` is safe and ends: the measure is what is left of the range, and nothing has to hold from turn to turn. Assumes nothing.
+use Prim.Native.Nat.{_-_}
+use native.Mathlib.Omega.{arith}
+use Rattle.unpruned.proofs.rows.sound.Statement.{statement}
+use Rattle.unpruned.proofs.rows.sound.Tie as tie
+
+abbrev μ-loop : tie.MeasureT-loop
+μ-loop journal used found count i₀ i = used - i
+
+pub sound-spec : {M : Type 1} → statement M
+sound-spec = tie.close (tie.spec (λ journal used found count i₀ i. Unit {0}) μ-loop (λ c. tt) (λ c κs. tt) (λ c. tt) (λ c. omega arith) (λ c. omega arith) (λ c. tt) (λ c. tt))

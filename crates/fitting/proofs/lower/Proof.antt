@@ -4,13 +4,6 @@ use Rattle.fitting.specs.ByValue.{lowerOf}
 use Rattle.fitting.proofs.lower.Statement.{statement}
 use Rattle.fitting.proofs.lower.Tie as tie
 
-returns : tie.Need-returns
-unfolding lowerOf
-returns c = simp (lt-ltb _ _ (c .if1 .taken))
-
-returns-2 : tie.Need-returns-2
-unfolding lowerOf
-returns-2 c = simp (le-ltb _ _ (c .if1 .left))
-
 pub lower-spec : {M : Type 1} → statement M
-lower-spec = tie.close (tie.spec returns returns-2)
+unfolding lowerOf
+lower-spec = tie.close (tie.spec (λ c. simp (lt-ltb _ _ (c .if1 .taken))) (λ c. simp (le-ltb _ _ (c .if1 .left))))

@@ -19,30 +19,9 @@ abbrev μ-loop : tie.MeasureT-loop
 loop-holds : tie.Need-loop-holds Inv-loop μ-loop
 loop-holds c = (omega arith, sym (upTo-none states _ _))
 
-cast-column : tie.Need-cast-column Inv-loop μ-loop
-cast-column c = omega arith
-
-shr-column : tie.Need-shr-column Inv-loop μ-loop
-shr-column c = omega arith
-
-mul-row : tie.Need-mul-row Inv-loop μ-loop
-mul-row c = omega arith
-
-cast-row : tie.Need-cast-row Inv-loop μ-loop
-cast-row c = omega arith
-
-shr-row : tie.Need-shr-row Inv-loop μ-loop
-shr-row c = omega arith
-
 mul-bits : tie.Need-mul-bits Inv-loop μ-loop
 unfolding through column rows
 mul-bits c = record { fits = through-lt states (c .before .loop .m) _ _ (omega arith) }
-
-add-m : tie.Need-add-m Inv-loop μ-loop
-add-m c = omega arith
-
-loop-less : tie.Need-loop-less Inv-loop μ-loop
-loop-less c = omega arith
 
 loop-again : tie.Need-loop-again Inv-loop μ-loop
 unfolding through column rows
@@ -63,18 +42,4 @@ returns c =
 
 pub compose-spec : {M : Type 1} → statement M
 compose-spec =
-    tie.close
-    (tie.spec
-    Inv-loop
-    μ-loop
-    loop-holds
-    cast-column
-    shr-column
-    mul-row
-    cast-row
-    shr-row
-    mul-bits
-    add-m
-    loop-less
-    loop-again
-    returns)
+    tie.close (tie.spec Inv-loop μ-loop loop-holds (λ c. omega arith) (λ c. omega arith) (λ c. omega arith) (λ c. omega arith) (λ c. omega arith) mul-bits (λ c. omega arith) (λ c. omega arith) loop-again returns)

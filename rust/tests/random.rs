@@ -103,6 +103,25 @@ fn around_the_answer() {
     }
 }
 
+/// Every budget up to the joins of an answer, so that it runs out at each candidate once, also at those that the pass before formed.
+#[test]
+fn every_budget() {
+    let mut numbers = Numbers::new(20);
+    let mut late = 0;
+    for round in 0..400 {
+        let file = valid_file(&mut numbers, [TINY, SMALL][round % 2]);
+        let (_, details) = ordinary(&file);
+        let [_, joins, _, pass, ..] = details;
+        if joins <= 400 {
+            for budget in 0..=joins {
+                checking(&file, 1_024, budget, 40);
+            }
+            late += usize::from(pass > 3);
+        }
+    }
+    assert!(late > 20, "{late}");
+}
+
 /// A shown run is turned away, and it stays the shown one with any room that suffices.
 #[test]
 fn shown_runs() {

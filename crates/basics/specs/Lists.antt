@@ -4,10 +4,10 @@ use mathlib.Core.Logic.{_⊎_, inl, inr}
 use mathlib.Core.Bool.{Bool, true, false, _||_, false≢true, or-assoc}
 use mathlib.Core.List.{List, [], _∷_, _++_, map}
 use Prim.Native.Nat.{ℕ, zero, suc, _+_, _-_, _*_, _≤_, _<_, suc-le-suc, zero-le}
-use native.Mathlib.Nat.{add-zero, zero-lt-suc, le-trans, le-of-eq, add-le-add, suc-mul, not-suc-le-zero, le-of-suc-le-suc}
+use native.Mathlib.Nat.{zero-lt-suc, le-trans, le-of-eq, add-le-add, suc-mul, not-suc-le-zero, le-of-suc-le-suc}
 use native.Mathlib.Omega.{arith}
 use lib.ListN.{length, getD, take, drop, length-append}
-use lib.Seq.{getD-drop, drop-drop}
+use lib.Seq.{drop-drop}
 use Rattle.basics.specs.Tests.{or-right}
 
 -- ---- definitions
@@ -66,12 +66,6 @@ module _ {A : Type 0} where
   getD-in d (x ∷ xs) (suc i) h = inr (getD-in d xs i (le-of-suc-le-suc h))
 
   -- ---- the rest of a list
-
-  -- lists with the same rest from i on have the same element i
-  pub drop-at-same : (d : A) (i : ℕ) (xs ys : List A) → drop i xs ≡ drop i ys → getD xs i d ≡ getD ys i d
-  drop-at-same d i xs ys e =
-      ap (λ (k : ℕ). getD xs k d) (sym (add-zero i)) ∙ sym (getD-drop i xs 0 d) ∙ ap (λ (l : List A). getD l 0 d) e
-      ∙ getD-drop i ys 0 d ∙ ap (λ (k : ℕ). getD ys k d) (add-zero i)
 
   -- and the same rest from any later element on
   pub drop-later-same : (i k : ℕ) (xs ys : List A) → i ≤ k → drop i xs ≡ drop i ys → drop k xs ≡ drop k ys

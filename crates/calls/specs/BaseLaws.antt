@@ -2,7 +2,7 @@
 -- Assumes nothing.
 use mathlib.Core.Path.{_≡_, refl, sym, ap, ap₂, _∙_, subst}
 use mathlib.Core.Logic.{inl}
-use mathlib.Core.Bool.{true}
+use mathlib.Core.Bool.{Bool, true}
 use mathlib.Core.List.{List, [], _∷_, _++_, append-nil}
 use Prim.Native.Nat.{ℕ, zero, suc}
 use lib.ListN.{length-append}
@@ -21,19 +21,23 @@ use Rattle.working_order.specs.Derivation.{Values, SymbolGives, Gives, Yields}
 use Rattle.working_order.specs.Carrying.{Along, yields-along}
 use Rattle.working_order.specs.Completeness.{effectValues}
 use Rattle.working_order.specs.Soundness.{spelledValues, Sizes}
-use Rattle.calls.specs.Base.{starts, base, words}
+use Rattle.calls.specs.Base.{starts, baseBy, base, words}
 
-pub base-laws : (n : ℕ) (A : Automaton) → Laws (base n A)
-base-laws n A =
+-- whatever the relations of the terminals and the final states
+pub base-by-laws : (n : ℕ) (letter : ℕ → ℕ) (final : ℕ → Bool) → Laws (baseBy n letter (rejects n final))
+base-by-laws n letter final =
     record {
       below-refl = subset-refl;
       below-trans = subset-trans;
       pair-below = λ x x′ y y′ p q e m.
           (compose n x y, inl refl, subst (λ (z : ℕ). contained (compose n x y) z ≡ true) (sym (in-one e (compose n x′ y′) m)) (compose-mono n x x′ y y′ p q));
       breaks-below = λ x d e s b.
-          and-intro (starts x) (rejects n (isFinal A) d) (and-fst (starts x) (rejects n (isFinal A) e) b)
-          (rejects-contained n (isFinal A) d e s (and-snd (starts x) (rejects n (isFinal A) e) b));
+          and-intro (starts x) (rejects n final d) (and-fst (starts x) (rejects n final e) b)
+          (rejects-contained n final d e s (and-snd (starts x) (rejects n final e) b));
     }
+
+pub base-laws : (n : ℕ) (A : Automaton) → Laws (base n A)
+base-laws n A = base-by-laws n (letterRelation n (A .transitions)) (isFinal A)
 
 pub word-sizes : Sizes words
 word-sizes = record { of-nothing = refl; of-single = λ c. refl; of-joined = λ e u v. length-append u v }

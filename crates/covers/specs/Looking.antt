@@ -7,8 +7,7 @@ use Prim.Native.Nat.{ℕ, suc, _≤_, _<_, suc-le-suc}
 use native.Mathlib.Nat.{zero-lt-suc}
 use native.Mathlib.Omega.{arith}
 use lib.Dec.{ltb}
-use lib.ListN.{length, getD, set}
-use lib.Seq.{getD-set-other}
+use lib.ListN.{length, getD}
 use borrow.Author.Tests.{ltb-true, ltb-false}
 use Rattle.basics.specs.Tests.{or-neither}
 use Rattle.basics.specs.Lists.{any, any-at, getD-in}
@@ -18,22 +17,13 @@ use Rattle.working_order.specs.Order.{dropped, larger}
 use Rattle.calls.specs.Rows.{rowOf, blank}
 use Rattle.rows.specs.Base.{Row, Candidate}
 use Rattle.rows.specs.Forming.{isBelow}
-use Rattle.places.specs.Lists.{rowCells, heads, end, headCell, rowIn}
+use Rattle.places.specs.Lists.{heads, end, headCell, rowIn}
 use Rattle.covers.specs.Covers.{Cell, Reach, Covering, Free}
-use Rattle.covers.specs.CoverLaws.{below-or-last, cell-bound}
+use Rattle.covers.specs.CoverLaws.{below-or-last}
 
 any-none : (f : Row → Bool) (d : Row) (rows : List Row) → ((i : ℕ) → i < length rows → f (getD rows i d) ≡ false) → any f rows ≡ false
 any-none f d [] h = refl
 any-none f d (r ∷ rows) h = ap (λ (b : Bool). b || any f rows) (h 0 (zero-lt-suc (length rows))) ∙ any-none f d rows (λ i l. h (suc i) (suc-le-suc l))
-
--- another hint changes nothing of it
-pub free-hint : (c : Candidate) (rows : List Row) (covers : List ℕ) (cell : ℕ) (some : Bool) (p v : ℕ) → c .head < heads → length rows ≤ rowCells → headCell heads ≤ p → Free c rows covers cell some → Free c rows (set covers p v) cell some
-free-hint c rows covers cell some p v hh l h f =
-    let z = f .last in
-    record {
-      last = record { from = z .from; is = z .is; last = getD-set-other covers p cell v 0 (λ e. omega (arith, e, h, cell-bound (c .head) rows cell (z .from) hh l (z .is))) ∙ z .last };
-      small = f .small;
-    }
 
 -- no row below v covers the candidate, none is larger unless the flag is set, and the cell leads to row v
 pub record Unseen (c : Candidate) (rows : List Row) (covers : List ℕ) (v cell : ℕ) (some : Bool) : Type 0 where

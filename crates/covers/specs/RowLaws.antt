@@ -5,7 +5,7 @@ use Prim.Native.Nat.{ℕ, _+_, _≤_, _<_}
 use native.Mathlib.Numerals.{add-one}
 use native.Mathlib.Omega.{arith}
 use lib.ListN.{length, getD, take, set, length-map, List·getD-map}
-use lib.Seq.{length-take-le, take-suc, take-suc-set, drop-set-lt, getD-take}
+use lib.Seq.{length-take-le, take-suc-set, drop-set-lt, getD-take}
 use Rattle.basics.specs.Lists.{drop-later-same}
 use Rattle.calls.specs.Rows.{rowOf, blank}
 use Rattle.calls.specs.declared.Row.{Row as LentRow}
@@ -23,11 +23,6 @@ rows-at u j i h = List·getD-map rowOf (take u j) i blank ∙ ap rowOf (getD-tak
 pub rows-none : (j : Journal) → firstRows 0 j ≡ []
 unfolding firstRows
 rows-none j = refl
-
-pub rows-next : (j : Journal) (i : ℕ) → i < length j → firstRows (i + 1) j ≡ firstRows i j ++ (rowOf (getD j i blank) ∷ [])
-unfolding firstRows
-rows-next j i h =
-    ap (λ (n : ℕ). map rowOf (take n j)) (add-one i) ∙ ap (map rowOf) (take-suc j i blank h) ∙ map-append rowOf (take i j) (getD j i blank ∷ [])
 
 rows-set-next : (j : Journal) (i : ℕ) (xs : LentRow) → i < length j → firstRows (i + 1) (set j i xs) ≡ firstRows i j ++ (rowOf xs ∷ [])
 unfolding firstRows

@@ -27,12 +27,14 @@ pub struct Counts {
     pub joins: u64,
 }
 
-// What stands fast in a pass: the joins that may be made, the final states, the number of the pass, the rows used when it began.
+// What stands fast in a pass: the joins that may be made, the final states, the number of the pass, the rows used when it began and when
+// the pass before began.
 pub struct Terms {
     pub budget: u64,
     pub finals: u8,
     pub pass: u64,
     pub start: usize,
+    pub before: usize,
 }
 
 // The search stands at a place, whose two rows are left and right, over a journal of so many rows and so many rules; or it has ended with a

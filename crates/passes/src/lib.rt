@@ -5,64 +5,27 @@ use deciding::State;
 use deciding::Terms;
 use rows::Candidate;
 use rows::Place;
+use semi_naive::END;
 use standing::HOLDS;
 use verdicts::Outcome;
-ghost use Prim.Native.Nat.{_≤_};
-ghost use mathlib.Core.Path.{_≡_};
-ghost use lib.ListN.{length, take};
-ghost use Rattle.places.specs.Lists.{end, afterIn};
-ghost use Rattle.places.specs.Places as places;
-ghost use Rattle.covers.specs.Covers.{tableCells, listsIn};
-ghost use Rattle.verdicts.specs.Running.{MayOpen, Opens, MayGoOn, Closes, GoesOn, MayAdvance, Advances};
+use verdicts::Reached;
+ghost use Rattle.verdicts.specs.Running.{MayOpen, Opens, MayGoOn, Closes, GoesFrom, GoesOn, MayAdvance, Advances};
 
-// Where the table has the lists of the pass (crate covers).
-const LISTS: usize = 41472;
-
-// No position is left (crate places).
-const END: usize = 65536;
-
-// The first place of the pass.
-fn first_in(rules: &[[u8; 4]], table: &[u32], n: usize) -> Place
-    requires { ⌜ (length (now table) ≡ tableCells) × (n ≤ length (now rules)) ⌝ }
-    ensures { λ p. ⌜ places.Opens (listsIn (now (table .entry))) (take n (now (rules .entry))) 0 p ⌝ }
-{
-    places::first_place(&table[LISTS..], &rules[..n], 0)
-}
-
-// The right position after that of the place.
-fn right_in(table: &[u32], place: Place) -> usize
-    requires { ⌜ length (now table) ≡ tableCells ⌝ }
-    ensures { λ r. ⌜ r ≡ afterIn (listsIn (now (table .entry))) (place .right) ⌝ }
-{
-    places::after(&table[LISTS..], place.right)
-}
-
-// The place after this one, which has no right position after it.
-fn next_in(rules: &[[u8; 4]], table: &[u32], n: usize, place: Place) -> Place
-    requires { ⌜ (length (now table) ≡ tableCells) × (n ≤ length (now rules)) × (afterIn (listsIn (now table)) (place .right) ≡ end) ⌝ }
-    ensures { λ p. ⌜ places.Follows (listsIn (now (table .entry))) (take n (now (rules .entry))) place p ⌝ }
-{
-    places::next_row(&table[LISTS..], &rules[..n], place)
-}
-
-// A pass begins: the lists first, then its first place. Where it has none it adds no row.
+// A pass over n rules begins: the lists first, then its first place that needs work. The state is not here: a call that is handed one, or
+// gives one, made the compiler copy its padding for each candidate.
 pub fn open_pass(
     rules: &[[u8; 4]],
     table: &mut [u32],
-    state: State,
+    n: usize,
     terms: Terms,
     counts: Counts,
-) -> State
-    requires { ⌜ MayOpen (now rules) state counts (now table) ⌝ }
-    ensures { λ r. ⌜ Opens (now (rules .entry)) (now (table .entry)) state terms counts (now (table .exit)) r ⌝ }
+) -> Reached
+    requires { ⌜ MayOpen (now rules) n counts (now table) ⌝ }
+    ensures { λ r. ⌜ Opens (now (rules .entry)) (now (table .entry)) n terms counts (now (table .exit)) r ⌝ }
 {
     covers::gather(table, counts.used);
-    let n = state.rules;
-    let place = first_in(rules, table, n);
-    if place.rule < n {
-        return standing::stand_at(state, terms, counts, place);
-    }
-    standing::end_with(state, terms, counts, HOLDS, 0)
+    let place = semi_naive::first_in(rules, table, n);
+    semi_naive::pass_over(rules, table, n, terms, Reached { counts, place })
 }
 
 // A pass is over: it added no row and was the last, or the next begins.
@@ -80,19 +43,37 @@ fn close_pass(rules: &[[u8; 4]], table: &mut [u32], state: State, counts: Counts
         finals: terms.finals,
         pass: terms.pass + 1,
         start: used,
+        before: terms.start,
     };
-    open_pass(rules, table, state, next, counts)
+    let at = open_pass(rules, table, state.rules, next, counts);
+    standing::stand_or_hold(state, next, at)
 }
 
-// The place after this one, or the end of the pass.
+// From a place on to the first that needs work, or to the end of the pass.
+fn go_from(rules: &[[u8; 4]], table: &mut [u32], state: State, from: Reached) -> State
+    requires { ⌜ MayGoOn (now rules) state (from .counts) (now table) ⌝ }
+    ensures { λ r. ⌜ GoesFrom (now (rules .entry)) (now (table .entry)) state from (now (table .exit)) r ⌝ }
+{
+    let n = state.rules;
+    let terms = state.terms;
+    let at = semi_naive::pass_over(rules, table, n, terms, from);
+    let counts = at.counts;
+    let place = at.place;
+    if place.rule < n {
+        return standing::stand_at(state, terms, counts, place);
+    }
+    close_pass(rules, table, state, counts)
+}
+
+// The next place that needs work, or the end of the pass. The search stands at no place that needs none, and rows rise, so a right after
+// this one does.
 fn go_on(rules: &[[u8; 4]], table: &mut [u32], state: State, counts: Counts) -> State
     requires { ⌜ MayGoOn (now rules) state counts (now table) ⌝ }
     ensures { λ r. ⌜ GoesOn (now (rules .entry)) (now (table .entry)) state counts (now (table .exit)) r ⌝ }
 {
-    let n = state.rules;
     let terms = state.terms;
     let here = state.place;
-    let right = right_in(table, here);
+    let right = semi_naive::after_in(table, here.right);
     if right != END {
         let place = Place {
             rule: here.rule,
@@ -101,11 +82,8 @@ fn go_on(rules: &[[u8; 4]], table: &mut [u32], state: State, counts: Counts) -> 
         };
         return standing::stand_at(state, terms, counts, place);
     }
-    let place = next_in(rules, table, n, here);
-    if place.rule < n {
-        return standing::stand_at(state, terms, counts, place);
-    }
-    close_pass(rules, table, state, counts)
+    let place = semi_naive::next_row_in(rules, table, state.rules, here);
+    go_from(rules, table, state, Reached { counts, place })
 }
 
 // After a candidate: the next place, the next pass, or the end.

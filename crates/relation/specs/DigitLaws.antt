@@ -2,13 +2,13 @@
 use mathlib.Core.Path.{_≡_, refl, sym, ap, ap₂, _∙_, subst}
 use mathlib.Core.Logic.{_⊎_, inl, inr}
 use mathlib.Core.Bool.{Bool, true, false, _&&_, _||_, false≢true}
-use Prim.Native.Nat.{ℕ, zero, suc, _+_, _-_, _*_, _/_, _%_, _^_, _≤_, _<_, zero-le, suc-le-suc, min, max}
-use native.Mathlib.Nat.{le-refl, le-of-suc-le-suc, not-suc-le-zero, zero-lt-suc, mod-lt, pow-suc, eq-or-lt-of-le, mul-add-mod-self-right, mul-comm, lt-of-le-of-lt, lt-of-lt-of-le, le-of-lt, add-comm, add-zero, zero-mul, one-mul, div-eq-of-lt}
+use Prim.Native.Nat.{ℕ, zero, suc, _+_, _-_, _*_, _/_, _%_, _^_, _<_, zero-le, suc-le-suc, min, max}
+use native.Mathlib.Nat.{le-refl, le-of-suc-le-suc, not-suc-le-zero, zero-lt-suc, mod-lt, pow-suc, eq-or-lt-of-le, mul-add-mod-self-right, mul-comm, lt-of-le-of-lt, le-of-lt, add-zero, zero-mul, one-mul, div-eq-of-lt}
 use native.Mathlib.Omega.{arith}
 use native.Mathlib.Numerals.{add-one}
 use lib.Dec.{eqb, ltb}
 use lib.Arith.{digits-lt, lt-one, lt-of-le-ne}
-use lib.Pow.{pow-pos, pow-mono, pow-lt, shl-exact, shr-shr, high, low, field, mod-mod-pow, recompose}
+use lib.Pow.{pow-pos, pow-lt, shr-shr, high, low, field, mod-mod-pow, recompose}
 use lib.Bits.{bitAnd, bitOr, and-shr, and-step, or-shr, or-step, and-le-l, and-self, and-comm}
 use borrow.Author.Tests.{eqb-true, eqb-false, eq-eqb, ltb-true, ltb-false}
 use Rattle.basics.specs.Tests.{or-left, or-right}
@@ -222,30 +222,6 @@ some-same (suc m) f g h =
 
 -- ---- a loop that goes up and looks for a number
 
-pub some-next : (m : ℕ) (f : ℕ → Bool) → some m f ≡ false → f m ≡ false → some (m + 1) f ≡ false
-unfolding some
-some-next m f h e = ap (λ (x : ℕ). some x f) (add-one m) ∙ ap₂ (λ (a b : Bool). a || b) e h
-
 pub number-next : (m : ℕ) (f : ℕ → Bool) → number (m + 1) f ≡ digit (f m) * 2 ^ m + number m f
 unfolding number
 number-next m f = ap (λ (x : ℕ). number x f) (add-one m)
-
--- a digit is set by a sum: `r += 1 << m`, in a word of w digits
-pub number-on : (w m : ℕ) (f : ℕ → Bool) (r : ℕ) → m < w → f m ≡ true → r ≡ number m f → r + 1 * 2 ^ m % 2 ^ w ≡ number (m + 1) f
-number-on w m f r h t e =
-    ap₂ (λ (x y : ℕ). x + y) e (shl-exact {a = 1} 1 m w (le-refl 2) (omega arith))
-    ∙ add-comm (number m f) (1 * 2 ^ m)
-    ∙ ap (λ (b : Bool). digit b * 2 ^ m + number m f) (sym t)
-    ∙ sym (number-next m f)
-
-pub number-off : (m : ℕ) (f : ℕ → Bool) (r : ℕ) → f m ≡ false → r ≡ number m f → r ≡ number (m + 1) f
-number-off m f r t e =
-    e ∙ let z : number m f ≡ 0 * 2 ^ m + number m f = omega (arith, zero-mul (2 ^ m)) in z
-    ∙ ap (λ (b : Bool). digit b * 2 ^ m + number m f) (sym t) ∙ sym (number-next m f)
-
-pub number-fits : (w m : ℕ) (f : ℕ → Bool) → m ≤ w → number m f < 2 ^ w
-number-fits w m f h = lt-of-lt-of-le (number-lt m f) (pow-mono h)
-
--- the loop has looked at all
-pub some-done : (i m : ℕ) (f : ℕ → Bool) → i ≤ m → m ≤ i → some i f ≡ false → false ≡ some m f
-some-done i m f h l e = sym e ∙ ap (λ (x : ℕ). some x f) (let q : i ≡ m = omega arith in q)

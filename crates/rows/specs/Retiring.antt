@@ -1,11 +1,10 @@
 -- A row that a candidate outgrows retires, and another stays as it is. Assumes nothing.
-use mathlib.Core.Path.{_≡_, refl, sym, ap, _∙_}
-use mathlib.Core.Bool.{Bool, true, false, _&&_, cond, false≢true}
+use mathlib.Core.Path.{_≡_, refl, ap, _∙_}
+use mathlib.Core.Bool.{Bool, true, false, _&&_, cond}
 use Prim.Native.Nat.{ℕ, _<_}
 use native.Mathlib.Omega.{arith}
 use lib.Dec.{eqb}
 use borrow.Author.Tests.{ne-eqb}
-use Rattle.basics.specs.Tests.{and-fst, and-snd}
 use Rattle.relation.specs.Relation.{contained}
 use Rattle.working_order.specs.Journal.{live, liveOf}
 use Rattle.working_order.specs.Order.{larger, retire}
@@ -20,28 +19,6 @@ module _ (k : ℕ) (c : Candidate) (r : Row) where
   pub retire-no : larger contained c r ≡ false → retire contained k c r ≡ r
   unfolding retire
   retire-no e = ap (λ (b : Bool). retiredIn (cond b k (r .retired)) r) e
-
-  pub retire-head : retire contained k c r .head ≡ r .head
-  unfolding retire
-  retire-head = refl
-
-  larger-live : larger contained c r ≡ true → live r ≡ true
-  unfolding larger liveOf
-  larger-live e = and-snd (eqb (r .head) (c .head)) (live r) (and-fst (liveOf (c .head) r) _ e)
-
-  -- no row comes to life
-  pub retire-dead : (x : ℕ) → liveOf x r ≡ false → liveOf x (retire contained k c r) ≡ false
-  unfolding liveOf
-  retire-dead x d = by (larger contained c r) refl
-    where
-      other : live r ≡ true → (b : Bool) → (b && live r) ≡ false → b ≡ false
-      other v true e = absurd (false≢true (sym e ∙ v))
-      other v false e = refl
-
-      by : (b : Bool) → larger contained c r ≡ b → liveOf x (retire contained k c r) ≡ false
-      by true e =
-          ap (liveOf x) (retire-yes e) ∙ ap (λ (b : Bool). b && live (retiredIn k r)) (other (larger-live e) (eqb (r .head) x) d)
-      by false e = ap (liveOf x) (retire-no e) ∙ d
 
   -- a row that retired in a pass is live no more
   pub retire-gone : 0 < k → larger contained c r ≡ true → (x : ℕ) → liveOf x (retire contained k c r) ≡ false

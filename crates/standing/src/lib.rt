@@ -5,10 +5,11 @@ use deciding::Terms;
 use rows::Place;
 use verdicts::Answer;
 use verdicts::Outcome;
+use verdicts::Reached;
 use verdicts::Totals;
 ghost use mathlib.Core.Path.{_≡_};
 ghost use Rattle.verdicts.specs.Meanings.{totalsOf, answerIn};
-ghost use Rattle.verdicts.specs.States.{ended, standing, stoppedIn};
+ghost use Rattle.verdicts.specs.States.{ended, standing, opening, stoppedIn};
 
 // Verdicts of a search that has ended.
 pub const HOLDS: u8 = 1;
@@ -55,6 +56,7 @@ pub fn stand_at(state: State, terms: Terms, counts: Counts, place: Place) -> Sta
             finals: terms.finals,
             pass: terms.pass,
             start: terms.start,
+            before: terms.before,
         },
         counts,
         place,
@@ -63,6 +65,18 @@ pub fn stand_at(state: State, terms: Terms, counts: Counts, place: Place) -> Sta
         verdict: 0,
         broken: 0,
     }
+}
+
+// At the first place of a pass that needs work. Past the last rule there is none: the pass adds no row.
+pub fn stand_or_hold(state: State, terms: Terms, at: Reached) -> State
+    ensures { λ r. ⌜ r ≡ opening state terms at ⌝ }
+{
+    let counts = at.counts;
+    let place = at.place;
+    if place.rule < state.rules {
+        return stand_at(state, terms, counts, place);
+    }
+    end_with(state, terms, counts, HOLDS, 0)
 }
 
 // The search has stopped.

@@ -28,6 +28,8 @@ use Rattle.deciding.specs.declared.State.{State}
 use Rattle.deciding.specs.declared.Terms.{Terms}
 use Rattle.verdicts.specs.Passes.{pass-first}
 use Rattle.verdicts.specs.Running.{Stands, Running, MayOpen, Opens, Onward}
+use Rattle.verdicts.specs.States.{opening}
+use Rattle.verdicts.specs.declared.Reached.{Reached}
 use Rattle.tables.specs.Tables.{letterTable, RuleTable}
 use Rattle.tables.specs.LetterLaws.{letters-length}
 use Rattle.witness.proofs.Faults.{not-refused}
@@ -51,20 +53,21 @@ module _ (bs : List ℕ) (J : ℕ) where
     pub starts-refused : (letters : List ℕ) (rules : List (List ℕ)) (t : List ℕ) (r : Refusal) → refusalOf r ≡ refusalFor bs J → (r .number ≡ 0 → ⊥) → (s : State) → s ≡ waiting J 0 B 0 → Starts bs J B letters rules t (record { refusal = r; state = s })
     starts-refused letters rules t r e z s w = record { refusal = e; refused = λ _. ap (λ (x : State). x .going) w; begins = λ q. absurd (z q) }
 
-    pub may-open : (finals : ℕ) (before rules : List (List ℕ)) (n : ℕ) → RuleTable bs before rules n → (t : List ℕ) → t ≡ replicate tableCells end → (w : State) → w ≡ waiting J n B finals → MayOpen rules w (w .counts) t
+    pub may-open : (finals : ℕ) (before rules : List (List ℕ)) (n : ℕ) → RuleTable bs before rules n → (t : List ℕ) → t ≡ replicate tableCells end → (w : State) → w ≡ waiting J n B finals → MayOpen rules n (w .counts) t
     may-open finals before rules n en t et w ew =
-        subst (λ (x : State). MayOpen rules x (x .counts) t) (sym ew) (record { table = ap length et ∙ length-replicate tableCells end; count = rules-fit bs before rules n en; used = omega arith })
+        subst (λ (x : State). MayOpen rules n (x .counts) t) (sym ew) (record { table = ap length et ∙ length-replicate tableCells end; count = rules-fit bs before rules n en; used = omega arith })
 
     module _ (letters : List ℕ) (el : letters ≡ letterTable states (transitionsOf bs)) (finals : ℕ) (ef : finals ≡ number states (isFinal (automatonOf bs))) (before rules : List (List ℕ)) (n : ℕ) (en : RuleTable bs before rules n) (t t′ : List ℕ)
-        (et : t ≡ replicate tableCells end) (w : State) (ew : w ≡ waiting J n B finals) (s : State) (o : Opens rules t w (w .terms) (w .counts) t′ s) (r : Refusal) (e : refusalOf r ≡ refusalFor bs J) (z : r .number ≡ 0) where
+        (et : t ≡ replicate tableCells end) (w : State) (ew : w ≡ waiting J n B finals) (x : Reached) (o : Opens rules t n (w .terms) (w .counts) t′ x) (s : State) (es : s ≡ opening w (w .terms) x) (r : Refusal) (e : refusalOf r ≡ refusalFor bs J) (z : r .number ≡ 0) where
       quiet : (fault bs .number ≡ 0) × (journalFault J ≡ 0)
       quiet = none-refused bs J r e z
 
       opened : (j : Journal) → length j ≡ J → Onward letters (take n rules) finals B j (record { used = 0; joins = 0 }) s j t′
       opened j l =
           let k = journal-size J (quiet .1) in
-          subst (λ (x : State). Opens rules t x (x .terms) (x .counts) t′ s) ew o letters finals B j j 1 (record { all = omega (arith, ap length el, letters-length states (transitionsOf bs)); some = omega (arith, l, k .0); limit = omega (arith, l, k .1) }) (sym l) (pass-first letters (take n rules) finals B j) refl
-          (subst (λ (rows : List Row). Covering rows t) (sym (rows-none j)) (subst (Covering []) (sym et) covering-none))
+          subst (λ (y : State). Onward letters (take n rules) finals B j (record { used = 0; joins = 0 }) y j t′) (sym (es ∙ ap (λ (y : State). opening y (y .terms) x) ew))
+          (subst (λ (y : State). Opens rules t n (y .terms) (y .counts) t′ x) ew o letters finals B j j 1 0 (waiting J n B finals) refl (record { all = omega (arith, ap length el, letters-length states (transitionsOf bs)); some = omega (arith, l, k .0); limit = omega (arith, l, k .1) }) (sym l) (pass-first letters (take n rules) finals B j) refl (omega arith) (λ q. absurd (omega (arith, q)))
+          (subst (λ (rows : List Row). Covering rows t) (sym (rows-none j)) (subst (Covering []) (sym et) covering-none)))
 
       fit : n ≤ length rules
       fit = rules-fit bs before rules n en

@@ -24,7 +24,7 @@ waiting J n B finals =
       going = false;
       left = 0;
       right = 0;
-      terms = record { budget = B; finals = finals; pass = 1; start = 0 };
+      terms = record { budget = B; finals = finals; pass = 1; start = 0; before = 0 };
       counts = record { used = 0; joins = 0 };
       place = record { rule = 0; left = 0; right = 0 };
       rows = J;

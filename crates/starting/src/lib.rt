@@ -29,6 +29,7 @@ fn wait(rows: usize, rules: usize, budget: u64, finals: u8) -> State
             finals,
             pass: 1,
             start: 0,
+            before: 0,
         },
         counts: Counts { used: 0, joins: 0 },
         place: Place {
@@ -66,9 +67,10 @@ pub fn prepare(
     let finals = tables::final_states(file);
     let n = tables::rule_table(file, rules);
     let before = wait(rows, n, budget, finals);
-    let state = passes::open_pass(&rules[..], table, before, before.terms, before.counts);
+    let terms = before.terms;
+    let at = passes::open_pass(&rules[..], table, n, terms, before.counts);
     Start {
         refusal: fault,
-        state,
+        state: standing::stand_or_hold(before, terms, at),
     }
 }

@@ -168,7 +168,7 @@ module _ {letters : List ℕ} {rules : List (List ℕ)} {start : State} {j₀ : 
 
   -- ---- it stops the search
 
-  stopped-right : (o : Outcome) → Ends o → Right o → Answers (start .terms .budget) (passIn (record { budget = start .terms .budget; finals = start .terms .finals; pass = go .begun .pass; start = go .first .used }) letters (counted (x .running) (x .going)) (go .first) (go .journal)) (go .first) (go .journal) j o
+  stopped-right : (o : Outcome) → Ends o → Right o → Answers (start .terms .budget) (passIn (record { budget = start .terms .budget; finals = start .terms .finals; pass = go .begun .pass; start = go .first .used; before = go .begun .before }) letters (counted (x .running) (x .going)) (go .first) (go .journal)) (go .first) (go .journal) j o
   stopped-right o e a =
       subst (λ (b : Terms). Answers (b .budget) (passIn b letters (counted (x .running) (x .going)) (go .first) (go .journal)) (go .first) (go .journal) j o) (go .begun .terms)
       (pass-stopped (s .terms) letters (listsIn (x .table)) (counted (x .running) (x .going)) (go .first) (go .journal) (go .listed) (go .in-pass) start-is (go .here) formed-there (x .settled .size) (a .0) e)
@@ -183,13 +183,13 @@ module _ {letters : List ℕ} {rules : List (List ℕ)} {start : State} {j₀ : 
   stopped-checked (outcome.Going w) z a = absurd z
   stopped-checked (outcome.Spent w) z a =
       subst (λ (k : ℕ). Checked (target letters (counted (x .running) (x .going)) (start .terms .finals) (start .terms .budget) j₀) j₀ j (answer.Spent (totalsOf w k))) (sym pass-is)
-      (stops letters (counted (x .running) (x .going)) (start .terms .finals) (start .terms .budget) j₀ s (stands-on (x .running) (x .going) .rows) (stands-on (x .running) (x .going) .count) (go .begun .at-pass) size-first (outcome.Spent w) (stopped-right (outcome.Spent w) (λ i K. refl) a) refl)
+      (stops letters (counted (x .running) (x .going)) (start .terms .finals) (start .terms .budget) j₀ s (stands-on (x .running) (x .going) .rows) (stands-on (x .running) (x .going) .count) (go .begun .at-pass) (go .begun .before) size-first (outcome.Spent w) (stopped-right (outcome.Spent w) (λ i K. refl) a) refl)
   stopped-checked (outcome.Full w) z a =
       subst (λ (k : ℕ). Checked (target letters (counted (x .running) (x .going)) (start .terms .finals) (start .terms .budget) j₀) j₀ j (answer.Full (totalsOf w k))) (sym pass-is)
-      (stops letters (counted (x .running) (x .going)) (start .terms .finals) (start .terms .budget) j₀ s (stands-on (x .running) (x .going) .rows) (stands-on (x .running) (x .going) .count) (go .begun .at-pass) size-first (outcome.Full w) (stopped-right (outcome.Full w) (λ i K. refl) a) refl)
+      (stops letters (counted (x .running) (x .going)) (start .terms .finals) (start .terms .budget) j₀ s (stands-on (x .running) (x .going) .rows) (stands-on (x .running) (x .going) .count) (go .begun .at-pass) (go .begun .before) size-first (outcome.Full w) (stopped-right (outcome.Full w) (λ i K. refl) a) refl)
   stopped-checked (outcome.Broken i w) z a =
       subst (λ (k : ℕ). Checked (target letters (counted (x .running) (x .going)) (start .terms .finals) (start .terms .budget) j₀) j₀ j (answer.Broken i (totalsOf w k))) (sym pass-is)
-      (stops letters (counted (x .running) (x .going)) (start .terms .finals) (start .terms .budget) j₀ s (stands-on (x .running) (x .going) .rows) (stands-on (x .running) (x .going) .count) (go .begun .at-pass) size-first (outcome.Broken i w) (stopped-right (outcome.Broken i w) (λ m K. refl) a) refl)
+      (stops letters (counted (x .running) (x .going)) (start .terms .finals) (start .terms .budget) j₀ s (stands-on (x .running) (x .going) .rows) (stands-on (x .running) (x .going) .count) (go .begun .at-pass) (go .begun .before) size-first (outcome.Broken i w) (stopped-right (outcome.Broken i w) (λ m K. refl) a) refl)
 
   -- ---- the search stands on
 
@@ -265,10 +265,10 @@ module _ {letters : List ℕ} {rules : List (List ℕ)} {start : State} {j₀ : 
       let m : w .joins ≡ s .counts .joins + 1 = ap (λ (o : Outcome). countsIn o .joins) e ∙ joins-more in (
         resumes (on .stands),
         subst (λ (k : ℕ). candidatesLeft r < k) (sym (left-is (s .going) (x .going) (s .terms .budget - s .counts .joins)))
-            (less (r .going) (r .terms .budget) (r .counts .joins) (on .budget ∙ sym budget-is) (ap (λ (k : Counts). k .joins) (on .counts) ∙ m)),
+            (less (r .going) (r .terms .budget) (r .counts .joins) (on .budget ∙ sym budget-is) (omega (arith, on .joins, m))),
       )
     where
-      less : (b : Bool) (B n : ℕ) → B ≡ s .terms .budget → n ≡ s .counts .joins + 1 → cond b (suc (B - n)) 0 < suc (s .terms .budget - s .counts .joins)
+      less : (b : Bool) (B n : ℕ) → B ≡ s .terms .budget → s .counts .joins < n → cond b (suc (B - n)) 0 < suc (s .terms .budget - s .counts .joins)
       less true B n p q = omega (arith, p, q, unspent)
       less false B n p q = omega arith
 

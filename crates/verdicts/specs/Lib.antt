@@ -13,3 +13,4 @@ pub mod RunningLaws
 pub mod RunLaws
 pub mod Advancing
 pub mod NoteLaws
+pub mod PassingOver

@@ -7,16 +7,21 @@ use native.Mathlib.Omega.{arith}
 use lib.Arith.{lt-of-le-ne}
 use lib.ListN.{length, drop}
 use Rattle.basics.specs.Lists.{drop-later-same}
+use Rattle.relation.specs.Digits.{bit}
+use Rattle.relation.specs.Relation.{states}
+use Rattle.relation.specs.Representation.{value}
 use Rattle.working_order.specs.Candidates.{passCandidates}
 use Rattle.working_order.specs.Order.{close, onePass, passes, check}
+use Rattle.working_order.specs.Repeating.{Repeats, repeated-dropped}
+use Rattle.calls.specs.BaseLaws.{base-by-laws}
+use Rattle.calls.specs.Checking.{journalLimit}
 use Rattle.calls.specs.Rows.{entryOf}
 use Rattle.rows.specs.Base as order
 use Rattle.covers.specs.Rows.{Journal, firstRows}
-use Rattle.rows.specs.Meanings.{formsOf, baseOf}
+use Rattle.rows.specs.Meanings.{letterIn, formsOf, baseOf}
 use Rattle.verdicts.specs.Meanings.{progressOf, countsIn, totalsIn}
-use Rattle.verdicts.specs.Walks.{walkIn, passIn}
+use Rattle.verdicts.specs.Walks.{walkIn, candidatesIn, passIn, Known}
 use Rattle.verdicts.specs.Contracts.{Answers, Checked, orderOf}
-use Rattle.covers.specs.Covers.{Covering}
 use Rattle.covers.specs.RowLaws.{rows-length}
 use Rattle.verdicts.specs.Closing.{PassEnd, Again, Done, endOf, endAnswer, endUsed, close-end, close-used, again-going}
 use Rattle.verdicts.specs.declared.Answer.{Answer}
@@ -55,7 +60,7 @@ module _ (letters : List ℕ) (rules : List (List ℕ)) (finals B : ℕ) where
 
 module _ {letters : List ℕ} {rules : List (List ℕ)} {finals B : ℕ} {target : order.Answer} {j₀ : Journal} {w : Counts} {j : Journal} {k : ℕ} (a : AtPass letters rules finals B target j₀ w j k) where
   abbrev terms : Terms
-  terms = record { budget = B; finals = finals; pass = k; start = w .used }
+  terms = record { budget = B; finals = finals; pass = k; start = w .used; before = 0 }
 
   abbrev res : order.Outcome
   res = passIn terms letters rules w j
@@ -98,9 +103,6 @@ module _ {letters : List ℕ} {rules : List (List ℕ)} {finals B : ℕ} {target
       abbrev xg : Answers B res w j j′ (outcome.Going w′)
       xg = subst (λ (z : Outcome). Answers B res w j j′ z) went x
 
-      pub pass-covered : {covers : List ℕ} → Covering (firstRows (countsIn r .used) j′) covers → Covering (firstRows (w′ .used) j′) covers
-      pass-covered {covers} h = subst (λ (z : Outcome). Covering (firstRows (countsIn z .used) j′) covers) went h
-
       pub pass-grew : w .used < w′ .used
       pass-grew = lt-of-le-ne (xg .grows) (λ p. again-going (w .used) k r w′ e .1 (sym p))
 
@@ -121,3 +123,9 @@ module _ {letters : List ℕ} {rules : List (List ℕ)} {finals B : ℕ} {target
             first = omega arith;
             count = omega (arith, pass-grew, a .count);
           }
+
+      -- what this pass formed is known in the next
+      pub pass-known : length j₀ ≤ journalLimit → Known (w .used) (candidatesIn letters rules (firstRows (w′ .used) j′)) (firstRows (w′ .used) j′)
+      pass-known few z c m h =
+          repeated-dropped (baseOf letters finals) (base-by-laws states (λ d. value (letterIn letters d)) (bit finals)) (map entryOf rules) (length j) B k (progressOf w j) (progressOf w′ j′)
+          (omega (arith, rows-length (w′ .used) j′ (omega (arith, pass-room, s, a .same)), pass-room, few)) (sym (xg .answer)) c m (subst (λ (n : ℕ). Repeats n c) (sym (rows-length (w .used) j hu)) h)

@@ -1,23 +1,31 @@
 -- One pass, place by place: the candidates left from the place give the answer, and the rows that the pass began with still form what they
 -- formed then. Assumes nothing.
 use mathlib.Core.Path.{_≡_, refl, sym, ap, ap₂, _∙_, subst}
-use mathlib.Core.Bool.{Bool, true, false}
+use mathlib.Core.Bool.{Bool, true, false, _&&_, _||_}
 use mathlib.Core.List.{List, [], _∷_, map}
-use Prim.Native.Nat.{ℕ, suc, _-_, _≤_, _<_}
+use mathlib.Core.Logic.{inl, inr}
+use Prim.Native.Nat.{ℕ, suc, _+_, _-_, _≤_, _<_}
 use native.Mathlib.Nat.{le-refl}
 use native.Mathlib.Omega.{arith}
-use lib.Dec.{ltb}
+use lib.Dec.{eqb, ltb}
 use lib.ListN.{length, length-map, length-append, List·getD-append, List·getD-eq-default}
-use borrow.Author.Tests.{ltb-true, ltb-false}
+use borrow.Author.Tests.{eqb-true, ltb-true, ltb-false}
 use Rattle.basics.specs.Lists.{getD-map}
-use Rattle.language.specs.Grammar.{terminal, nonterminal, Rule}
-use Rattle.relation.specs.Relation.{contained}
-use Rattle.working_order.specs.Order.{Verdict, going, andThen, walk, retire, born, added}
+use Rattle.basics.specs.Tests.{and-fst, and-snd}
+use Rattle.language.specs.Grammar.{terminal, nonterminal, Body, empty, one, two, Rule}
+use Rattle.relation.specs.Digits.{bit}
+use Rattle.relation.specs.Relation.{states, contained}
+use Rattle.relation.specs.Representation.{value}
+use Rattle.working_order.specs.Candidates.{sole, paired, bare}
+use Rattle.working_order.specs.Coverage.{dropped-added}
+use Rattle.working_order.specs.Journal.{absent}
+use Rattle.working_order.specs.Order.{Verdict, going, andThen, dropped, walk, retire, born, added}
+use Rattle.working_order.specs.Repeating.{PointsBelow, Repeats}
 use Rattle.working_order.specs.Walking.{Post, step-post}
-use Rattle.calls.specs.Checking.{journalLimit}
+use Rattle.calls.specs.BaseLaws.{base-by-laws}
 use Rattle.calls.specs.Rows.{rowOf, blank}
 use Rattle.rows.specs.Base as order
-use Rattle.rows.specs.Meanings.{baseOf}
+use Rattle.rows.specs.Meanings.{letterIn, baseOf}
 use Rattle.rows.specs.Forming.{Part, none, some, rowChoice, leftPart, rightPart, partChoice, combined, formedBy}
 use Rattle.rows.specs.declared.Place.{Place}
 use Rattle.places.specs.Lists.{rowIn, Listed}
@@ -26,8 +34,9 @@ use Rattle.covers.specs.Covers.{Covering}
 use Rattle.covers.specs.Rows.{Journal, firstRows}
 use Rattle.covers.specs.RowLaws.{rows-length, rows-at}
 use Rattle.verdicts.specs.Meanings.{progressOf, countsIn}
-use Rattle.verdicts.specs.Walks.{considerIn, walkIn}
+use Rattle.verdicts.specs.Walks.{considerIn, walkIn, candidatesIn, isBefore, repeatsAt, Known}
 use Rattle.verdicts.specs.Contracts.{Ready, Answers}
+use Rattle.verdicts.specs.Deciding.{answers-dropped}
 use Rattle.verdicts.specs.Remaining.{Remaining, Ends, remaining-start, remaining-going, remaining-stopped, remaining-none}
 use Rattle.deciding.specs.declared.Counts.{Counts}
 use Rattle.verdicts.specs.declared.Outcome.the-variants.{Going}
@@ -91,6 +100,30 @@ module _ (A : List order.Row) (u : ℕ) (j : Journal) (room : u ≤ length j) (k
       (part-same letters (leftPart (x .body)) (p .left) (rowIn (firstRows (length A) j) (p .left)) (rowIn A (p .left)) (row-same (p .left)))
       (part-same letters (rightPart (x .body)) (p .right) (rowIn (firstRows (length A) j) (p .right)) (rowIn A (p .right)) (row-same (p .right)))
 
+-- what is formed at a place whose rows are among the first n points to no others
+before-below : (n i : ℕ) → isBefore n i ≡ true → PointsBelow n i
+before-below n i e = by (ltb i n) refl e
+  where
+    by : (b : Bool) → ltb i n ≡ b → (b || eqb i absent) ≡ true → PointsBelow n i
+    by true l h = inl (ltb-true i n l)
+    by false l h = inr (eqb-true i absent h)
+
+part-below : (letters : List ℕ) (p : Part) (n i : ℕ) (r : order.Row) → PointsBelow n i → PointsBelow n (partChoice letters p i r .pointer)
+part-below letters none n i r h = inr refl
+part-below letters (some (terminal c)) n i r h = inr refl
+part-below letters (some (nonterminal x)) n i r h = h
+
+formed-repeats : (n : ℕ) (letters : List ℕ) (x : Rule) (p : Place) (l r : order.Row) → repeatsAt n p ≡ true → (0 < n) × Repeats n (formedBy letters x p l r)
+unfolding bare sole paired
+formed-repeats n letters x p l r e =
+    let both = and-snd (ltb 0 n) (isBefore n (p .left) && isBefore n (p .right)) e in
+    (ltb-true 0 n (and-fst (ltb 0 n) (isBefore n (p .left) && isBefore n (p .right)) e), by (x .body) (before-below n (p .left) (and-fst (isBefore n (p .left)) (isBefore n (p .right)) both)) (before-below n (p .right) (and-snd (isBefore n (p .left)) (isBefore n (p .right)) both)))
+  where
+    by : (b : Body) → PointsBelow n (p .left) → PointsBelow n (p .right) → Repeats n (combined (x .head) (p .rule) b (partChoice letters (leftPart b) (p .left) l) (partChoice letters (rightPart b) (p .right) r))
+    by empty f g = (inr refl, inr refl)
+    by (one s) f g = (part-below letters (some s) n (p .left) l f, inr refl)
+    by (two s s′) f g = (part-below letters (some s) n (p .left) l f, part-below letters (some s′) n (p .right) r g)
+
 -- ---- the loop
 
 module _ (t : Terms) (letters lists : List ℕ) (rules : List (List ℕ)) (w₀ : Counts) (j₀ : Journal) where
@@ -104,16 +137,18 @@ module _ (t : Terms) (letters lists : List ℕ) (rules : List (List ℕ)) (w₀ 
   -- the invariant
   pub record InPass (covers : List ℕ) (w : Counts) (j : Journal) (p : Place) : Type 0 where
     pub candidates : List order.Candidate
+    pub known : Known (t .before) candidates (firstRows (w .used) j)
     pub stands : Stands letters first lists rules p candidates
     pub left : Remaining (t .budget) whole (walkIn t (length j₀) candidates (progressOf w j)) w₀ j₀ w j
     pub kept : Kept first (firstRows (w .used) j)
     pub covering : Covering (firstRows (w .used) j) covers
 
   module _ (listed : Listed first lists) where
-    pub pass-start : (covers : List ℕ) (p : Place) → Ready t w₀ j₀ covers → Opens lists rules 0 p → InPass covers w₀ j₀ p
-    pass-start covers p r o =
+    pub pass-start : (covers : List ℕ) (p : Place) → Ready t w₀ j₀ covers → Known (t .before) (candidatesIn letters rules first) first → Opens lists rules 0 p → InPass covers w₀ j₀ p
+    pass-start covers p r k o =
         record {
           candidates = onward letters first lists rules 0;
+          known = k;
           stands = o letters first listed;
           left = remaining-start (r .room) (r .paid);
           kept = (le-refl (length first), λ i l. refl);
@@ -121,10 +156,6 @@ module _ (t : Terms) (letters lists : List ℕ) (rules : List (List ℕ)) (w₀ 
         }
 
     module _ {covers : List ℕ} {w : Counts} {j : Journal} {p : Place} (g : InPass covers w j p) where
-      pub pass-ready : length j₀ ≤ journalLimit → 0 < t .pass → Ready t w j covers
-      pass-ready h k =
-          record { room = omega (arith, g .left .room, g .left .same); limit = omega (arith, h, g .left .same); paid = g .left .paid; pass = k; covering = g .covering }
-
       pub pass-end : length rules ≤ p .rule → Answers (t .budget) whole w₀ j₀ j (Going w)
       unfolding walk
       pass-end h = by (g .candidates) (g .stands) (g .left)
@@ -133,22 +164,22 @@ module _ (t : Terms) (letters lists : List ℕ) (rules : List (List ℕ)) (w₀ 
           by [] s l = remaining-none l
           by (c ∷ cs) s l = absurd (omega (arith, h, s .0))
 
-      module _ (hs : t .start ≡ w₀ .used) (h : p .rule < length rules) {c : order.Candidate} (e : c ≡ formedBy letters (ruleAt rules (p .rule)) p (rowIn (firstRows (t .start) j) (p .left)) (rowIn (firstRows (t .start) j) (p .right)))
-          {j′ : Journal} (s : length j′ ≡ length j) {r : Outcome} (a : Answers (t .budget) (considerIn t (length j) c (progressOf w j)) w j j′ r) where
+      module _ (hs : t .start ≡ w₀ .used) (h : p .rule < length rules) {c : order.Candidate} (e : c ≡ formedBy letters (ruleAt rules (p .rule)) p (rowIn (firstRows (t .start) j) (p .left)) (rowIn (firstRows (t .start) j) (p .right))) where
         -- the candidate is the first that is left
         abbrev Next : order.Candidate → List order.Candidate → Type 0
         Next d ds = (d ≡ c) × ((q : Place) → Follows lists rules p q → Stands letters first lists rules q ds)
             × Remaining (t .budget) whole (walkIn t (length j₀) (d ∷ ds) (progressOf w j)) w₀ j₀ w j
+            × Known (t .before) (d ∷ ds) (firstRows (w .used) j)
 
         start-length : t .start ≡ length first
         start-length = hs ∙ sym (rows-length (w₀ .used) j₀ (omega (arith, g .left .grows, g .left .room)))
 
         next : (d : order.Candidate) × (ds : List order.Candidate) × Next d ds
-        next = by (g .candidates) (g .stands) (g .left)
+        next = by (g .candidates) (g .stands) (g .left) (g .known)
           where
-            by : (cs : List order.Candidate) → Stands letters first lists rules p cs → Remaining (t .budget) whole (walkIn t (length j₀) cs (progressOf w j)) w₀ j₀ w j → (d : order.Candidate) × (ds : List order.Candidate) × Next d ds
-            by [] z l = absurd (z h)
-            by (d ∷ ds) z l = (
+            by : (cs : List order.Candidate) → Stands letters first lists rules p cs → Remaining (t .budget) whole (walkIn t (length j₀) cs (progressOf w j)) w₀ j₀ w j → Known (t .before) cs (firstRows (w .used) j) → (d : order.Candidate) × (ds : List order.Candidate) × Next d ds
+            by [] z l k = absurd (z h)
+            by (d ∷ ds) z l k = (
               d,
               ds,
               (
@@ -158,33 +189,46 @@ module _ (t : Terms) (letters lists : List ℕ) (rules : List (List ℕ)) (w₀ 
                     ∙ sym e,
                 λ q f. f letters first listed d ds z,
                 l,
+                k,
               ),
             )
 
-        -- it is taken, and the others are left
-        split : walkIn t (length j₀) (next .0 ∷ next .1) (progressOf w j) ≡ andThen (considerIn t (length j) c (progressOf w j)) (walkIn t (length j₀) (next .1))
-        unfolding walk
-        split = ap₂ (λ (n : ℕ) (d : order.Candidate). andThen (considerIn t n d (progressOf w j)) (walkIn t (length j₀) (next .1))) (sym (g .left .same)) (next .2 .0)
+        -- it would be dropped, if the pass before formed it
+        there : 0 < t .before → Repeats (t .before) c → dropped contained c (firstRows (w .used) j) ≡ true
+        there z y = subst (λ (d : order.Candidate). dropped contained d (firstRows (w .used) j) ≡ true) (next .2 .0) (next .2 .3 z (next .0) (inl refl) (subst (Repeats (t .before)) (sym (next .2 .0)) y))
 
-        pub pass-stopped : Ends r → Answers (t .budget) whole w₀ j₀ j′ r
-        pass-stopped z = remaining-stopped (next .2 .2) (considerIn t (length j) c (progressOf w j)) (walkIn t (length j₀) (next .1)) split j′ s r z a
+        others : Known (t .before) (next .1) (firstRows (w .used) j)
+        others z d m e = next .2 .3 z d (inr m) e
 
-        gone : {w′ : Counts} → r ≡ Going w′ → Answers (t .budget) (considerIn t (length j) c (progressOf w j)) w j j′ (Going w′)
-        gone z = subst (λ (o : Outcome). Answers (t .budget) (considerIn t (length j) c (progressOf w j)) w j j′ o) z a
+        module _ {j′ : Journal} (s : length j′ ≡ length j) {r : Outcome} (a : Answers (t .budget) (considerIn t (length j) c (progressOf w j)) w j j′ r) where
+          -- it is taken, and the others are left
+          split : walkIn t (length j₀) (next .0 ∷ next .1) (progressOf w j) ≡ andThen (considerIn t (length j) c (progressOf w j)) (walkIn t (length j₀) (next .1))
+          unfolding walk
+          split = ap₂ (λ (n : ℕ) (d : order.Candidate). andThen (considerIn t n d (progressOf w j)) (walkIn t (length j₀) (next .1))) (sym (g .left .same)) (next .2 .0)
 
-        pub pass-pays : {w′ : Counts} → r ≡ Going w′ → t .budget - w′ .joins < t .budget - w .joins
-        pass-pays {w′} z =
-            let x = gone z in
-            let m : suc (w .joins) ≤ w′ .joins = consider-goes t (length j) (λ u. suc (w .joins) ≤ u .joins) c (progressOf w j) (progressOf w′ j′) (x .answer) (le-refl (suc (w .joins))) (le-refl (suc (w .joins))) in
-            omega (arith, m, x .paid)
+          pub pass-stopped : Ends r → Answers (t .budget) whole w₀ j₀ j′ r
+          pass-stopped z = remaining-stopped (next .2 .2) (considerIn t (length j) c (progressOf w j)) (walkIn t (length j₀) (next .1)) split j′ s r z a
 
-        pub pass-going : {w′ : Counts} → r ≡ Going w′ → {covers′ : List ℕ} → Covering (firstRows (countsIn r .used) j′) covers′ → {q : Place} → Follows lists rules p q → InPass covers′ w′ j′ q
-        pass-going {w′} z {covers′} v {q} f =
-            let x = gone z in
-            record {
-              candidates = next .1;
-              stands = next .2 .1 q f;
-              left = remaining-going (next .2 .2) (considerIn t (length j) c (progressOf w j)) (walkIn t (length j₀) (next .1)) split j′ s w′ x;
-              kept = consider-goes t (length j) (λ u. Kept first (u .rows)) c (progressOf w j) (progressOf w′ j′) (x .answer) (g .kept) (kept-added (t .pass) c first (firstRows (w .used) j) (g .kept));
-              covering = subst (λ (o : Outcome). Covering (firstRows (countsIn o .used) j′) covers′) z v;
-            }
+          gone : {w′ : Counts} → r ≡ Going w′ → Answers (t .budget) (considerIn t (length j) c (progressOf w j)) w j j′ (Going w′)
+          gone z = subst (λ (o : Outcome). Answers (t .budget) (considerIn t (length j) c (progressOf w j)) w j j′ o) z a
+
+          pub pass-going : {w′ : Counts} → r ≡ Going w′ → {covers′ : List ℕ} → Covering (firstRows (countsIn r .used) j′) covers′ → {q : Place} → Follows lists rules p q → InPass covers′ w′ j′ q
+          pass-going {w′} z {covers′} v {q} f =
+              let x = gone z in
+              record {
+                candidates = next .1;
+                known = consider-goes t (length j) (λ u. Known (t .before) (next .1) (u .rows)) c (progressOf w j) (progressOf w′ j′) (x .answer) others (λ z d m e. dropped-added (baseOf [] (t .finals)) (base-by-laws states (λ d. value (letterIn [] d)) (bit (t .finals))) (t .pass) c d (firstRows (w .used) j) (others z d m e));
+                stands = next .2 .1 q f;
+                left = remaining-going (next .2 .2) (considerIn t (length j) c (progressOf w j)) (walkIn t (length j₀) (next .1)) split j′ s w′ x;
+                kept = consider-goes t (length j) (λ u. Kept first (u .rows)) c (progressOf w j) (progressOf w′ j′) (x .answer) (g .kept) (kept-added (t .pass) c first (firstRows (w .used) j) (g .kept));
+                covering = subst (λ (o : Outcome). Covering (firstRows (countsIn o .used) j′) covers′) z v;
+              }
+
+      -- a candidate that the pass before formed is one join, and nothing else
+      pub pass-over : t .start ≡ w₀ .used → p .rule < length rules → w .joins < t .budget → repeatsAt (t .before) p ≡ true → {q : Place} → Follows lists rules p q
+          → InPass covers (record { used = w .used; joins = w .joins + 1 }) j q
+      pass-over hs h paid e {q} f =
+          let c : order.Candidate = formedBy letters (ruleAt rules (p .rule)) p (rowIn (firstRows (t .start) j) (p .left)) (rowIn (firstRows (t .start) j) (p .right)) in
+          let room : w .used ≤ length j = omega (arith, g .left .room, g .left .same) in
+          let z = formed-repeats (t .before) letters (ruleAt rules (p .rule)) p (rowIn (firstRows (t .start) j) (p .left)) (rowIn (firstRows (t .start) j) (p .right)) e in
+          pass-going hs h {c = c} refl refl (answers-dropped t c w j room (g .left .paid) (λ y. omega (arith, y, paid)) (there hs h {c = c} refl (z .0) (z .1))) refl (g .covering) f

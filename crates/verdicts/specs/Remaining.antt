@@ -30,9 +30,6 @@ module _ {B : ℕ} {target : order.Outcome} {w₀ : Counts} {j₀ : Journal} whe
   pub remaining-start : w₀ .used ≤ length j₀ → w₀ .joins ≤ B → Remaining B target target w₀ j₀ w₀ j₀
   remaining-start h p = record { left = refl; same = refl; beyond = refl; grows = le-refl (w₀ .used); room = h; paid = p }
 
-  pub remaining-same : {rest rest′ : order.Outcome} {w : Counts} {j : Journal} → rest ≡ rest′ → Remaining B target rest w₀ j₀ w j → Remaining B target rest′ w₀ j₀ w j
-  remaining-same e l = record { left = sym e ∙ l .left; same = l .same; beyond = l .beyond; grows = l .grows; room = l .room; paid = l .paid }
-
   -- a part f was done, and K is left
   module _ {rest : order.Outcome} {w : Counts} {j : Journal} (l : Remaining B target rest w₀ j₀ w j) (f : order.Outcome) (K : order.Progress → order.Outcome) (e : rest ≡ andThen f K) (j′ : Journal) (s : length j′ ≡ length j) where
     chain : (n : ℕ) → w .used ≤ n → drop n j′ ≡ drop n j → drop n j′ ≡ drop n j₀
@@ -61,10 +58,3 @@ module _ {B : ℕ} {target : order.Outcome} {w₀ : Counts} {j₀ : Journal} whe
 
   pub remaining-none : {w : Counts} {j : Journal} → Remaining B target (going (progressOf w j)) w₀ j₀ w j → Answers B target w₀ j₀ j (Going w)
   remaining-none l = record { answer = l .left; beyond = l .beyond; grows = l .grows; room = l .room; paid = l .paid }
-
--- a part that is nothing to do, or one that another is equal to
-pub answers-nothing : {B : ℕ} {f : order.Outcome} {w : Counts} {j : Journal} → f ≡ going (progressOf w j) → w .used ≤ length j → w .joins ≤ B → Answers B f w j j (Going w)
-answers-nothing {w = w} e h p = record { answer = sym e; beyond = refl; grows = le-refl (w .used); room = h; paid = p }
-
-pub answers-same : {B : ℕ} {f g : order.Outcome} {w : Counts} {j j′ : Journal} {r : Outcome} → g ≡ f → Answers B f w j j′ r → Answers B g w j j′ r
-answers-same e a = record { answer = a .answer ∙ sym e; beyond = a .beyond; grows = a .grows; room = a .room; paid = a .paid }

@@ -1,9 +1,9 @@
 -- Where the search stands between candidates, and what each step of it keeps, whatever the journal. Definitions only. Assumes nothing.
 use mathlib.Core.Path.{_≡_}
-use mathlib.Core.Bool.{true, not, cond}
+use mathlib.Core.Bool.{Bool, true, not, _&&_, cond}
 use mathlib.Core.List.{List}
 use Prim.Native.Nat.{ℕ, suc, _-_, _≤_, _<_}
-use lib.Dec.{T}
+use lib.Dec.{T, ltb}
 use lib.ListN.{length, getD, take}
 use Rattle.calls.specs.Rows.{blank}
 use Rattle.rows.specs.Base as order
@@ -25,8 +25,10 @@ use Rattle.verdicts.specs.Contracts.{Answers, Checked, orderOf}
 use Rattle.verdicts.specs.Meanings.{answerIn}
 use Rattle.verdicts.specs.Passes.{AtPass}
 use Rattle.verdicts.specs.Passing.{InPass}
-use Rattle.verdicts.specs.Walks.{passIn}
+use Rattle.verdicts.specs.States.{opening}
+use Rattle.verdicts.specs.Walks.{candidatesIn, passIn, repeatsAt, Known}
 use Rattle.verdicts.specs.declared.Outcome.the-variants.{Going}
+use Rattle.verdicts.specs.declared.Reached.{Reached}
 
 -- ---- where the search stands
 
@@ -44,8 +46,11 @@ module _ (letters : List ℕ) (rules : List (List ℕ)) (finals B : ℕ) (j₀ :
   -- in pass k, which began at w over the journal j
   pub record Begun (s : State) (w : Counts) (j : Journal) : Type 0 where
     pub pass : ℕ
+    pub before : ℕ
     pub at-pass : AtPass letters rules finals B target j₀ w j pass
-    pub terms : s .terms ≡ record { budget = B; finals = finals; pass = pass; start = w .used }
+    pub fits : before ≤ rowCells
+    pub known : Known before (candidatesIn letters rules (firstRows (w .used) j)) (firstRows (w .used) j)
+    pub terms : s .terms ≡ record { budget = B; finals = finals; pass = pass; start = w .used; before = before }
 
   -- at a place of the pass
   pub record Goes (s : State) (j : Journal) (t : List ℕ) : Type 0 where
@@ -128,13 +133,13 @@ pub record MayDecide (s : State) : Type 0 where
   pub used : s .counts .used ≤ rowCells
   pub joins : s .counts .joins < s .terms .budget
 
-pub record MayOpen (rules : List (List ℕ)) (s : State) (w : Counts) (t : List ℕ) : Type 0 where
+pub record MayOpen (rules : List (List ℕ)) (n : ℕ) (w : Counts) (t : List ℕ) : Type 0 where
   pub table : length t ≡ tableCells
-  pub count : s .rules ≤ length rules
+  pub count : n ≤ length rules
   pub used : w .used ≤ rowCells
 
 pub record MayGoOn (rules : List (List ℕ)) (s : State) (w : Counts) (t : List ℕ) : Type 0 where
-  pub opens : MayOpen rules s w t
+  pub opens : MayOpen rules (s .rules) w t
   pub pass : s .terms .pass ≤ 65535
 
 pub record MayAdvance (rules : List (List ℕ)) (s : State) (c : Candidate) (l : Look) (t : List ℕ) : Type 0 where
@@ -145,18 +150,47 @@ pub record MayAdvance (rules : List (List ℕ)) (s : State) (c : Candidate) (l :
   pub room : s .counts .used ≤ s .rows
   pub limit : s .rows ≤ rowCells
 
--- so many joins have been made, and the search stands on
+-- so many joins have been made at least, and the search stands on
 pub record Onward (letters : List ℕ) (rules : List (List ℕ)) (finals B : ℕ) (j₀ : Journal) (w : Counts) (r : State) (j : Journal) (t : List ℕ) : Type 0 where
   pub stands : Stands letters rules finals B j₀ r j t
-  pub counts : r .counts ≡ w
+  pub joins : w .joins ≤ r .counts .joins
   pub budget : r .terms .budget ≡ B
 
--- a pass begins at w
-abbrev pub Opens : List (List ℕ) → List ℕ → State → Terms → Counts → List ℕ → State → Type 0
-Opens rules t s b w t′ r =
-    (letters : List ℕ) (finals B : ℕ) (j₀ j : Journal) (k : ℕ) → Sized letters (take (s .rules) rules) finals B j₀ → s .rows ≡ length j₀
-    → AtPass letters (take (s .rules) rules) finals B (target letters (take (s .rules) rules) finals B j₀) j₀ w j k → b ≡ record { budget = B; finals = finals; pass = k; start = w .used }
-    → Covering (firstRows (w .used) j) t → Onward letters (take (s .rules) rules) finals B j₀ w r j t′
+-- ---- over what the pass before formed
+
+-- the candidate of p is done, with the counts w: the pass goes on at the place after it
+abbrev pub DoneAt : Terms → List ℕ → List (List ℕ) → List ℕ → Counts → Journal → Journal → Reached → Type 0
+DoneAt b letters rules t first j₁ j x = (q : Place) → places.Follows (listsIn t) rules (x .place) q → InPass b letters (listsIn t) rules first j₁ t (x .counts) j q
+
+-- the candidate may be passed over
+abbrev pub passesAt : Terms → ℕ → Reached → Bool
+passesAt b n x = ltb (x .place .rule) n && (ltb (x .counts .joins) (b .budget) && repeatsAt (b .before) (x .place))
+
+-- with joins alone
+pub record Counted (x r : Reached) : Type 0 where
+  pub joins : x .counts .joins ≤ r .counts .joins
+  pub used : r .counts .used ≡ x .counts .used
+
+-- from a candidate that is done to one that is, of the same left
+pub record PassesRights (t : List ℕ) (b : Terms) (x r : Reached) : Type 0 where
+  pub counted : Counted x r
+  pub done : (letters : List ℕ) (rules : List (List ℕ)) (first : Counts) (j₁ j : Journal) → x .place .rule < length rules → repeatsAt (b .before) (x .place) ≡ true
+      → b .before ≤ rowCells → b .start ≡ first .used → Listed (firstRows (first .used) j₁) (listsIn t) → DoneAt b letters rules t first j₁ j x → DoneAt b letters rules t first j₁ j r
+
+-- from a place to a place
+pub record PassesOver (rules : List (List ℕ)) (t : List ℕ) (b : Terms) (x r : Reached) : Type 0 where
+  pub counted : Counted x r
+  pub stands : (letters : List ℕ) (first : Counts) (j₁ j : Journal) → b .before ≤ rowCells → b .start ≡ first .used → Listed (firstRows (first .used) j₁) (listsIn t)
+      → InPass b letters (listsIn t) rules first j₁ t (x .counts) j (x .place) → InPass b letters (listsIn t) rules first j₁ t (r .counts) j (r .place)
+
+-- ---- the steps between candidates
+
+-- a pass over the first n rules begins at w, and comes to x: a search that opens there stands on
+abbrev pub Opens : List (List ℕ) → List ℕ → ℕ → Terms → Counts → List ℕ → Reached → Type 0
+Opens rules t n b w t′ x =
+    (letters : List ℕ) (finals B : ℕ) (j₀ j : Journal) (k m : ℕ) (s : State) → s .rules ≡ n → Sized letters (take n rules) finals B j₀ → s .rows ≡ length j₀
+    → AtPass letters (take n rules) finals B (target letters (take n rules) finals B j₀) j₀ w j k → b ≡ record { budget = B; finals = finals; pass = k; start = w .used; before = m }
+    → m ≤ rowCells → Known m (candidatesIn letters (take n rules) (firstRows (w .used) j)) (firstRows (w .used) j) → Covering (firstRows (w .used) j) t → Onward letters (take n rules) finals B j₀ w (opening s b x) j t′
 
 -- the pass in which s stands is over, with the counts w
 abbrev pub Closes : List (List ℕ) → List ℕ → State → Counts → List ℕ → State → Type 0
@@ -165,11 +199,18 @@ Closes rules t s w t′ r =
     → Begun letters (take (s .rules) rules) finals B j₀ s first j₁ → length j ≡ length j₁ → Answers B (passIn (s .terms) letters (take (s .rules) rules) first j₁) first j₁ j (Going w)
     → Covering (firstRows (w .used) j) t → Onward letters (take (s .rules) rules) finals B j₀ w r j t′
 
+-- the pass in which s stands has come to a place
+abbrev pub GoesFrom : List (List ℕ) → List ℕ → State → Reached → List ℕ → State → Type 0
+GoesFrom rules t s x t′ r =
+    (letters : List ℕ) (finals B : ℕ) (j₀ : Journal) (first : Counts) (j₁ j : Journal) → Sized letters (take (s .rules) rules) finals B j₀ → s .rows ≡ length j₀ → Begun letters (take (s .rules) rules) finals B j₀ s first j₁
+    → Listed (firstRows (first .used) j₁) (listsIn t) → InPass (s .terms) letters (listsIn t) (take (s .rules) rules) first j₁ t (x .counts) j (x .place)
+    → Onward letters (take (s .rules) rules) finals B j₀ (x .counts) r j t′
+
 -- the candidate at which s stands is done, with the counts w
 abbrev pub GoesOnOver : List (List ℕ) → List ℕ → State → Counts → List ℕ → State → Type 0
 GoesOnOver rules t s w t′ r =
     (letters : List ℕ) (finals B : ℕ) (j₀ : Journal) (first : Counts) (j₁ j : Journal) → Sized letters rules finals B j₀ → s .rows ≡ length j₀ → s .place .rule < length rules → Begun letters rules finals B j₀ s first j₁
-    → Listed (firstRows (first .used) j₁) (listsIn t) → ((q : Place) → places.Follows (listsIn t) rules (s .place) q → InPass (s .terms) letters (listsIn t) rules first j₁ t w j q)
+    → Listed (firstRows (first .used) j₁) (listsIn t) → DoneAt (s .terms) letters rules t first j₁ j (record { counts = w; place = s .place })
     → Onward letters rules finals B j₀ w r j t′
 
 abbrev pub GoesOn : List (List ℕ) → List ℕ → State → Counts → List ℕ → State → Type 0

@@ -1,14 +1,22 @@
--- One candidate, candidates one after the other, and a pass, under the terms of the pass. Definitions only. Assumes nothing.
+-- One candidate, candidates one after the other, and a pass, under the terms of the pass; and those that the pass before formed too.
+-- Definitions only. Assumes nothing.
+use mathlib.Core.Path.{_≡_}
+use mathlib.Core.Bool.{Bool, true, _&&_, _||_}
 use mathlib.Core.List.{List, map}
-use Prim.Native.Nat.{ℕ}
+use Prim.Native.Nat.{ℕ, _<_}
+use lib.Dec.{eqb, ltb}
 use lib.ListN.{length}
+use Rattle.basics.specs.Lists.{In}
 use Rattle.relation.specs.Relation.{contained}
 use Rattle.working_order.specs.Candidates.{passCandidates}
-use Rattle.working_order.specs.Order.{consider, walk}
+use Rattle.working_order.specs.Journal.{absent}
+use Rattle.working_order.specs.Order.{dropped, consider, walk}
+use Rattle.working_order.specs.Repeating.{Repeats}
 use Rattle.calls.specs.Base.{breaksBy}
 use Rattle.calls.specs.Rows.{entryOf}
-use Rattle.rows.specs.Base.{Candidate, Progress, Outcome, rejecting}
+use Rattle.rows.specs.Base.{Row, Candidate, Progress, Outcome, rejecting}
 use Rattle.rows.specs.Meanings.{formsOf}
+use Rattle.rows.specs.declared.Place.{Place}
 use Rattle.covers.specs.Rows.{Journal, firstRows}
 use Rattle.deciding.specs.declared.Counts.{Counts}
 use Rattle.deciding.specs.declared.Terms.{Terms}
@@ -20,6 +28,23 @@ considerIn t J = consider contained (breaksBy (rejecting (t .finals))) J (t .bud
 abbrev pub walkIn : Terms → ℕ → List Candidate → Progress → Outcome
 walkIn t J = walk contained (breaksBy (rejecting (t .finals))) J (t .budget) (t .pass)
 
+abbrev pub candidatesIn : List ℕ → List (List ℕ) → List Row → List Candidate
+candidatesIn letters rules rows = passCandidates (formsOf letters) rows 0 (map entryOf rules)
+
 -- the whole pass that begins at w over the journal j
 abbrev pub passIn : Terms → List ℕ → List (List ℕ) → Counts → Journal → Outcome
-passIn t letters rules w j = walkIn t (length j) (passCandidates (formsOf letters) (firstRows (w .used) j) 0 (map entryOf rules)) (progressOf w j)
+passIn t letters rules w j = walkIn t (length j) (candidatesIn letters rules (firstRows (w .used) j)) (progressOf w j)
+
+-- ---- what the pass before formed
+
+-- no row, or one of the first n
+abbrev pub isBefore : ℕ → ℕ → Bool
+isBefore n i = ltb i n || eqb i absent
+
+-- the rows of the place are such rows; where there were none, the first pass may be under way, and nothing was formed before
+abbrev pub repeatsAt : ℕ → Place → Bool
+repeatsAt n p = ltb 0 n && (isBefore n (p .left) && isBefore n (p .right))
+
+-- of these candidates those of the first n rows alone would be dropped
+abbrev pub Known : ℕ → List Candidate → List Row → Type 0
+Known n cs rows = 0 < n → (c : Candidate) → In c cs → Repeats n c → dropped contained c rows ≡ true

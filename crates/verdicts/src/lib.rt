@@ -1,6 +1,7 @@
 // What becomes of a candidate and what a search answers, and what both say of the working order: see specs/. A crate of types, definitions
 // and laws; the steps that make them stand in the crates above.
 use deciding::Counts;
+use rows::Place;
 
 // What each answer carries.
 pub struct Totals {
@@ -15,6 +16,12 @@ pub enum Answer {
     Broken(usize, Totals),
     Full(Totals),
     Spent(Totals),
+}
+
+// A place that a pass has reached, with the counts up to it.
+pub struct Reached {
+    pub counts: Counts,
+    pub place: Place,
 }
 
 // What became of a candidate: the search goes on, or stops with a verdict.

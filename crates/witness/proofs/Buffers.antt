@@ -7,9 +7,6 @@ use lib.ListN.{length, take, drop, set, length-append}
 use lib.Seq.{take-at, drop-at, drop-drop}
 use Rattle.witness.specs.Parts.{Wrote}
 
-pub wrote-none : (w b : List ℕ) → w ≡ [] → Wrote w b b 0
-wrote-none w b e = record { count = sym (ap length e); bytes = ap (λ (v : List ℕ). v ++ b) (sym e) }
-
 pub wrote-step : (c : ℕ) (b : List ℕ) → 1 ≤ length b → Wrote (c ∷ []) b (set b 0 c) 1
 wrote-step c [] h = absurd (let z : ⊥ = omega arith in z)
 wrote-step c (x ∷ b) h = record { count = refl; bytes = refl }

@@ -6,7 +6,7 @@ use mathlib.Core.List.{List, [], _∷_, _++_, map}
 use Prim.Native.Nat.{ℕ}
 use lib.Dec.{eqb}
 use borrow.Author.Tests.{eqb-true, eq-eqb}
-use Rattle.basics.specs.Lists.{In, in-left, in-right, any-of, in-map}
+use Rattle.basics.specs.Lists.{In, in-left, in-right, any-of, any-at, in-map}
 use Rattle.basics.specs.Tests.{and-intro, and-fst, and-snd}
 use Rattle.working_order.specs.Algebra.{Algebra, Laws}
 use Rattle.working_order.specs.Candidates.{Candidate}
@@ -26,6 +26,11 @@ module _ {E : Type 0} (A : Algebra E) where
       let r = any-of (λ (x : Row E). liveOf (c .head) x && A .below (x .effect) (c .effect)) rows h in
       record { row = r .0; listed = r .1; alive = and-fst (liveOf (c .head) (r .0)) (A .below (r .0 .effect) (c .effect)) (r .2); within = and-snd (liveOf (c .head) (r .0)) (A .below (r .0 .effect) (c .effect)) (r .2) }
 
+  pub covered-dropped : (c : Candidate E) (rows : List (Row E)) → Covered (c .head) (c .effect) rows → dropped (A .below) c rows ≡ true
+  unfolding dropped
+  covered-dropped c rows v =
+      any-at (λ (x : Row E). liveOf (c .head) x && A .below (x .effect) (c .effect)) (v .row) rows (v .listed) (and-intro (liveOf (c .head) (v .row)) (A .below (v .row .effect) (c .effect)) (v .alive) (v .within))
+
   born-in : (k : ℕ) (c : Candidate E) (rows : List (Row E)) → In (born k c) (added (A .below) k c rows)
   unfolding added
   born-in k c rows = in-right (born k c) (map (retire (A .below) k c) rows) (born k c ∷ []) (inl refl)
@@ -40,10 +45,6 @@ module _ {E : Type 0} (A : Algebra E) where
   kept k c r h = λ i. record { head = r .head; rule = r .rule; effect = r .effect; left = r .left; right = r .right; len = r .len; birth = r .birth; retired = cond (h i) k (r .retired) }
 
   module _ (L : Laws A) where
-    pub covered-larger : (p : ℕ) (e f : E) (rows : List (Row E)) → Covered p e rows → A .below e f ≡ true → Covered p f rows
-    covered-larger p e f rows c s =
-        record { row = c .row; listed = c .listed; alive = c .alive; within = L .below-trans (c .row .effect) e f (c .within) s }
-
     pub added-covered : (k : ℕ) (c : Candidate E) (rows : List (Row E)) → Covered (c .head) (c .effect) (added (A .below) k c rows)
     unfolding born
     added-covered k c rows = record { row = born k c; listed = born-in k c rows; alive = born-alive k c; within = L .below-refl (c .effect) }
@@ -76,3 +77,7 @@ module _ {E : Type 0} (A : Algebra E) where
               alive = subst (λ (x : ℕ). liveOf x (born k c) ≡ true) same (born-alive k c);
               within = L .below-trans (c .effect) (v .row .effect) e s (v .within);
             }
+
+    -- and a candidate that would be dropped still would be
+    pub dropped-added : (k : ℕ) (d c : Candidate E) (rows : List (Row E)) → dropped (A .below) c rows ≡ true → dropped (A .below) c (added (A .below) k d rows) ≡ true
+    dropped-added k d c rows h = covered-dropped c (added (A .below) k d rows) (covered-added k d (c .head) (c .effect) rows (dropped-covered c rows h))

@@ -12,6 +12,7 @@ pub mod Walking
 pub mod Completeness
 pub mod SideBySide
 pub mod Soundness
+pub mod Repeating
 pub mod Truth
 pub mod Halting
 pub mod Counting

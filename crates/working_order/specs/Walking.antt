@@ -28,7 +28,7 @@ module _ {E : Type 0} where
   post-bind Q Q′ R (going s) k h f = f s h
   post-bind Q Q′ R (stopped v i s) k h f = h
 
-  abbrev AnyEnd : Verdict → ℕ → Progress E → Type 0
+  abbrev pub AnyEnd : Verdict → ℕ → Progress E → Type 0
   AnyEnd v i s = Unit {0}
 
 module _ {E : Type 0} (A : Algebra E) where

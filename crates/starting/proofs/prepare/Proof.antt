@@ -11,17 +11,17 @@ returns c =
 
 open-pass-requires : tie.Need-open-pass-requires
 open-pass-requires c κs =
-    let d = c .before .before .before .before .before .before .before .before .before .before .before .before .before .before in
+    let d = c .before .before .before .before .before .before .before .before .before .before .before .before .before .before .before in
     let a = d .args in
-    may-open (a .file .now) (a .rows) (a .budget) _ _ _ _ (c .before .before .before .before .rule-table .ensures) _ (d .pre) _ (c .before .before .before .wait2 .ensures)
+    may-open (a .file .now) (a .rows) (a .budget) _ _ _ _ (c .before .before .before .before .before .rule-table .ensures) _ (d .pre) _ (c .before .before .before .before .wait2 .ensures)
 
 returns-2 : tie.Need-returns-2
 returns-2 c =
-    let d = c .before .before .before .before .before .before .before .before .before .before .before .before .before .before .before .before .before in
+    let d = c .before .before .before .before .before .before .before .before .before .before .before .before .before .before .before .before .before .before .before in
     let a = d .args in
-    starts (a .file .now) (a .rows) (a .budget) _ (c .before .before .before .before .before .before .before .before .before .before .letter-relations .ensures) _ (c .before .before .before .before .before .before .before .before .before .final-states .ensures)
-    _ _ _ (c .before .before .before .before .before .before .before .rule-table .ensures) _ _ (d .pre) _ (c .before .before .before .before .before .before .wait2 .ensures) _ (c .before .before .open-pass .ensures) _
-    (c .before .before .before .before .before .before .before .before .before .before .before .before .before .before .refusal-for .ensures) (c .before .before .before .before .before .before .before .before .before .before .before .before .if1 .left)
+    starts (a .file .now) (a .rows) (a .budget) _ (c .before .before .before .before .before .before .before .before .before .before .before .before .letter-relations .ensures) _ (c .before .before .before .before .before .before .before .before .before .before .before .final-states .ensures)
+    _ _ _ (c .before .before .before .before .before .before .before .before .before .rule-table .ensures) _ _ (d .pre) _ (c .before .before .before .before .before .before .before .before .wait2 .ensures) _ (c .before .before .before .open-pass .ensures) _ (c .stand-or-hold .ensures) _
+    (c .before .before .before .before .before .before .before .before .before .before .before .before .before .before .before .before .refusal-for .ensures) (c .before .before .before .before .before .before .before .before .before .before .before .before .before .before .if1 .left)
 
 pub prepare-spec : {M : Type 1} → statement M
 prepare-spec =
@@ -35,5 +35,6 @@ prepare-spec =
     (λ c κs. search needs)
     (λ c κs. search needs)
     open-pass-requires
+    (λ c κs. search needs)
     (λ c. search needs)
     returns-2)

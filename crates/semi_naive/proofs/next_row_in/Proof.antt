@@ -1,4 +1,4 @@
--- `passes::next_in` meets its contract: the lists are the last part of the table. Assumes nothing.
+-- `semi_naive::next_row_in` meets its contract: the lists are the last part of the table. Assumes nothing.
 use mathlib.Core.Path.{_≡_, sym, subst}
 use mathlib.Core.List.{List}
 use Prim.Native.Nat.{ℕ, _-_}
@@ -9,8 +9,8 @@ use borrow.Author.Needs.{needs}
 use Rattle.places.specs.Lists.{end, afterIn}
 use Rattle.places.specs.Places.{Follows}
 use Rattle.verdicts.specs.NoteLaws.{lent-lists}
-use Rattle.passes.proofs.next_in.Statement.{statement}
-use Rattle.passes.proofs.next_in.Tie as tie
+use Rattle.semi_naive.proofs.next_row_in.Statement.{statement}
+use Rattle.semi_naive.proofs.next_row_in.Tie as tie
 
 counted : tie.Need-slice-aggregate-next-row
 counted c =
@@ -30,5 +30,5 @@ asked c κs =
     let t = s .args .table .now in
     (omega (arith, s .pre .0, length-drop 41472 t, length-take (length t - 41472) (drop 41472 t)), subst (λ (l : List ℕ). afterIn l (s .args .place .right) ≡ end) (sym (lent-lists t)) (s .pre .2))
 
-pub next-in-spec : {M : Type 1} → statement M
-next-in-spec = tie.close (tie.spec (λ c. search needs) (λ c. search needs) (λ c. search needs) counted asked returns)
+pub next-row-in-spec : {M : Type 1} → statement M
+next-row-in-spec = tie.close (tie.spec (λ c. search needs) (λ c. search needs) (λ c. search needs) counted asked returns)

@@ -1,0 +1,11 @@
+-- `semi_naive::may_pass` meets its contract. Assumes nothing.
+use mathlib.Core.Path.{refl}
+use borrow.Author.Needs.{needs}
+use Rattle.semi_naive.proofs.may_pass.Statement.{statement}
+use Rattle.semi_naive.proofs.may_pass.Tie as tie
+
+returns : tie.Need-returns
+returns c = rw (c .repeats .ensures) refl
+
+pub may-pass-spec : {M : Type 1} → statement M
+may-pass-spec = tie.close (tie.spec (λ c κs. search needs) returns)

@@ -1,0 +1,21 @@
+-- `semi_naive::next_in` meets its contract: the next right, or the place after the last one. Assumes nothing.
+use mathlib.Core.Path.{sym, _∙_}
+use lib.ListN.{take}
+use borrow.Author.Needs.{needs}
+use Rattle.places.specs.PlaceLaws.{follows-right}
+use Rattle.covers.specs.Covers.{listsIn}
+use Rattle.semi_naive.proofs.next_in.Statement.{statement}
+use Rattle.semi_naive.proofs.next_in.Tie as tie
+
+returns : tie.Need-returns
+returns c =
+    let a = c .before .before .before .args in
+    follows-right (listsIn (a .table .now)) (take (a .n) (a .rules .now)) (a .place) _ (c .before .after-in .ensures) (c .if1 .taken)
+
+asked : tie.Need-next-row-in-requires
+asked c κs =
+    let s = c .before .before .before in
+    (s .pre .0, s .pre .1, sym (c .before .after-in .ensures) ∙ c .if1 .left)
+
+pub next-in-spec : {M : Type 1} → statement M
+next-in-spec = tie.close (tie.spec (λ c κs. search needs) returns asked (λ c. search needs))

@@ -15,4 +15,5 @@ pub mod Loops
 pub mod Opening
 pub mod Parameters
 pub mod PlainData
+pub mod SharedFront
 pub mod Sharing

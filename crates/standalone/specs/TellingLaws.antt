@@ -5,6 +5,7 @@ use mathlib.Core.List.{List, [], _∷_, _++_, map}
 use Prim.Native.Nat.{ℕ, zero, suc, _≤_, _<_}
 use native.Mathlib.Omega.{arith}
 use lib.ListN.{length, getD, take, drop, replicate, List·getD-append}
+use lib.Seq.{take-length}
 use borrow.Author.Tests.{lt-ltb}
 use Rattle.basics.specs.Lists.{getD-map}
 use Rattle.relation.specs.Relation.{states, pairs}
@@ -81,21 +82,34 @@ unwritten bs rows old = by (fault bs .number) (journalFault (length rows))
     by zero (suc g) = refl
     by (suc f) g = refl
 
+-- no more bytes of the file are given to the writing than it has
+pub few-bytes : (c : Checked) (s : ℕ) → nameIn c s .bytes ≤ s
+few-bytes (checked.Refused r) s = omega arith
+few-bytes (checked.Answered (answer.Holds n)) s = omega arith
+few-bytes (checked.Answered (answer.Full n)) s = omega arith
+few-bytes (checked.Answered (answer.Spent n)) s = omega arith
+few-bytes (checked.Answered (answer.Broken i n)) s = omega arith
+
 -- ---- the whole reply
 
 module _ (bs : List ℕ) (B : ℕ) (before after rest : Journal) (few : length before ≤ journalLimit) (as-many : length after ≡ length before) (old new : List ℕ) (w : Writing) (y : LentRow) where
-  -- with the row that is named
+  -- the row that is named, and the bytes that the writing is given
+  abbrev name : Checked → Named
+  name c = nameIn c (length bs)
+
+  -- with that row
   abbrev tale : Checked → Told
-  tale c = toldBy c (getD (after ++ rest) (placeOf (nameIn c .row)) blank) y (refusedBy (writingOf w))
+  tale c = toldBy c (getD (after ++ rest) (placeOf (name c .row)) blank) y (refusedBy (writingOf w))
 
   -- over the journal as it stands then
-  tells : (c : Checked) → Checks bs B before after c → Writes bs (map rowOf after) (nameIn c .used) (nameIn c .row) old new w
+  tells : (c : Checked) → Checks bs B before after c → Writes (take (name c .bytes) bs) (map rowOf after) (name c .used) (name c .row) old new w
       → Tells bs (map rowOf after) (checkedOf c after) (numbersIn (tale c)) old new (tale c .code)
-  tells (checked.Refused r) h v = record { code = refl; details = refl; buffer = v .buffer ∙ unwritten bs (map rowOf after) old }
-  tells (checked.Answered (answer.Holds n)) h v = record { code = refl; details = refl; buffer = v .buffer ∙ unwritten bs (map rowOf after) old }
-  tells (checked.Answered (answer.Full n)) h v = record { code = refl; details = refl; buffer = v .buffer ∙ unwritten bs (map rowOf after) old }
-  tells (checked.Answered (answer.Spent n)) h v = record { code = refl; details = refl; buffer = v .buffer ∙ unwritten bs (map rowOf after) old }
-  tells (checked.Answered (answer.Broken i n)) h v =
+  tells (checked.Refused r) h v = record { code = refl; details = refl; buffer = v .buffer ∙ unwritten [] (map rowOf after) old }
+  tells (checked.Answered (answer.Holds n)) h v = record { code = refl; details = refl; buffer = v .buffer ∙ unwritten [] (map rowOf after) old }
+  tells (checked.Answered (answer.Full n)) h v = record { code = refl; details = refl; buffer = v .buffer ∙ unwritten [] (map rowOf after) old }
+  tells (checked.Answered (answer.Spent n)) h v = record { code = refl; details = refl; buffer = v .buffer ∙ unwritten [] (map rowOf after) old }
+  tells (checked.Answered (answer.Broken i n)) h u =
+      let v = subst (λ (xs : List ℕ). Writes xs (map rowOf after) (n .used) i old new w) (take-length bs) u in
       let lt = broken-used bs (length before) B _ (sym (h .answer)) refl in
       let le = h .promises _ (sym (h .answer)) .counts .rows-bound in
       let low : i < length after = omega (arith, lt, le, as-many) in
@@ -109,7 +123,7 @@ module _ (bs : List ℕ) (B : ℕ) (before after rest : Journal) (few : length b
       }
 
   -- of the check
-  tells-check : (c : Checked) → Checks bs B before after c → Writes bs (map rowOf after) (nameIn c .used) (nameIn c .row) old new w
+  tells-check : (c : Checked) → Checks bs B before after c → Writes (take (name c .bytes) bs) (map rowOf after) (name c .used) (name c .row) old new w
       → ChecksOver bs before B (numbersIn (tale c)) old new (tale c .code)
   tells-check c h v =
       record {
@@ -133,16 +147,16 @@ module _ (bs : List ℕ) (n : ℕ) (old : LentRow) (B p : ℕ) (before after : L
   -- of the array xs the first m rows were lent, and are zs then; d is named and stands at row i, and row k is asked for
   pub tells-alone : (xs : Journal) → xs ≡ replicate journalLimit old → (m : ℕ) → (m ≡ frontOf n) × (m ≤ journalLimit) → length (take m xs) ≡ m
       → (zs : Journal) → length zs ≡ m → length (zs ++ drop m xs) ≡ journalLimit → (c : Checked) → Checks bs B (take m xs) zs c
-      → (d : Named) → d ≡ nameIn c → (i : ℕ) → i ≡ placeOf (d .row) → (k : ℕ) → (k ≡ placeOf p) × (k < journalLimit) → (w : Writing) → Writes bs (map rowOf zs) (d .used) (d .row) before after w
+      → (d : Named) → d ≡ nameIn c (length bs) → (i : ℕ) → i ≡ placeOf (d .row) → (k : ℕ) → (k ≡ placeOf p) × (k < journalLimit) → (w : Writing) → Writes (take (d .bytes) bs) (map rowOf zs) (d .used) (d .row) before after w
       → (r : Told) → r ≡ toldBy c (getD (zs ++ drop m xs) i blank) (getD (zs ++ drop m xs) k blank) (refusedBy (writingOf w)) → ChecksAlone bs n old B p before after r
   unfolding journalOf restOf
   tells-alone xs e m em lent zs back all c h d ed i ei k ek w v r er =
       let front : take m xs ≡ journalOf n old = ap (λ (j : Journal). take m j) e ∙ ap (λ (u : ℕ). take u (replicate journalLimit old)) (em .0) in
       let rest : drop m xs ≡ restOf n old = ap (λ (j : Journal). drop m j) e ∙ ap (λ (u : ℕ). drop u (replicate journalLimit old)) (em .0) in
-      let v′ = subst (λ (z : Named). Writes bs (map rowOf zs) (z .used) (z .row) before after w) ed v in
+      let v′ = subst (λ (z : Named). Writes (take (z .bytes) bs) (map rowOf zs) (z .used) (z .row) before after w) ed v in
       let y = getD (zs ++ drop m xs) k blank in
       let f = refusedBy (writingOf w) in
-      let same : toldBy c (getD (zs ++ drop m xs) (placeOf (nameIn c .row)) blank) y f ≡ r =
+      let same : toldBy c (getD (zs ++ drop m xs) (placeOf (nameIn c (length bs) .row)) blank) y f ≡ r =
       ap (λ (u : ℕ). toldBy c (getD (zs ++ drop m xs) u blank) y f) (sym (ei ∙ ap (λ (z : Named). placeOf (z .row)) ed)) ∙ sym er in
       let t = tells-check bs B (take m xs) zs (drop m xs) (omega (arith, lent, em .1)) (back ∙ sym lent) before after w y c h v′ in
       record {

@@ -20,11 +20,12 @@ pub fn checked(
     let mut journal = [old; ROWS];
     let n = telling::front(rows);
     let checked = checker::check(file, &mut journal[..n], budget);
-    let named = telling::named_in(checked);
+    let named = telling::named_in(checked, file.len());
     let at = telling::row_number(named.row);
     let row = journal[at];
     let asked = telling::row_number(probe);
     let shown = journal[asked];
-    let writing = writer::write(file, &journal[..n], named.used, named.row, buffer);
+    let m = named.bytes;
+    let writing = writer::write(&file[..m], &journal[..n], named.used, named.row, buffer);
     telling::tell(checked, row, shown, writing)
 }

@@ -30,16 +30,16 @@ restOf n old = drop (frontOf n) (replicate journalLimit old)
 abbrev pub placeOf : ℕ → ℕ
 placeOf i = cond (ltb i journalLimit) i 0
 
--- the row of which the run is written; one that is not used, where none is broken
+-- the row of which the run is written, and so many bytes of the file, which has s; one that is not used and no bytes, where none is broken
 abbrev pub unnamed : Named
-unnamed = record { used = 0; row = 0 }
+unnamed = record { used = 0; row = 0; bytes = 0 }
 
-abbrev pub nameOf : Answer → Named
-nameOf (answer.Holds n) = unnamed
-nameOf (answer.Broken i n) = record { used = n .used; row = i }
-nameOf (answer.Full n) = unnamed
-nameOf (answer.Spent n) = unnamed
+abbrev pub nameOf : Answer → ℕ → Named
+nameOf (answer.Holds n) s = unnamed
+nameOf (answer.Broken i n) s = record { used = n .used; row = i; bytes = s }
+nameOf (answer.Full n) s = unnamed
+nameOf (answer.Spent n) s = unnamed
 
-abbrev pub nameIn : Checked → Named
-nameIn (checked.Refused r) = unnamed
-nameIn (checked.Answered a) = nameOf a
+abbrev pub nameIn : Checked → ℕ → Named
+nameIn (checked.Refused r) s = unnamed
+nameIn (checked.Answered a) s = nameOf a s

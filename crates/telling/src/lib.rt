@@ -41,10 +41,11 @@ pub struct Told {
     pub shown: Row,
 }
 
-// The row of which the run is to be written, and the used rows.
+// The row of which the run is to be written, the used rows, and how many bytes of the file the writing is given.
 pub struct Named {
     pub used: usize,
     pub row: usize,
+    pub bytes: usize,
 }
 
 // ---- before the check
@@ -87,27 +88,45 @@ pub fn row_number(i: usize) -> usize
     0
 }
 
-// The row of a broken answer. Where nothing is broken, a row that is not below the used ones: its run is not written.
-fn named_by(answer: Answer) -> Named
-    ensures { λ r. ⌜ r ≡ nameOf answer ⌝ }
+// The row of a broken answer, over a file of so many bytes. Where nothing is broken, a row that is not below the used ones: its run is not
+// written, so no byte of the file is read again.
+fn named_by(answer: Answer, size: usize) -> Named
+    ensures { λ r. ⌜ r ≡ nameOf answer size ⌝ }
 {
     match answer {
-        Answer::Holds(_) => Named { used: 0, row: 0 },
-        Answer::Full(_) => Named { used: 0, row: 0 },
-        Answer::Spent(_) => Named { used: 0, row: 0 },
+        Answer::Holds(_) => Named {
+            used: 0,
+            row: 0,
+            bytes: 0,
+        },
+        Answer::Full(_) => Named {
+            used: 0,
+            row: 0,
+            bytes: 0,
+        },
+        Answer::Spent(_) => Named {
+            used: 0,
+            row: 0,
+            bytes: 0,
+        },
         Answer::Broken(row, totals) => Named {
             used: totals.used,
             row,
+            bytes: size,
         },
     }
 }
 
-pub fn named_in(checked: Checked) -> Named
-    ensures { λ r. ⌜ r ≡ nameIn checked ⌝ }
+pub fn named_in(checked: Checked, size: usize) -> Named
+    ensures { λ r. ⌜ r ≡ nameIn checked size ⌝ }
 {
     match checked {
-        Checked::Refused(_) => Named { used: 0, row: 0 },
-        Checked::Answered(answer) => named_by(answer),
+        Checked::Refused(_) => Named {
+            used: 0,
+            row: 0,
+            bytes: 0,
+        },
+        Checked::Answered(answer) => named_by(answer, size),
     }
 }
 

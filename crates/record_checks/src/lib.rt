@@ -1,6 +1,7 @@
 // Checks 3 to 7 of one record's bytes (document 01, "Numbers a call may refuse with"), each a test of its own.
 ghost use mathlib.Core.Path.{_≡_};
 ghost use Rattle.plan_file.specs.Refusals as refusals;
+ghost use Rattle.record_checks.specs.BigEndian.{bigEndian};
 use plan_file::FINAL_KIND;
 use plan_file::RULE_KIND;
 use plan_file::TRANSITION_KIND;
@@ -53,17 +54,24 @@ pub fn stray_byte(r: [u8; 8]) -> bool
             | ((kind == FINAL_KIND) & ((((0 < b2) | (0 < b3)) | (0 < b4)) | last)))
 }
 
-// Check 6, of a record and the next: the last byte first, and each byte before it decides over those after it.
+// A record's bytes as one number, the first byte the highest.
+fn number_of(r: [u8; 8]) -> u64
+    ensures { λ x. ⌜ x ≡ bigEndian 256 8 r ⌝ }
+{
+    let mut n: u64 = 0;
+    let mut j: usize = 0;
+    while j < 8 {
+        n = n * 256 + r[j] as u64;
+        j += 1;
+    }
+    n
+}
+
+// Check 6, of a record and the next: the first byte that differs decides, as it does between the two numbers.
 pub fn rises(r: [u8; 8], s: [u8; 8]) -> bool
     ensures { λ x. ⌜ x ≡ refusals.rises r s ⌝ }
 {
-    let mut less = r[7] < s[7];
-    let mut j: usize = 7;
-    while 0 < j {
-        j -= 1;
-        less = (r[j] < s[j]) | ((r[j] == s[j]) & less);
-    }
-    less
+    number_of(r) < number_of(s)
 }
 
 // Check 7, where so many rules and transitions stand before the record.

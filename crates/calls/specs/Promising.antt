@@ -13,7 +13,7 @@ use Rattle.working_order.specs.Order.{Answer}
 use Rattle.calls.specs.Replies.{Reply, answered, unlessBy}
 use Rattle.calls.specs.Checking.{journalLimit, journalFault, orderOn, checkOf}
 use Rattle.calls.specs.DemandThree.{Promises}
-use Rattle.calls.specs.Truth.{one-verdict, counted, least-height, stable}
+use Rattle.calls.specs.Truth.{one-verdict, counted, least-height, rows-mean, stable}
 
 module _ {A : Type 0} where
   -- an answer was not refused
@@ -62,6 +62,7 @@ module _ (bs : List ℕ) (J B : ℕ) (a : Answer ℕ) (e : checkOf bs J B ≡ an
         one-verdict = rw (o .2) (one-verdict bs v J B (s .0));
         counts = rw (o .2) (counted bs v J B (s .0));
         least-height = rw (o .2) (least-height bs v J B);
+        rows-mean = rw (o .2) (rows-mean bs v J B (s .0));
         stable = λ f g J′ B′ j l b.
             ap (λ (x : ℕ). unlessBy x (fault bs) (unlessBy (journalFault J′) (refuse (journalFault J′) 0) (answered (orderOn bs J′ B′)))) v
             ∙ ap (λ (x : ℕ). unlessBy x (refuse (journalFault J′) 0) (answered (orderOn bs J′ B′))) (size-journal J′ (omega (arith, s .0)) l)

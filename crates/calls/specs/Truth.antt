@@ -9,25 +9,29 @@ use native.Mathlib.Omega.{arith}
 use lib.ListN.{length}
 use borrow.Author.Tests.{eqb-true}
 use Rattle.basics.specs.Tests.{and-fst, and-snd}
-use Rattle.relation.specs.Relation.{states, rejects}
+use Rattle.relation.specs.Relation.{states, has, rejects}
 use Rattle.language.specs.Grammar.{initial}
 use Rattle.language.specs.Spelling.{DerivesWithin}
 use Rattle.language.specs.Agreement.{language}
 use Rattle.language.specs.Automaton.{Automaton, Accepts, TurnsAway}
 use Rattle.language.specs.WordRelation.{wordRelation, isFinal, rejected}
-use Rattle.language.specs.Paths.{turns-away, accepts}
+use Rattle.language.specs.Paths.{path-of, of-path, turns-away, accepts}
 use Rattle.plan_file.specs.Refusals.{fault}
 use Rattle.plan_file.specs.Views.{rulesOf, automatonOf}
 use Rattle.plan_file.specs.Valid.{automaton-within}
 use Rattle.working_order.specs.Order.{Answer, Verdict, holds, broken, full, spent, check}
 use Rattle.working_order.specs.Behind.{wordBehind}
 use Rattle.working_order.specs.Truth.{SaysBy, check-says, holds-calm, shownRow}
-use Rattle.working_order.specs.Counting.{Exact, StopsBy, check-exact, never-spent}
+use Rattle.working_order.specs.Journal.{absent}
+use Rattle.working_order.specs.Halting.{Stops}
+use Rattle.working_order.specs.Exactly.{Ends, stops-so, ends-so, holds-ends}
+use Rattle.working_order.specs.Counting.{Exact, ExactBy, StopsBy, check-exact, never-spent}
 use Rattle.working_order.specs.Stability.{Firm, check-mono}
 use Rattle.calls.specs.Base.{starts, base, words}
 use Rattle.calls.specs.BaseLaws.{base-laws, word-sizes, relation-derived, word-derived}
 use Rattle.calls.specs.Checking.{orderOn, shown}
-use Rattle.calls.specs.DemandThree.{Derivable, Counterexample, OneVerdict, Counts, LeastHeight}
+use Rattle.calls.specs.DemandThree.{Derivable, Counterexample, OneVerdict, Counts, LeastHeight, rowIn, wordIn, RowMeans}
+use Rattle.calls.specs.JournalTruth.{row-true}
 
 module _ (bs : List ℕ) (v : fault bs .number ≡ 0) (J B : ℕ) where
   abbrev A : Automaton
@@ -92,15 +96,37 @@ module _ (bs : List ℕ) (v : fault bs .number ≡ 0) (J B : ℕ) where
     unfolding orderOn
     stops x e = subst (λ (y : Verdict). StopsBy (base states A) 1 (λ x y. le-refl 1) (le-refl 1) (rulesOf bs) J B pos y (orderOn bs J B)) e (counts .stops)
 
+    so : (x : Verdict) → Stops (base states A) (rulesOf bs) J B x (orderOn bs J B) → orderOn bs J B .verdict ≡ x
+    unfolding orderOn
+    so x h = stops-so (base states A) (rulesOf bs) J B x (orderOn bs J B) (counts .pass-bound) h
+
+    ends : orderOn bs J B .verdict ≡ holds → Ends (base states A) (rulesOf bs) J B (orderOn bs J B)
+    unfolding orderOn
+    ends = holds-ends (base states A) (rulesOf bs) J B
+
+    exact : (x : Verdict) → orderOn bs J B .verdict ≡ x → ExactBy (base states A) 1 (λ x y. le-refl 1) (le-refl 1) (rulesOf bs) J B pos x (orderOn bs J B)
+    unfolding orderOn
+    exact x e = subst (λ (y : Verdict). ExactBy (base states A) 1 (λ x y. le-refl 1) (le-refl 1) (rulesOf bs) J B pos y (orderOn bs J B)) e (counts .by-verdict)
+
+    -- no row unless broken
+    rowless : (x : Verdict) → orderOn bs J B .verdict ≡ x → (x ≡ broken → ⊥) → orderOn bs J B .row ≡ absent
+    rowless holds e n = exact holds e
+    rowless broken e n = absurd (n refl)
+    rowless full e n = exact full e .1
+    rowless spent e n = exact spent e .1
+
     -- demand 3
     pub one-verdict : OneVerdict bs J B (orderOn bs J B)
+    unfolding orderOn
     one-verdict =
         record {
           holds-for-all = meaning holds;
           broken-shows = shows;
           broken-exactly = λ f s. (λ e. (shown bs (orderOn bs J B), shows e), λ c. found (orderOn bs J B .verdict) refl f s c);
-          full-where = stops full;
-          spent-where = stops spent;
+          full-exactly = (stops full, so full);
+          spent-exactly = (stops spent, so spent);
+          broken-where = (stops broken, so broken);
+          holds-where = (ends, ends-so (base states A) (rulesOf bs) J B (orderOn bs J B) (counts .pass-bound));
         }
 
     -- the bound as the counting has it, and as document 01 writes it
@@ -115,11 +141,29 @@ module _ (bs : List ℕ) (v : fault bs .number ≡ 0) (J B : ℕ) where
     unfolding orderOn
     counted =
         record {
+          no-row = rowless (orderOn bs J B .verdict) refl;
+          last-row = exact broken;
           used-rows = counts .used-is;
           rows-bound = counts .rows-bound;
           pass-bound = omega (arith, counts .pass-bound);
           joins-bound = le-trans (counts .joins-bound) (le-of-eq bound);
           never-spent = λ h e. never-spent (base states A) 1 (λ x y. le-refl 1) (le-refl 1) (rulesOf bs) J B pos (le-trans (le-of-eq bound) h) e;
+        }
+
+    -- demand 2, of the rows
+    pub rows-mean : (i : ℕ) → i < orderOn bs J B .used → RowMeans bs (orderOn bs J B) i
+    unfolding orderOn
+    rows-mean i l =
+        let t = row-true bs J B i (subst (λ (n : ℕ). i < n) (counts .used-is) l) in
+        let w = wordIn bs (orderOn bs J B) i in
+        let within = automaton-within bs v .targets in
+        record {
+          derived = language (rulesOf bs) (rowIn (orderOn bs J B) i .head) w .1 (rowIn (orderOn bs J B) i .birth, t .derived);
+          joins-exactly = λ p q hp hq. (
+            λ h. path-of states (A .transitions) within w p q hp hq (ap (λ (e : ℕ). has states e p q) (t .relation-is) ∙ h),
+            λ h. sym (ap (λ (e : ℕ). has states e p q) (t .relation-is)) ∙ of-path states (A .transitions) within w p q hp hq h,
+          );
+          length-is = t .length-is;
         }
 
 -- once a verdict is neither "full" nor "spent", a longer journal or a larger budget leaves the whole answer as it is: verdict, joins,

@@ -20,13 +20,13 @@ abbrev pub Moves : List Transition → ℕ → ℕ → ℕ → Type 0
 Moves ts a c b = In (record { source = a; letter = c; target = b }) ts
 
 -- a path from a to b that is labelled with the word
-abbrev pub Path : List Transition → ℕ → List ℕ → ℕ → Type 0
-Path ts a [] b = a ≡ b
-Path ts a (c ∷ w) b = (m : ℕ) × Moves ts a c m × Path ts m w b
+abbrev pub WordPath : List Transition → ℕ → List ℕ → ℕ → Type 0
+WordPath ts a [] b = a ≡ b
+WordPath ts a (c ∷ w) b = (m : ℕ) × Moves ts a c m × WordPath ts m w b
 
 -- a path from state 0 to a final state
 abbrev pub Accepts : Automaton → List ℕ → Type 0
-Accepts A w = (f : ℕ) × In f (A .finals) × Path (A .transitions) 0 w f
+Accepts A w = (f : ℕ) × In f (A .finals) × WordPath (A .transitions) 0 w f
 
 -- no such path (document 01: the sheet turns the run away)
 abbrev pub TurnsAway : Automaton → List ℕ → Type 0

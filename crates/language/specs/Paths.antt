@@ -12,7 +12,7 @@ use Rattle.relation.specs.Digits.{some}
 use Rattle.relation.specs.DigitLaws.{some-of}
 use Rattle.relation.specs.Relation.{has, identity, compose, rejects}
 use Rattle.relation.specs.RelationLaws.{table-lt, has-table, identity-lt, has-identity, compose-lt, compose-in, compose-out, identity-compose, compose-identity, compose-assoc, rejects-none}
-use Rattle.language.specs.Automaton.{Transition, Automaton, Moves, Path, Accepts, TurnsAway, Within}
+use Rattle.language.specs.Automaton.{Transition, Automaton, Moves, WordPath, Accepts, TurnsAway, Within}
 use Rattle.language.specs.WordRelation.{moves, letterRelation, wordRelation, isFinal, rejected}
 
 pub wordRelation-lt : (n : ℕ) (ts : List Transition) (w : List ℕ) → wordRelation n ts w < 2 ^ (n * n)
@@ -65,14 +65,14 @@ in-moves ts c a b h =
 
 module _ (n : ℕ) (ts : List Transition) (targets : (m : Transition) → In m ts → m .target < n) where
   -- a pair of the relation is a path, and a path a pair
-  pub path-of : (w : List ℕ) (a b : ℕ) → a < n → b < n → has n (wordRelation n ts w) a b ≡ true → Path ts a w b
+  pub path-of : (w : List ℕ) (a b : ℕ) → a < n → b < n → has n (wordRelation n ts w) a b ≡ true → WordPath ts a w b
   unfolding wordRelation letterRelation
   path-of [] a b ha hb h = eqb-true a b (sym (has-identity n a b ha hb) ∙ h)
   path-of (c ∷ w) a b ha hb h =
       let r = compose-out n (letterRelation n ts c) (wordRelation n ts w) a b ha hb h in
       (r .0, moves-in ts c a (r .0) (sym (has-table n (moves ts c) a (r .0) ha (r .1)) ∙ r .2), path-of w (r .0) b (r .1) hb (r .3))
 
-  pub of-path : (w : List ℕ) (a b : ℕ) → a < n → b < n → Path ts a w b → has n (wordRelation n ts w) a b ≡ true
+  pub of-path : (w : List ℕ) (a b : ℕ) → a < n → b < n → WordPath ts a w b → has n (wordRelation n ts w) a b ≡ true
   unfolding wordRelation letterRelation
   of-path [] a b ha hb h = has-identity n a b ha hb ∙ eq-eqb a b h
   of-path (c ∷ w) a b ha hb h =

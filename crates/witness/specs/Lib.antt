@@ -3,3 +3,5 @@ pub mod Writes
 pub mod FittingLaws
 pub mod BehindLaws
 pub mod OnFile
+pub mod Shown
+pub mod Written

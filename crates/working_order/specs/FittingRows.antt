@@ -2,12 +2,12 @@
 use mathlib.Core.Path.{_≡_, refl, sym, ap, ap₂, _∙_, subst}
 use mathlib.Core.Logic.{_⊎_, inl, inr}
 use mathlib.Core.Bool.{Bool, true, _&&_}
-use mathlib.Core.List.{List, [], _∷_, map}
+use mathlib.Core.List.{List, [], _∷_, _++_, map}
 use Prim.Native.Nat.{ℕ, suc, _+_, _≤_, _<_}
 use native.Mathlib.Nat.{le-refl, le-of-suc-le-suc, le-trans, not-suc-le-zero, eq-or-lt-of-le, zero-add}
 use native.Mathlib.Omega.{arith}
 use lib.Dec.{eqb, ltb}
-use lib.ListN.{length, getD, length-map, List·getD-append}
+use lib.ListN.{length, getD, length-append, length-map, List·getD-append}
 use borrow.Author.Tests.{eqb-true, eq-eqb, ltb-true, lt-ltb}
 use Rattle.basics.specs.Lists.{In, map-in, getD-map}
 use Rattle.basics.specs.Tests.{and-intro, and-fst, and-snd}
@@ -49,6 +49,9 @@ module _ {E : Type 0} (A : Algebra E) where
             ap core (List·getD-append (map (retire (A .below) k c) rows) (born k c ∷ []) none-row j (subst (λ (x : ℕ). j < x) (sym (length-map rows (retire (A .below) k c))) h)
             ∙ getD-map (retire (A .below) k c) none-row none-row rows j h);
       }
+
+  pub keeps-more : (rows more : List (Row E)) → Keeps rows (rows ++ more)
+  keeps-more rows more = record { least = omega (arith, length-append rows more); same = λ j h. ap core (List·getD-append rows more none-row j h) }
 
   keeps-trans : (a b c : List (Row E)) → Keeps a b → Keeps b c → Keeps a c
   keeps-trans a b c p q = record { least = le-trans (p .least) (q .least); same = λ j h. q .same j (le-trans h (p .least)) ∙ p .same j h }
@@ -176,6 +179,18 @@ module _ {E : Type 0} (A : Algebra E) where
         (and-intro (ltb (c .rule) (length rules)) (eqb (getD rules (c .rule) noRule .head) (c .head)) (lt-ltb (c .rule) (length rules) l) (eq-eqb (getD rules (c .rule) noRule .head) (c .head) h))
         (body-same rows₀ rows i i′ hi up keeps (getD rules (c .rule) noRule .body) (c .left) (c .right) (c .len) f)
 
+    -- a row goes on fitting where the rows are kept
+    pub fits-on : (rows rows′ : List (Row E)) → Keeps rows rows′ → (i : ℕ) → i < length rows → rowFits (A .forms) rows rules i ≡ true → rowFits (A .forms) rows′ rules i ≡ true
+    unfolding rowFits
+    fits-on rows rows′ keeps i l f =
+        let r : Row E = getD rows i none-row in
+        let a = ltb (r .rule) (length rules) in
+        let b = eqb (getD rules (r .rule) noRule .head) (r .head) in
+        let d = bodyFits M rows i (getD rules (r .rule) noRule .body) (r .left) (r .right) (r .len) in
+        fits-as rows rows′ i i (omega arith) (le-refl i) keeps
+        r (keeps .same i l) (ltb-true (r .rule) (length rules) (and-fst a b (and-fst (a && b) d f)))
+        (eqb-true (getD rules (r .rule) noRule .head) (r .head) (and-snd a b (and-fst (a && b) d f))) (and-snd (a && b) d f)
+
     fit-added : (k : ℕ) (c : Candidate E) (rows₀ rows : List (Row E)) → CandidateFits rules rows₀ c → Keeps rows₀ rows → AllFit rows → AllFit (added (A .below) k c rows)
     unfolding rowFits born
     fit-added k c rows₀ rows cf keeps all i h = by (eq-or-lt-of-le (le-of-suc-le-suc (subst (λ (x : ℕ). i < x) (length-added A k c rows) h)))
@@ -187,15 +202,7 @@ module _ {E : Type 0} (A : Algebra E) where
         by (inl e) =
             fits-as rows₀ rows′ (length rows₀) i (le-refl (length rows₀)) (omega (arith, keeps .least)) (keeps-trans rows₀ rows rows′ keeps (keeps-added k c rows))
             (born k c) (ap (λ (x : ℕ). core (getD rows′ x none-row)) e ∙ ap core (last-added A k c rows)) (cf .rule-in) (cf .head-is) (cf .body-fits)
-        by (inr l) =
-            let r : Row E = getD rows i none-row in
-            let f = all i l in
-            let a = ltb (r .rule) (length rules) in
-            let b = eqb (getD rules (r .rule) noRule .head) (r .head) in
-            let d = bodyFits M rows i (getD rules (r .rule) noRule .body) (r .left) (r .right) (r .len) in
-            fits-as rows rows′ i i (omega arith) (le-refl i) (keeps-added k c rows)
-            r (keeps-added k c rows .same i l) (ltb-true (r .rule) (length rules) (and-fst a b (and-fst (a && b) d f)))
-            (eqb-true (getD rules (r .rule) noRule .head) (r .head) (and-snd a b (and-fst (a && b) d f))) (and-snd (a && b) d f)
+        by (inr l) = fits-on rows rows′ (keeps-added k c rows) i l (all i l)
 
     -- every row of a check's journal fits
     pub check-fits : (J B : ℕ) → AllFit (check A rules J B .journal)

@@ -20,3 +20,4 @@ pub mod Stability
 pub mod Journals
 pub mod Antichain
 pub mod FittingRows
+pub mod Exactly

@@ -80,8 +80,9 @@ uint64_t bolfrega_judge(const uint8_t *file, size_t file_length, const uint8_t *
 /*
  * Checks a file's plan against its order sheet, with a journal of `rows` rows and a budget of `budget` joins.
  *
- * It keeps its journal (256 KiB) and its tables (about 185 KiB) on the stack, and writing a run takes up to 512 KiB more: a thread that
- * calls it needs a stack of 1.5 MiB to be on the safe side. (The main thread of a Linux program has 8 MiB.)
+ * It keeps its journal (256 KiB) and its tables (about 185 KiB) on the stack, and writing a run takes up to 576 KiB more (144 bytes for
+ * each row on the way down): a thread that calls it needs a stack of 1.5 MiB to be on the safe side. (The main thread of a Linux program
+ * has 8 MiB.)
  *
  * Returns, and sets all eight details:
  * - 1 to 7 if the file is refused; else 8 if `rows` is 0 or above 4,096. The record is that of bolfrega_refusal (0 for 1, 2 and 8), and

@@ -3,6 +3,8 @@
  *
  *     cc -Iinclude examples/c/check.c target/staticlib/libbolfrega.a -o check
  *     ./check samples/plan-b.plan
+ *
+ * Exit status: 0 holds, 1 broken, 2 no answer (the file cannot be read, or the answer not written), 3 refused, 4 full or spent.
  */
 #include "bolfrega.h"
 
@@ -65,6 +67,22 @@ static void print_answer(uint64_t code, const uint64_t *details, const uint8_t *
     }
 }
 
+/* The exit status that goes with an answer. */
+static int status_of(uint64_t code)
+{
+    switch (code) {
+    case BOLFREGA_HOLDS:
+        return 0;
+    case BOLFREGA_BROKEN:
+        return 1;
+    case BOLFREGA_FULL:
+    case BOLFREGA_SPENT:
+        return 4;
+    default:
+        return 3;
+    }
+}
+
 int main(int argc, char **argv)
 {
     if (argc != 2) {
@@ -89,5 +107,10 @@ int main(int argc, char **argv)
     uint64_t code = bolfrega_check(file, length, ROWS, BUDGET, details, run, sizeof run);
     free(file);
     print_answer(code, details, run);
-    return 0;
+    /* An answer that was not written is none. */
+    if (fflush(stdout) != 0 || ferror(stdout)) {
+        perror("check: standard output");
+        return 2;
+    }
+    return status_of(code);
 }

@@ -38,7 +38,8 @@
 //! # Stack
 //!
 //! [`check`] keeps its journal (256 KiB) and its tables (about 185 KiB) on the stack, and allocates nothing. Writing a run takes up to
-//! 512 KiB more. A thread that calls it needs 1.5 MiB of stack to be on the safe side; Rust's threads have 2 MiB unless told otherwise.
+//! 576 KiB more (144 bytes for each row on the way down). A thread that calls it needs 1.5 MiB of stack to be on the safe side; Rust's
+//! threads have 2 MiB unless told otherwise.
 
 #![deny(unsafe_code)]
 #![warn(missing_docs)]

@@ -15,8 +15,7 @@ use Rattle.plan_file.specs.Views.{rulesOf, automatonOf}
 use Rattle.working_order.specs.Order.{Answer, holds, broken, full, spent}
 use Rattle.working_order.specs.Journal.{Row, noRow, absent, capped}
 use Rattle.working_order.specs.Behind.{wordBehind}
-use Rattle.working_order.specs.Exactly.{Ends}
-use Rattle.working_order.specs.Halting.{Stops}
+use Rattle.working_order.specs.Stopping.{Stops, Ends}
 use Rattle.calls.specs.Base.{base, formsBy, words}
 use Rattle.calls.specs.Checking.{journalLimit, checkOf, shown}
 use Rattle.calls.specs.Replies.{answered}
@@ -47,11 +46,11 @@ module _ (bs : List ℕ) where
     pub broken-exactly : (a .verdict ≡ full → ⊥) → (a .verdict ≡ spent → ⊥) → (a .verdict ≡ broken) ↔ ((w : List ℕ) × Counterexample w)
     -- "full" and "spent" come exactly where the working order runs out: at the candidate that Stops names, of which Found in
     -- Halting.antt says that the rows, or the joins, have run out
-    pub full-exactly : (a .verdict ≡ full) ↔ Stops (base states (automatonOf bs)) (rulesOf bs) J B full a
-    pub spent-exactly : (a .verdict ≡ spent) ↔ Stops (base states (automatonOf bs)) (rulesOf bs) J B spent a
+    pub stops-full : (a .verdict ≡ full) ↔ Stops (base states (automatonOf bs)) (rulesOf bs) J B full a
+    pub stops-spent : (a .verdict ≡ spent) ↔ Stops (base states (automatonOf bs)) (rulesOf bs) J B spent a
     -- and the other two where it says so: at a candidate that breaks, or at the end of a pass that has added no row
-    pub broken-where : (a .verdict ≡ broken) ↔ Stops (base states (automatonOf bs)) (rulesOf bs) J B broken a
-    pub holds-where : (a .verdict ≡ holds) ↔ Ends (base states (automatonOf bs)) (rulesOf bs) J B a
+    pub stops-broken : (a .verdict ≡ broken) ↔ Stops (base states (automatonOf bs)) (rulesOf bs) J B broken a
+    pub ends-holds : (a .verdict ≡ holds) ↔ Ends (base states (automatonOf bs)) (rulesOf bs) J B a
 
   -- the counts of an answer: joins are the candidates formed (Stops and Ends above), the row, and document 01's bounds
   pub record Counts (J B : ℕ) (a : Answer ℕ) : Type 0 where

@@ -23,8 +23,8 @@ use Rattle.working_order.specs.Order.{Answer, Verdict, holds, broken, full, spe
 use Rattle.working_order.specs.Behind.{wordBehind}
 use Rattle.working_order.specs.Truth.{SaysBy, check-says, holds-calm, shownRow}
 use Rattle.working_order.specs.Journal.{absent}
-use Rattle.working_order.specs.Halting.{Stops}
-use Rattle.working_order.specs.Exactly.{Ends, stops-so, ends-so, holds-ends}
+use Rattle.working_order.specs.Stopping.{Stops, Ends}
+use Rattle.working_order.specs.Exactly.{stops-so, ends-so, holds-ends}
 use Rattle.working_order.specs.Counting.{Exact, ExactBy, StopsBy, check-exact, never-spent}
 use Rattle.working_order.specs.Stability.{Firm, check-mono}
 use Rattle.calls.specs.Base.{starts, base, words}
@@ -98,7 +98,7 @@ module _ (bs : List ℕ) (v : fault bs .number ≡ 0) (J B : ℕ) where
 
     so : (x : Verdict) → Stops (base states A) (rulesOf bs) J B x (orderOn bs J B) → orderOn bs J B .verdict ≡ x
     unfolding orderOn
-    so x h = stops-so (base states A) (rulesOf bs) J B x (orderOn bs J B) (counts .pass-bound) h
+    so x h = stops-so (base states A) (rulesOf bs) J B x (orderOn bs J B) h
 
     ends : orderOn bs J B .verdict ≡ holds → Ends (base states A) (rulesOf bs) J B (orderOn bs J B)
     unfolding orderOn
@@ -123,10 +123,10 @@ module _ (bs : List ℕ) (v : fault bs .number ≡ 0) (J B : ℕ) where
           holds-for-all = meaning holds;
           broken-shows = shows;
           broken-exactly = λ f s. (λ e. (shown bs (orderOn bs J B), shows e), λ c. found (orderOn bs J B .verdict) refl f s c);
-          full-exactly = (stops full, so full);
-          spent-exactly = (stops spent, so spent);
-          broken-where = (stops broken, so broken);
-          holds-where = (ends, ends-so (base states A) (rulesOf bs) J B (orderOn bs J B) (counts .pass-bound));
+          stops-full = (stops full, so full);
+          stops-spent = (stops spent, so spent);
+          stops-broken = (stops broken, so broken);
+          ends-holds = (ends, ends-so (base states A) (rulesOf bs) J B (orderOn bs J B));
         }
 
     -- the bound as the counting has it, and as document 01 writes it

@@ -26,7 +26,7 @@ use Rattle.calls.specs.Checking.{journalFault, orderOn, checkOf, keptBy, journa
 use Rattle.calls.specs.Promising.{from-order, promises}
 use Rattle.calls.specs.Replies.{Reply, answered, unless, unlessBy}
 use Rattle.calls.specs.Writing.{rowFault, roomFault, wordOf, writeOf}
-use Rattle.witness.specs.BehindLaws.{behind-more}
+use Rattle.working_order.specs.BehindLaws.{behind-more}
 
 -- the first m rows fit, where each of them does
 all-fit : (M : Forms ℕ) (rows : List (Row ℕ)) (rules : List Rule) (m : ℕ) → ((i : ℕ) → i < m → rowFits M rows rules i ≡ true) → rowsFit M rows rules m ≡ true

@@ -25,8 +25,8 @@ use Rattle.calls.specs.Base.{base, words}
 use Rattle.calls.specs.Checking.{journalFault}
 use Rattle.calls.specs.Replies.{Reply, refused, answered, unless, unlessBy}
 use Rattle.calls.specs.Writing.{rowFault, roomFault, wordOf, writeOf}
-use Rattle.witness.specs.FittingLaws.{FitThrough, PointersFit, bodyAt, fitting, fit-through}
-use Rattle.witness.specs.BehindLaws.{behind-body}
+use Rattle.working_order.specs.FittingLaws.{FitThrough, PointersFit, bodyAt, fitting, fit-through}
+use Rattle.working_order.specs.BehindLaws.{behind-body}
 
 module _ (rules : List Rule) (M : Forms ℕ) (rows : List (Row ℕ)) where
   -- each row below i derives its word

@@ -7,7 +7,8 @@ use Prim.Native.Nat.{ℕ, suc}
 use native.Mathlib.Nat.{suc-ne-zero}
 use lib.Dec.{eqb}
 use borrow.Author.Tests.{eqb-true, ne-eqb}
-use Rattle.basics.specs.Lists.{In, any-at, map-in}
+use Rattle.basics.specs.Elements.{In}
+use Rattle.basics.specs.Lists.{any-at, map-in}
 use Rattle.basics.specs.Tests.{and-intro, and-fst, and-snd, fails}
 use Rattle.language.specs.Grammar.{Rule}
 use Rattle.working_order.specs.Algebra.{Algebra}

@@ -3,20 +3,23 @@ use mathlib.Core.Path.{_≡_, refl, sym, ap, _∙_, subst}
 use mathlib.Core.Bool.{Bool, true, false, cond}
 use mathlib.Core.List.{List, [], _∷_, map}
 use Prim.Native.Nat.{ℕ, zero, suc, _+_, _≤_, _<_, suc-le-suc, _*_, zero-le}
-use native.Mathlib.Nat.{le-refl, le-trans, le-of-eq, le-suc, suc-mul, mul-le-mul-right, mul-le-mul, add-le-add, mul-one}
+use native.Mathlib.Nat.{le-refl, le-trans, le-of-eq, le-suc, suc-mul, mul-le-mul-right, mul-le-mul, add-le-add, add-zero, mul-one}
+use native.Mathlib.Numerals.{add-one}
 use native.Mathlib.Omega.{arith}
 use lib.Dec.{eqb}
 use lib.ListN.{length, length-append, length-map}
 use borrow.Author.Tests.{eqb-false}
-use Rattle.basics.specs.Lists.{concatMap, length-concatMap}
+use Rattle.basics.specs.Elements.{concatMap}
+use Rattle.basics.specs.Lists.{length-concatMap}
 use Rattle.language.specs.Grammar.{Symbol, terminal, nonterminal, Body, empty, one, two, Rule}
 use Rattle.working_order.specs.Algebra.{Algebra}
 use Rattle.working_order.specs.Candidates.{Choice, Candidate, liveRows, sole, paired, choices, bodyCandidates, passCandidates}
 use Rattle.working_order.specs.Journal.{Row, absent, liveOf}
 use Rattle.working_order.specs.Order.{Progress, start, Verdict, holds, broken, full, spent, Outcome, going, stopped, Answer, answer, closeBy, close, onePass, passes, check}
 use Rattle.working_order.specs.Truth.{length-added}
+use Rattle.working_order.specs.Stopping.{Went, Found, Halt, lastJoin, Begun, Stops}
 use Rattle.working_order.specs.Walking.{Post}
-use Rattle.working_order.specs.Halting.{Went, Halt, Begun, Stops, walk-went}
+use Rattle.working_order.specs.Halting.{walk-went, begun-came}
 
 -- ---- how many candidates
 
@@ -63,6 +66,14 @@ module _ {E : Type 0} (A : Algebra E) (m : ℕ) (few : (x y : E) → length (A .
       le-trans (le-of-eq (length-append (bodyCandidates (A .forms) rows (x .head) r (x .body)) (passCandidates (A .forms) rows (suc r) rules)))
       (le-trans (add-le-add (length-bodyCandidates (x .head) r (x .body)) (length-passCandidates (suc r) rules))
       (le-of-eq (let e : J * (J * m) + length rules * (J * (J * m)) ≡ length rules * (J * (J * m)) + J * (J * m) = omega arith in e ∙ sym (suc-mul (length rules) (J * (J * m))))))
+
+-- ---- the join at which a check stops
+
+found-joins : {E : Type 0} (A : Algebra E) (J B k : ℕ) (v : Verdict) (i : ℕ) (c : Candidate E) (t u : Progress E) → Found A J B k v i c t u → u .joins ≡ t .joins + lastJoin v
+found-joins {E} A J B k holds i c t u f = absurd f
+found-joins {E} A J B k broken i c t u f = ap (λ (x : Progress E). x .joins) (f .5) ∙ sym (add-one (t .joins))
+found-joins {E} A J B k full i c t u f = ap (λ (x : Progress E). x .joins) (f .4) ∙ sym (add-one (t .joins))
+found-joins {E} A J B k spent i c t u f = ap (λ (x : Progress E). x .joins) (f .2) ∙ sym (add-zero (t .joins))
 
 -- ---- the whole check
 
@@ -118,7 +129,18 @@ module _ {E : Type 0} (A : Algebra E) (m : ℕ) (few : (x y : E) → length (A .
           (omega (arith, p .went .joins-are, ap length (p .split), length-append (p .before) (p .at ∷ p .after)))
 
       stops : (v : Verdict) (i : ℕ) (u : Progress E) → Halt A J B (suc h) cs s v i u → Stops A rules J B v (answer v (suc h) i u)
-      stops v i u p = record { passed = h; pass-is = refl; began = s; begun = b; last = u; halt = p; joins-are = refl; journal-is = refl }
+      stops v i u p =
+          let made : u .joins ≡ p .reached .joins + lastJoin v = found-joins A J B (suc h) v i (p .at) (p .reached) u (p .found) in
+          record {
+            passed = h;
+            pass-is = refl;
+            began = s;
+            begun = b;
+            last = u;
+            halt = p;
+            joins-are = omega (arith, made, p .went .joins-are, begun-came A rules J B h s b .joins-are);
+            journal-is = refl;
+          }
 
       by : (r : Outcome E) → onePass A rules J B (suc h) s ≡ r → Post (Went J (length cs) s) (Halt A J B (suc h) cs s) r
           → ((t : Progress E) → Begun A rules J B (suc h) t → J < f + length (t .rows) → length (t .rows) ≤ J → suc h ≤ length (t .rows) → t .joins ≤ suc h * per → Exact (passes A rules J B f (suc (suc h)) t))

@@ -1,5 +1,3 @@
 pub mod Parts
 pub mod Writes
 pub mod OnFile
-pub mod Shown
-pub mod Written

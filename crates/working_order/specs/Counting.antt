@@ -8,7 +8,7 @@ use native.Mathlib.Numerals.{add-one}
 use native.Mathlib.Omega.{arith}
 use lib.Dec.{eqb}
 use lib.ListN.{length, length-append, length-map}
-use borrow.Author.Tests.{eqb-false}
+use borrow.Author.Tests.{eqb-true, eqb-false}
 use Rattle.basics.specs.Elements.{concatMap}
 use Rattle.basics.specs.Lists.{length-concatMap}
 use Rattle.language.specs.Grammar.{Symbol, terminal, nonterminal, Body, empty, one, two, Rule}
@@ -17,9 +17,9 @@ use Rattle.working_order.specs.Candidates.{Choice, Candidate, liveRows, 
 use Rattle.working_order.specs.Journal.{Row, absent, liveOf}
 use Rattle.working_order.specs.Order.{Progress, start, Verdict, holds, broken, full, spent, Outcome, going, stopped, Answer, answer, closeBy, close, onePass, passes, check}
 use Rattle.working_order.specs.Truth.{length-added}
-use Rattle.working_order.specs.Stopping.{Went, Found, Halt, lastJoin, Begun, Stops}
+use Rattle.working_order.specs.Stopping.{Found, Halt, lastJoin, Begun, Stops, Ends}
 use Rattle.working_order.specs.Walking.{Post}
-use Rattle.working_order.specs.Halting.{walk-went, begun-came}
+use Rattle.working_order.specs.Halting.{Went, walk-went, halt-went, begun-came}
 
 -- ---- how many candidates
 
@@ -89,9 +89,9 @@ module _ {E : Type 0} (A : Algebra E) (m : ℕ) (few : (x y : E) → length (A .
   ExactBy full a = (a .used ≡ J) × (a .row ≡ absent)
   ExactBy spent a = (a .joins ≡ B) × (a .row ≡ absent) × (suc (a .joins) ≤ suc J * per)
 
-  -- every verdict but "holds" comes at a candidate of the last pass
+  -- where each verdict comes: in the last pass, "holds" at its end, and the others at a candidate
   abbrev pub StopsBy : Verdict → Answer E → Type 0
-  StopsBy holds a = Unit {0}
+  StopsBy holds a = Ends A rules J B a
   StopsBy broken a = Stops A rules J B broken a
   StopsBy full a = Stops A rules J B full a
   StopsBy spent a = Stops A rules J B spent a
@@ -122,11 +122,15 @@ module _ {E : Type 0} (A : Algebra E) (m : ℕ) (few : (x y : E) → length (A .
       top : (x : ℕ) → x ≤ s .joins + length cs → x ≤ suc J * per
       top x e = le-trans (up x e) (mul-le-mul-right per (suc-le-suc (le-trans a l)))
 
+      -- how far the walk came before it stopped
+      came : (v : Verdict) (i : ℕ) (u : Progress E) (p : Halt A J B (suc h) cs s v i u) → Went J (length (p .before)) s (p .reached)
+      came v i u p = halt-went A J B (suc h) cs s v i u p l
+
       -- the join at which the walk stopped is one of this pass
       within : (v : Verdict) (i : ℕ) (u : Progress E) (p : Halt A J B (suc h) cs s v i u) → suc (p .reached .joins) ≤ suc J * per
       within v i u p =
           top (suc (p .reached .joins))
-          (omega (arith, p .went .joins-are, ap length (p .split), length-append (p .before) (p .at ∷ p .after)))
+          (omega (arith, came v i u p .joins-are, ap length (p .split), length-append (p .before) (p .at ∷ p .after)))
 
       stops : (v : Verdict) (i : ℕ) (u : Progress E) → Halt A J B (suc h) cs s v i u → Stops A rules J B v (answer v (suc h) i u)
       stops v i u p =
@@ -138,7 +142,22 @@ module _ {E : Type 0} (A : Algebra E) (m : ℕ) (few : (x y : E) → length (A .
             begun = b;
             last = u;
             halt = p;
-            joins-are = omega (arith, made, p .went .joins-are, begun-came A rules J B h s b .joins-are);
+            joins-are = omega (arith, made, came v i u p .joins-are, begun-came A rules J B h s b .joins-are);
+            journal-is = refl;
+          }
+
+      ends : (t : Progress E) → onePass A rules J B (suc h) s ≡ going t → length (t .rows) ≡ length (s .rows) → Went J (length cs) s t
+          → Ends A rules J B (answer holds (suc h) absent t)
+      ends t e same p =
+          record {
+            passed = h;
+            pass-is = refl;
+            began = s;
+            begun = b;
+            last = t;
+            walked = e;
+            no-row = same;
+            joins-are = omega (arith, p .joins-are, begun-came A rules J B h s b .joins-are);
             journal-is = refl;
           }
 
@@ -155,7 +174,7 @@ module _ {E : Type 0} (A : Algebra E) (m : ℕ) (few : (x y : E) → length (A .
             stops = stops broken i u p;
             used-is = refl;
             joins-bound = omega (arith, made, within broken i u p);
-            rows-bound = let ne : length (p .reached .rows) ≡ J → ⊥ = c .2 in omega (arith, size, p .went .rows-fit);
+            rows-bound = let ne : length (p .reached .rows) ≡ J → ⊥ = c .2 in omega (arith, size, came broken i u p .rows-fit);
             pass-bound = suc-le-suc (le-trans a l);
           }
       by (stopped full i u) e p next =
@@ -179,13 +198,21 @@ module _ {E : Type 0} (A : Algebra E) (m : ℕ) (few : (x y : E) → length (A .
             stops = stops spent i u p;
             used-is = refl;
             joins-bound = le-trans (le-suc (u .joins)) bound;
-            rows-bound = omega (arith, ap (λ (x : Progress E). length (x .rows)) (c .2), p .went .rows-fit);
+            rows-bound = omega (arith, ap (λ (x : Progress E). length (x .rows)) (c .2), came spent i u p .rows-fit);
             pass-bound = suc-le-suc (le-trans a l);
           }
       by (going t) e p next = fork (eqb (length (t .rows)) (length (s .rows))) refl
         where
           fork : (x : Bool) → eqb (length (t .rows)) (length (s .rows)) ≡ x → Exact (closeBy x (suc h) (passes A rules J B f (suc (suc h))) t)
-          fork true q = record { by-verdict = refl; stops = tt; used-is = refl; joins-bound = top (t .joins) (le-of-eq (p .joins-are)); rows-bound = p .rows-fit; pass-bound = suc-le-suc (le-trans a l) }
+          fork true q =
+              record {
+                by-verdict = refl;
+                stops = ends t e (eqb-true (length (t .rows)) (length (s .rows)) q) p;
+                used-is = refl;
+                joins-bound = top (t .joins) (le-of-eq (p .joins-are));
+                rows-bound = p .rows-fit;
+                pass-bound = suc-le-suc (le-trans a l);
+              }
           fork false q =
               let ne : length (t .rows) ≡ length (s .rows) → ⊥ = eqb-false (length (t .rows)) (length (s .rows)) q in
               next t (s, b, e, ne) (omega (arith, p .rows-up)) (p .rows-fit) (omega (arith, p .rows-up)) (up (t .joins) (le-of-eq (p .joins-are)))

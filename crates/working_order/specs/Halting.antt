@@ -10,16 +10,22 @@ use Rattle.language.specs.Grammar.{Rule}
 use Rattle.working_order.specs.Algebra.{Algebra}
 use Rattle.working_order.specs.Candidates.{Candidate}
 use Rattle.working_order.specs.Order.{Progress, Verdict, Outcome, going, stopped, andThen, consider, walk, onePass}
-use Rattle.working_order.specs.Stopping.{Went, Found, Halt, Begun, formed, candidatesAt}
+use Rattle.working_order.specs.Stopping.{Found, Halt, candidatesAt, Begun, formed}
 use Rattle.working_order.specs.Walking.{Post, step-post}
 use Rattle.working_order.specs.Truth.{length-added}
 
+-- from s to t by m candidates, each one join
+pub record Went {E : Type 0} (J m : ℕ) (s t : Progress E) : Type 0 where
+  pub joins-are : t .joins ≡ s .joins + m
+  pub rows-up : length (s .rows) ≤ length (t .rows)
+  pub rows-fit : length (t .rows) ≤ J
+
 module _ {E : Type 0} (A : Algebra E) (J B k : ℕ) where
   -- with one candidate more in front
-  later : (c : Candidate E) (cs : List (Candidate E)) (s t : Progress E) → consider (A .below) (A .breaks) J B k c s ≡ going t → Went J 1 s t
+  later : (c : Candidate E) (cs : List (Candidate E)) (s t : Progress E) → consider (A .below) (A .breaks) J B k c s ≡ going t
       → (v : Verdict) (i : ℕ) (u : Progress E) → Halt A J B k cs t v i u → Halt A J B k (c ∷ cs) s v i u
   unfolding walk
-  later c cs s t e g v i u h =
+  later c cs s t e v i u h =
       record {
         before = c ∷ h .before;
         at = h .at;
@@ -27,13 +33,12 @@ module _ {E : Type 0} (A : Algebra E) (J B k : ℕ) where
         split = ap (λ (x : List (Candidate E)). c ∷ x) (h .split);
         reached = h .reached;
         walked = ap (λ (x : Outcome E). andThen x (walk (A .below) (A .breaks) J B k (h .before))) e ∙ h .walked;
-        went = record { joins-are = omega (arith, g .joins-are, h .went .joins-are); rows-up = omega (arith, g .rows-up, h .went .rows-up); rows-fit = h .went .rows-fit };
         found = h .found;
       }
 
-  at-once : (c : Candidate E) (cs : List (Candidate E)) (s : Progress E) → length (s .rows) ≤ J → (v : Verdict) (i : ℕ) (u : Progress E) → Found A J B k v i c s u → Halt A J B k (c ∷ cs) s v i u
+  at-once : (c : Candidate E) (cs : List (Candidate E)) (s : Progress E) (v : Verdict) (i : ℕ) (u : Progress E) → Found A J B k v i c s u → Halt A J B k (c ∷ cs) s v i u
   unfolding walk
-  at-once c cs s l v i u f =
+  at-once c cs s v i u f =
       record {
         before = [];
         at = c;
@@ -41,7 +46,6 @@ module _ {E : Type 0} (A : Algebra E) (J B k : ℕ) where
         split = refl;
         reached = s;
         walked = refl;
-        went = record { joins-are = omega arith; rows-up = le-refl (length (s .rows)); rows-fit = l };
         found = f;
       }
 
@@ -64,13 +68,17 @@ module _ {E : Type 0} (A : Algebra E) (J B k : ℕ) where
       on : (t : Progress E) → consider (A .below) (A .breaks) J B k c s ≡ going t → Went J 1 s t
           → (r : Outcome E) → Post (Went J (length cs) t) (Halt A J B k cs t) r → Post (Went J (suc (length cs)) s) (Halt A J B k (c ∷ cs) s) r
       on t e g (going u) p = record { joins-are = omega (arith, g .joins-are, p .joins-are); rows-up = omega (arith, g .rows-up, p .rows-up); rows-fit = p .rows-fit }
-      on t e g (stopped v i u) p = later c cs s t e g v i u p
+      on t e g (stopped v i u) p = later c cs s t e v i u p
 
       by : (r : Outcome E) → consider (A .below) (A .breaks) J B k c s ≡ r → Post (Went J 1 s) (λ v i u. Found A J B k v i c s u) r
           → ((t : Progress E) → length (t .rows) ≤ J → Post (Went J (length cs) t) (Halt A J B k cs t) (walk (A .below) (A .breaks) J B k cs t))
           → Post (Went J (suc (length cs)) s) (Halt A J B k (c ∷ cs) s) (andThen r (walk (A .below) (A .breaks) J B k cs))
       by (going t) e g ih = on t e g (walk (A .below) (A .breaks) J B k cs t) (ih t (g .rows-fit))
-      by (stopped v i u) e g ih = at-once c cs s l v i u g
+      by (stopped v i u) e g ih = at-once c cs s v i u g
+
+  -- the candidates before the one at which it stopped
+  pub halt-went : (cs : List (Candidate E)) (s : Progress E) (v : Verdict) (i : ℕ) (u : Progress E) (h : Halt A J B k cs s v i u) → length (s .rows) ≤ J → Went J (length (h .before)) s (h .reached)
+  halt-went cs s v i u h l = subst (Post (Went J (length (h .before)) s) (Halt A J B k (h .before) s)) (h .walked) (walk-went (h .before) s l)
 
 -- ---- the passes
 

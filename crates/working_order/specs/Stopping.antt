@@ -4,7 +4,7 @@
 use mathlib.Core.Path.{_≡_}
 use mathlib.Core.Bool.{true, false}
 use mathlib.Core.List.{List, _∷_, _++_}
-use Prim.Native.Nat.{ℕ, zero, suc, _+_, _≤_}
+use Prim.Native.Nat.{ℕ, zero, suc, _+_}
 use lib.ListN.{length}
 use Rattle.language.specs.Grammar.{Rule}
 use Rattle.working_order.specs.Algebra.{Algebra}
@@ -41,13 +41,7 @@ module _ {E : Type 0} (A : Algebra E) where
 
 -- ---- the candidates of a pass
 
--- from s to t by m candidates, each one join
-pub record Went {E : Type 0} (J m : ℕ) (s t : Progress E) : Type 0 where
-  pub joins-are : t .joins ≡ s .joins + m
-  pub rows-up : length (s .rows) ≤ length (t .rows)
-  pub rows-fit : length (t .rows) ≤ J
-
--- in pass k, the walk through cs from s has stopped at one of them: all before it were formed
+-- in pass k, the walk through cs from s has stopped at one of them, after all before it
 pub record Halt {E : Type 0} (A : Algebra E) (J B k : ℕ) (cs : List (Candidate E)) (s : Progress E) (v : Verdict) (i : ℕ) (u : Progress E) : Type 0 where
   pub before : List (Candidate E)
   pub at : Candidate E
@@ -55,7 +49,6 @@ pub record Halt {E : Type 0} (A : Algebra E) (J B k : ℕ) (cs : List (Candidate
   pub split : cs ≡ before ++ (at ∷ after)
   pub reached : Progress E
   pub walked : walk (A .below) (A .breaks) J B k before s ≡ going reached
-  pub went : Went J (length before) s reached
   pub found : Found A J B k v i at reached u
 
 -- ---- the passes of a check

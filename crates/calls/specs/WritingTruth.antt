@@ -182,7 +182,7 @@ module _ (bs : List ℕ) (v : fault bs .number ≡ 0) (rows : List (Row ℕ)) (e
   -- and refuses by its bounds
   room-for : (w : List ℕ) (room : ℕ) → length w < longWord → length w ≤ room → roomFault w room ≡ 0
   unfolding roomFault
-  room-for w room l r = rw (lt-leb longWord (length w) l, le-ltb room (length w) r)
+  room-for w room l r = ap₂ (λ (x y : Bool). cond (x || y) 10 0) (lt-leb longWord (length w) l) (le-ltb room (length w) r)
 
   no-room : (w : List ℕ) (room : ℕ) → (longWord ≤ length w) ⊎ (room < length w) → roomFault w room ≡ 10
   unfolding roomFault

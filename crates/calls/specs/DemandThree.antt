@@ -73,28 +73,28 @@ module _ (bs : List ℕ) where
   -- ---- the rows
 
   -- row i that the check left, and the word behind it
-  abbrev pub rowIn : Answer ℕ → ℕ → Row ℕ
-  rowIn a i = rowOn bs (a .journal) i
+  abbrev pub usedRow : Answer ℕ → ℕ → Row ℕ
+  usedRow a i = rowOn bs (a .journal) i
 
-  abbrev pub wordIn : Answer ℕ → ℕ → List ℕ
-  wordIn a i = wordOf bs (a .journal) i
+  abbrev pub usedWord : Answer ℕ → ℕ → List ℕ
+  usedWord a i = wordOf bs (a .journal) i
 
   -- what row i is
   pub record RowMeans (a : Answer ℕ) (i : ℕ) : Type 0 where
     -- its nonterminal derives the word behind it
-    pub derived : Language (rulesOf bs) (rowIn a i .head) (wordIn a i)
+    pub derived : Language (rulesOf bs) (usedRow a i .head) (usedWord a i)
     -- its relation has exactly the pairs of states that a path on this word joins
     pub pairs-exactly : (p q : ℕ) → p < states → q < states
-        → (has states (rowIn a i .effect) p q ≡ true) ↔ WordPath (automatonOf bs .transitions) p (wordIn a i) q
-    pub length-is : rowIn a i .len ≡ capped (length (wordIn a i))
+        → (has states (usedRow a i .effect) p q ≡ true) ↔ WordPath (automatonOf bs .transitions) p (usedWord a i) q
+    pub length-is : usedRow a i .len ≡ capped (length (usedWord a i))
     -- it fits the file
     pub fits : rowFits (base states (automatonOf bs) .forms) (a .journal) (rulesOf bs) i ≡ true
 
   -- the live rows of one nonterminal are an antichain (document 000, section 4, as document 01 reads it: a condition on two different
   -- members): of two different ones neither relation is contained in the other
   abbrev pub LiveAntichain : Answer ℕ → Type 0
-  LiveAntichain a = (i j : ℕ) → i < a .used → j < a .used → (i ≡ j → ⊥) → rowIn a i .head ≡ rowIn a j .head
-      → rowIn a i .retired ≡ 0 → rowIn a j .retired ≡ 0 → Subrelation (rowIn a i .effect) (rowIn a j .effect) → ⊥
+  LiveAntichain a = (i j : ℕ) → i < a .used → j < a .used → (i ≡ j → ⊥) → usedRow a i .head ≡ usedRow a j .head
+      → usedRow a i .retired ≡ 0 → usedRow a j .retired ≡ 0 → Subrelation (usedRow a i .effect) (usedRow a j .effect) → ⊥
 
   -- ---- the word of a broken answer, written
 

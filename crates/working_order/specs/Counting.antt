@@ -156,7 +156,7 @@ module _ {E : Type 0} (A : Algebra E) (m : ℕ) (few : (x y : E) → length (A .
             begun = b;
             last = t;
             walked = e;
-            no-row = same;
+            none-added = same;
             joins-are = omega (arith, p .joins-are, begun-came A rules J B h s b .joins-are);
             journal-is = refl;
           }

@@ -67,4 +67,4 @@ module _ {E : Type 0} (A : Algebra E) (rules : List Rule) (J B : ℕ) where
       ap (λ (x : Answer E). x .verdict)
       (from-pass (h .passed) (h .began) (h .begun)
       ∙ ap (close (suc (h .passed)) (length (h .began .rows)) (passes A rules J B (J - h .passed) (suc (suc (h .passed))))) (h .walked)
-      ∙ ap (λ (x : Bool). closeBy x (suc (h .passed)) (passes A rules J B (J - h .passed) (suc (suc (h .passed)))) (h .last)) (eq-eqb (length (h .last .rows)) (length (h .began .rows)) (h .no-row)))
+      ∙ ap (λ (x : Bool). closeBy x (suc (h .passed)) (passes A rules J B (J - h .passed) (suc (suc (h .passed)))) (h .last)) (eq-eqb (length (h .last .rows)) (length (h .began .rows)) (h .none-added)))

@@ -12,7 +12,7 @@ use Rattle.working_order.specs.Candidates.{Candidate, passCandidates}
 use Rattle.working_order.specs.Journal.{absent}
 use Rattle.working_order.specs.Order.{Progress, start, Verdict, holds, broken, full, spent, Answer, going, dropped, added, walk, onePass}
 
--- ---- one candidate
+-- ---- the candidates of a pass
 
 module _ {E : Type 0} where
   -- after a candidate that was formed, and did not become a row
@@ -26,7 +26,7 @@ module _ {E : Type 0} (A : Algebra E) where
 
   module _ (J B k : ℕ) where
     -- what is found in pass k at the candidate c, reached with the progress t, that ends the check with the verdict, the row i and the
-    -- progress u
+    -- progress u: the tests of document 01's working order, in its order
     abbrev pub Found : Verdict → ℕ → Candidate E → Progress E → Progress E → Type 0
     -- no candidate ends a check so
     Found holds i c t u = ⊥
@@ -39,26 +39,24 @@ module _ {E : Type 0} (A : Algebra E) where
         (t .joins ≡ B → ⊥) × (dropped (A .below) c (t .rows) ≡ false) × (length (t .rows) ≡ J → ⊥) × (A .breaks (c .head) (c .effect) ≡ true)
         × (i ≡ length (t .rows)) × (u ≡ grown k c t)
 
--- ---- the candidates of a pass
-
--- in pass k, the walk through cs from s has stopped at one of them, after all before it
-pub record Halt {E : Type 0} (A : Algebra E) (J B k : ℕ) (cs : List (Candidate E)) (s : Progress E) (v : Verdict) (i : ℕ) (u : Progress E) : Type 0 where
-  pub before : List (Candidate E)
-  pub at : Candidate E
-  pub after : List (Candidate E)
-  pub split : cs ≡ before ++ (at ∷ after)
-  pub reached : Progress E
-  pub walked : walk (A .below) (A .breaks) J B k before s ≡ going reached
-  pub found : Found A J B k v i at reached u
+    -- the walk through the candidates cs, from s, has stopped at one of them: it went on past all before it
+    pub record Halt (cs : List (Candidate E)) (s : Progress E) (v : Verdict) (i : ℕ) (u : Progress E) : Type 0 where
+      pub before : List (Candidate E)
+      pub at : Candidate E
+      pub after : List (Candidate E)
+      pub split : cs ≡ before ++ (at ∷ after)
+      pub reached : Progress E
+      pub walked : walk (A .below) (A .breaks) J B k before s ≡ going reached
+      pub found : Found v i at reached u
 
 -- ---- the passes of a check
 
--- the candidate at which a check stops is a join, unless the joins have run out there
+-- the candidate at which a check stops is a join, unless the joins have run out there ("holds" comes at none)
 abbrev pub lastJoin : Verdict → ℕ
+lastJoin holds = 0
 lastJoin spent = 0
-lastJoin holds = 1
-lastJoin broken = 1
 lastJoin full = 1
+lastJoin broken = 1
 
 -- the candidates of a pass that begins with s
 abbrev pub candidatesAt : {E : Type 0} → Algebra E → List Rule → Progress E → List (Candidate E)
@@ -95,7 +93,7 @@ module _ {E : Type 0} (A : Algebra E) (rules : List Rule) (J B : ℕ) where
     pub begun : Begun passed began
     pub last : Progress E
     pub walked : onePass A rules J B (suc passed) began ≡ going last
-    pub no-row : length (last .rows) ≡ length (began .rows)
+    pub none-added : length (last .rows) ≡ length (began .rows)
     -- the candidates of all passes
     pub joins-are : a .joins ≡ formed passed began begun + length (candidatesAt A rules began)
     pub journal-is : a .journal ≡ last .rows

@@ -57,7 +57,7 @@ module _ (bs : List ℕ) where
   pub record Counts (J B : ℕ) (a : Answer ℕ) : Type 0 where
     -- 65,535 unless broken, and then the last used row
     pub no-row : (a .verdict ≡ broken → ⊥) → a .row ≡ absent
-    pub last-row : a .verdict ≡ broken → a .used ≡ suc (a .row)
+    pub last-row : a .verdict ≡ broken → suc (a .row) ≡ a .used
     pub used-rows : a .used ≡ length (a .journal)
     pub rows-bound : a .used ≤ J
     pub pass-bound : a .pass ≤ J + 1

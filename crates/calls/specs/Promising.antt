@@ -1,4 +1,4 @@
--- A check that answers keeps the promises of demand 3. Assumes nothing.
+-- A check that answers keeps its promises. Assumes nothing.
 use mathlib.Core.Path.{_≡_, refl, sym, ap, _∙_, subst}
 use mathlib.Core.Bool.{Bool, true, false, _||_, cond}
 use mathlib.Core.List.{List}

@@ -1,4 +1,5 @@
--- Demand 3 and stability, on the bytes of a file that is not refused, for every journal length and every budget. Assumes nothing.
+-- Demand 3, the counts, what the rows are and stability, on the bytes of a file that is not refused, for every journal length and every
+-- budget. Assumes nothing.
 use mathlib.Core.Path.{_≡_, refl, sym, ap, _∙_, subst}
 use mathlib.Core.Bool.{true, false, true≢false}
 use mathlib.Core.List.{List}
@@ -146,7 +147,7 @@ module _ (bs : List ℕ) (v : fault bs .number ≡ 0) (J B : ℕ) where
     counted =
         record {
           no-row = rowless (orderOn bs J B .verdict) refl;
-          last-row = λ e. sym (exact broken e);
+          last-row = exact broken;
           used-rows = counts .used-is;
           rows-bound = counts .rows-bound;
           pass-bound = omega (arith, counts .pass-bound);

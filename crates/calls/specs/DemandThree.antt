@@ -6,7 +6,7 @@ use mathlib.Core.Logic.{_↔_, _⊎_}
 use mathlib.Core.Bool.{true}
 use mathlib.Core.List.{List, _++_}
 use Prim.Native.Nat.{ℕ, suc, _+_, _*_, _≤_, _<_}
-use lib.ListN.{length, getD, drop}
+use lib.ListN.{length, drop}
 use Rattle.relation.specs.Relation.{states, has}
 use Rattle.language.specs.Grammar.{initial}
 use Rattle.language.specs.Rewriting.{Language}

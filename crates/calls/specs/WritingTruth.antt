@@ -2,13 +2,13 @@
 -- broken check it is the shown word, whatever the journal held before, with 10 as the only refusal. Assumes nothing.
 use mathlib.Core.Path.{_≡_, refl, sym, ap, ap₂, _∙_, subst}
 use mathlib.Core.Logic.{_⊎_, inl, inr}
-use mathlib.Core.Bool.{Bool, true, false, not, _&&_, _||_, cond}
+use mathlib.Core.Bool.{Bool, true, false, not, _||_, cond}
 use mathlib.Core.List.{List, [], _++_, append-nil}
 use Prim.Native.Nat.{ℕ, zero, suc, _+_, _≤_, _<_}
 use native.Mathlib.Nat.{le-refl, not-suc-le-zero, suc-ne-zero}
 use native.Mathlib.Omega.{arith}
 use lib.Dec.{eqb, leb, ltb}
-use lib.ListN.{length, getD, take, drop, length-append, length-drop}
+use lib.ListN.{length, getD, drop, length-append, length-drop}
 use lib.Seq.{take-at}
 use borrow.Author.Tests.{eqb-true, ltb-true, ltb-false, lt-ltb, le-ltb, le-leb, lt-leb}
 use Rattle.basics.specs.Lists.{getD-in}
@@ -24,12 +24,12 @@ use Rattle.working_order.specs.Algebra.{Forms, Algebra}
 use Rattle.working_order.specs.Journal.{Row, noRow}
 use Rattle.working_order.specs.Behind.{symbolWord, bodyWord, wordsOf, wordBehind}
 use Rattle.working_order.specs.BehindLaws.{behind-more, behind-body}
-use Rattle.working_order.specs.Fitting.{pointerFits, bodyFits, rowFits, rowsFit}
+use Rattle.working_order.specs.Fitting.{pointerFits, rowFits, rowsFit}
 use Rattle.working_order.specs.FittingLaws.{FitThrough, PointersFit, bodyAt, fitting, fit-through}
 use Rattle.working_order.specs.FittingRows.{keeps-more, fits-on}
 use Rattle.working_order.specs.Order.{Answer, broken}
 use Rattle.calls.specs.Base.{base, words}
-use Rattle.calls.specs.Checking.{journalFault, orderOn, checkOf, keptBy, journalAfter, shown}
+use Rattle.calls.specs.Checking.{journalFault, orderOn, checkOf, journalAfter, shown}
 use Rattle.calls.specs.DemandThree.{Counts, WritesShown}
 use Rattle.calls.specs.JournalTruth.{row-true}
 use Rattle.calls.specs.Replies.{Reply, refused, answered, unless}

@@ -10,7 +10,7 @@ use borrow.Author.Tests.{eq-eqb, ne-eqb}
 use Rattle.language.specs.Grammar.{Rule}
 use Rattle.working_order.specs.Algebra.{Algebra}
 use Rattle.working_order.specs.Candidates.{Candidate}
-use Rattle.working_order.specs.Order.{Progress, start, Verdict, holds, broken, full, spent, Outcome, going, stopped, Answer, andThen, answer, decide, consider, walk, closeBy, close, onePass, passes, check}
+use Rattle.working_order.specs.Order.{Progress, start, Verdict, holds, broken, full, spent, Outcome, stopped, Answer, andThen, answer, decide, consider, walk, closeBy, close, onePass, passes, check}
 use Rattle.working_order.specs.Stopping.{Found, Halt, candidatesAt, Begun, Stops, Ends}
 use Rattle.working_order.specs.Walking.{walk-append}
 use Rattle.working_order.specs.Halting.{begun-came}

@@ -4,8 +4,7 @@ use mathlib.Core.List.{List}
 use Prim.Native.Nat.{ℕ}
 use Rattle.plan_file.specs.Answers.{refusalOf}
 use Rattle.calls.specs.Replies.{Reply, refused, answered}
-use Rattle.calls.specs.Judging.{Judgement, accepted, turnedAway, judgeOf}
-use Rattle.calls.specs.JudgingTruth.{Means}
+use Rattle.calls.specs.Judging.{Judgement, accepted, turnedAway, judgeOf, Means}
 use Rattle.acceptance.specs.declared.Judged.{Judged}
 use Rattle.acceptance.specs.declared.Judged.the-variants.{Accepted, TurnedAway, Refused}
 

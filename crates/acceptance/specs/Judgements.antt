@@ -16,8 +16,8 @@ use Rattle.plan_file.specs.Limits.{terminals}
 use Rattle.plan_file.specs.Refusals.{Refusal, refuse, fault}
 use Rattle.plan_file.specs.Views.{automatonOf}
 use Rattle.calls.specs.Replies.{Reply, refused, answered, unless, unlessBy}
-use Rattle.calls.specs.Judging.{Judgement, judgementBy, wordLimit, wordFault, judgeOf}
-use Rattle.calls.specs.JudgingTruth.{Means, judge-means}
+use Rattle.calls.specs.Judging.{Judgement, judgementBy, wordLimit, wordFault, judgeOf, Means}
+use Rattle.calls.specs.JudgingTruth.{judge-means}
 use Rattle.acceptance.specs.declared.Judged.{Judged}
 use Rattle.acceptance.specs.Letters.{strays}
 use Rattle.acceptance.specs.Answers.{judgedOf, Judging}

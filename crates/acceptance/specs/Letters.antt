@@ -3,7 +3,7 @@ use mathlib.Core.Bool.{Bool}
 use mathlib.Core.List.{List}
 use Prim.Native.Nat.{ℕ}
 use lib.Dec.{leb}
-use Rattle.basics.specs.Lists.{any}
+use Rattle.basics.specs.Elements.{any}
 use Rattle.plan_file.specs.Limits.{terminals}
 
 -- some letter of the word is no terminal (document 01: a code above 127)

@@ -1,4 +1,4 @@
--- Membership in a list, by recursion on the list; a test on some element; a list for each element, put together. Assumes nothing.
+-- Laws of membership, of a test on some element, and of a list for each element, put together. Assumes nothing.
 use mathlib.Core.Path.{_≡_, refl, sym, ap, ap₂, _∙_, subst}
 use mathlib.Core.Logic.{_⊎_, inl, inr}
 use mathlib.Core.Bool.{Bool, true, false, _||_, false≢true, or-assoc}
@@ -8,26 +8,8 @@ use native.Mathlib.Nat.{zero-lt-suc, le-trans, le-of-eq, add-le-add, suc-mul, no
 use native.Mathlib.Omega.{arith}
 use lib.ListN.{length, getD, take, drop, length-append}
 use lib.Seq.{drop-drop}
+use Rattle.basics.specs.Elements.{In, any, concatMap}
 use Rattle.basics.specs.Tests.{or-right}
-
--- ---- definitions
-
-module _ {A : Type 0} where
-  -- x is an element of the list
-  abbrev pub In : A → List A → Type 0
-  In x [] = ⊥
-  In x (y ∷ ys) = (x ≡ y) ⊎ In x ys
-
-  -- some element of the list passes the test
-  abbrev pub any : (A → Bool) → List A → Bool
-  any f [] = false
-  any f (x ∷ xs) = f x || any f xs
-
--- the list of f for each element, one after the other
-module _ {A B : Type 0} where
-  abbrev pub concatMap : (A → List B) → List A → List B
-  concatMap f [] = []
-  concatMap f (x ∷ xs) = f x ++ concatMap f xs
 
 -- ---- membership
 

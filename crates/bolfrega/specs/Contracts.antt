@@ -6,8 +6,7 @@ use lib.ListN.{replicate}
 use Rattle.plan_file.specs.Refusals.{fault}
 use Rattle.working_order.specs.Journal.{Row}
 use Rattle.calls.specs.Checking.{journalAfter}
-use Rattle.calls.specs.Judging.{judgeOf}
-use Rattle.calls.specs.JudgingTruth.{Means}
+use Rattle.calls.specs.Judging.{judgeOf, Means}
 use Rattle.telling.specs.Codes.{codeBy}
 use Rattle.standalone.specs.Told.{zeroRow}
 use Rattle.standalone.specs.Contracts.{ChecksBy}

@@ -24,12 +24,11 @@ use Rattle.calls.specs.BaseLaws.{base-laws, word-sizes}
 use Rattle.calls.specs.Checking.{journalFault, orderOn, checkOf, keptBy, journalAfter, shown}
 use Rattle.calls.specs.DemandThree.{Derivable, Counterexample}
 use Rattle.calls.specs.JournalTruth.{row-true}
-use Rattle.calls.specs.Judging.{Judgement, accepted, turnedAway, judgeOf}
-use Rattle.calls.specs.JudgingTruth.{Means}
+use Rattle.calls.specs.Judging.{Judgement, accepted, turnedAway, judgeOf, Means}
 use Rattle.calls.specs.Promising.{from-order}
 use Rattle.calls.specs.Replies.{Reply, refused, answered, unless, unlessBy}
 use Rattle.calls.specs.Writing.{longWord, rowFault, roomFault, wordOf, writeOf, writtenBy, bufferAfter}
-use Rattle.witness.specs.BehindLaws.{behind-more}
+use Rattle.working_order.specs.BehindLaws.{behind-more}
 use Rattle.telling.specs.Codes.{holdsCode, brokenCode, verdictCode, codeBy}
 use Rattle.telling.specs.Telling.{refusedBy}
 use Rattle.standalone.specs.Told.{zeroRow, answerCode, rowIn, lastThree, detailsOf, shownBy, shownOf}

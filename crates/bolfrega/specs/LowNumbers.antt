@@ -5,7 +5,7 @@ use Prim.Native.Nat.{ℕ, zero, suc, _≤_, _%_}
 use native.Mathlib.Omega.{arith}
 use lib.Dec.{eqb, leb, ltb}
 use lib.ListN.{length}
-use Rattle.basics.specs.Lists.{any}
+use Rattle.basics.specs.Elements.{any}
 use Rattle.plan_file.specs.Limits.{recordLimit, terminals}
 use Rattle.plan_file.specs.Records.{recordCount, recordAt, ruleKind, transitionKind, countOf}
 use Rattle.plan_file.specs.Refusals.{Refusal, refuse, kindKnown, aboveRange, strayByte, exceeds, overLimit, lowest, faultBy, faultAt, orNext, faultFrom, fault}

@@ -5,8 +5,7 @@ use Prim.Native.Nat.{ℕ}
 use Rattle.plan_file.specs.Answers.{refusalOf}
 use Rattle.plan_file.specs.Refusals.{Refusal, fault}
 use Rattle.plan_file.specs.declared.Refusal.{Refusal as RefusalAnswer}
-use Rattle.calls.specs.Judging.{judgeOf}
-use Rattle.calls.specs.JudgingTruth.{Means}
+use Rattle.calls.specs.Judging.{judgeOf, Means}
 use Rattle.acceptance.specs.declared.Judged.{Judged}
 use Rattle.acceptance.specs.Answers.{judgedOf, Judging}
 use Rattle.telling.specs.Codes.{codeBy}

@@ -1,32 +1,31 @@
--- Demand 3, as a statement about an answer on a file's bytes: the checker and a reader who derives words with no checker share one
--- verdict. Its reader needs document 000 only: words are derived by rewriting, and accepted by a path. Definitions only. Assumes nothing.
+-- What a check that answers promises, as statements about the answer on a file's bytes. Demand 3 first: the checker and a reader who derives
+-- words with no checker share one verdict. Its reader needs document 000 only: words are derived by rewriting, and accepted by a path.
+-- Definitions only. Assumes nothing.
 use mathlib.Core.Path.{_≡_}
+use mathlib.Core.Logic.{_↔_, _⊎_}
 use mathlib.Core.Bool.{true}
-use mathlib.Core.Logic.{_↔_}
-use mathlib.Core.List.{List}
+use mathlib.Core.List.{List, _++_}
 use Prim.Native.Nat.{ℕ, suc, _+_, _*_, _≤_, _<_}
-use lib.ListN.{length, getD}
+use lib.ListN.{length, drop}
 use Rattle.relation.specs.Relation.{states, has}
 use Rattle.language.specs.Grammar.{initial}
 use Rattle.language.specs.Rewriting.{Language}
 use Rattle.language.specs.Spelling.{DerivesWithin}
 use Rattle.language.specs.Automaton.{WordPath, Accepts, TurnsAway}
+use Rattle.plan_file.specs.Refusals.{refuse}
 use Rattle.plan_file.specs.Views.{rulesOf, automatonOf}
+use Rattle.working_order.specs.Journal.{Row, absent, capped}
 use Rattle.working_order.specs.Order.{Answer, holds, broken, full, spent}
-use Rattle.working_order.specs.Journal.{Row, noRow, absent, capped}
-use Rattle.working_order.specs.Behind.{wordBehind}
-use Rattle.working_order.specs.Exactly.{Ends}
-use Rattle.working_order.specs.Halting.{Stops}
-use Rattle.calls.specs.Base.{base, formsBy, words}
-use Rattle.calls.specs.Checking.{journalLimit, checkOf, shown}
-use Rattle.calls.specs.Replies.{answered}
+use Rattle.working_order.specs.Stopping.{Stops, Ends}
+use Rattle.working_order.specs.Fitting.{rowFits}
+use Rattle.calls.specs.Base.{base}
+use Rattle.calls.specs.Checking.{journalLimit, checkOf, journalAfter, shown}
+use Rattle.calls.specs.Replies.{refused, answered}
+use Rattle.calls.specs.Writing.{longWord, rowOn, wordOf, writeOf, bufferAfter}
 
--- row i that the check left, and the word behind it
-abbrev pub rowIn : Answer ℕ → ℕ → Row ℕ
-rowIn a i = getD (a .journal) i (noRow (formsBy states (λ c. 0)))
-
-abbrev pub wordIn : List ℕ → Answer ℕ → ℕ → List ℕ
-wordIn bs a i = wordBehind words (rulesOf bs) (a .journal) i
+-- every pair of states in d is one in e
+abbrev pub Subrelation : ℕ → ℕ → Type 0
+Subrelation d e = (p q : ℕ) → p < states → q < states → has states d p q ≡ true → has states e p q ≡ true
 
 module _ (bs : List ℕ) where
   -- the initial symbol derives the word (document 01: the run is derivable)
@@ -37,6 +36,8 @@ module _ (bs : List ℕ) where
   abbrev pub Counterexample : List ℕ → Type 0
   Counterexample w = Derivable w × TurnsAway (automatonOf bs) w
 
+  -- ---- the verdict and the counts
+
   -- the answer to a check with J rows and a budget of B joins
   pub record OneVerdict (J B : ℕ) (a : Answer ℕ) : Type 0 where
     -- "holds" only if no derivable word, however long, is turned away
@@ -45,17 +46,16 @@ module _ (bs : List ℕ) where
     pub broken-shows : a .verdict ≡ broken → Counterexample (shown bs a)
     -- any verdict other than "full" and "spent" is "broken" exactly when such a word exists
     pub broken-exactly : (a .verdict ≡ full → ⊥) → (a .verdict ≡ spent → ⊥) → (a .verdict ≡ broken) ↔ ((w : List ℕ) × Counterexample w)
-    -- "full" and "spent" come exactly where the working order runs out: at the candidate that Stops names, of which Found in
-    -- Halting.antt says that the rows, or the joins, have run out
-    pub full-exactly : (a .verdict ≡ full) ↔ Stops (base states (automatonOf bs)) (rulesOf bs) J B full a
-    pub spent-exactly : (a .verdict ≡ spent) ↔ Stops (base states (automatonOf bs)) (rulesOf bs) J B spent a
-    -- and the other two where it says so: at a candidate that breaks, or at the end of a pass that has added no row
-    pub broken-where : (a .verdict ≡ broken) ↔ Stops (base states (automatonOf bs)) (rulesOf bs) J B broken a
-    pub holds-where : (a .verdict ≡ holds) ↔ Ends (base states (automatonOf bs)) (rulesOf bs) J B a
+    -- "full" exactly where the rows run out, and "spent" where the joins do: at the candidate that Stops names
+    pub stops-full : (a .verdict ≡ full) ↔ Stops (base states (automatonOf bs)) (rulesOf bs) J B full a
+    pub stops-spent : (a .verdict ≡ spent) ↔ Stops (base states (automatonOf bs)) (rulesOf bs) J B spent a
+    -- "broken" exactly where a candidate becomes a row that breaks, and "holds" where a pass ends that has added no row
+    pub stops-broken : (a .verdict ≡ broken) ↔ Stops (base states (automatonOf bs)) (rulesOf bs) J B broken a
+    pub ends-holds : (a .verdict ≡ holds) ↔ Ends (base states (automatonOf bs)) (rulesOf bs) J B a
 
-  -- the counts of an answer: joins are the candidates formed (Stops and Ends above), the row, and document 01's bounds
+  -- its counts: what the joins are stands in Stops and Ends above, and here the row and document 01's bounds
   pub record Counts (J B : ℕ) (a : Answer ℕ) : Type 0 where
-    -- 65,535 unless broken, and then the last row
+    -- 65,535 unless broken, and then the last used row
     pub no-row : (a .verdict ≡ broken → ⊥) → a .row ≡ absent
     pub last-row : a .verdict ≡ broken → suc (a .row) ≡ a .used
     pub used-rows : a .used ≡ length (a .journal)
@@ -65,27 +65,62 @@ module _ (bs : List ℕ) where
     -- a budget of that size is never spent
     pub never-spent : length (rulesOf bs) * J * J * (J + 1) ≤ B → a .verdict ≡ spent → ⊥
 
-  -- what row i of the journal is (demand 2)
-  pub record RowMeans (a : Answer ℕ) (i : ℕ) : Type 0 where
-    -- the word behind it derives from its nonterminal
-    pub derived : Language (rulesOf bs) (rowIn a i .head) (wordIn bs a i)
-    -- its relation is exactly the set of pairs of states that the word joins
-    pub joins-exactly : (p q : ℕ) → p < states → q < states → (has states (rowIn a i .effect) p q ≡ true) ↔ WordPath (automatonOf bs .transitions) p (wordIn bs a i) q
-    pub length-is : rowIn a i .len ≡ capped (length (wordIn bs a i))
-
   -- the pass of a broken answer is the least height of a derivation whose word is turned away
   pub record LeastHeight (a : Answer ℕ) : Type 0 where
     pub shown-within : a .verdict ≡ broken → DerivesWithin (rulesOf bs) (a .pass) initial (shown bs a)
     pub none-lower : a .verdict ≡ broken → (h : ℕ) → h < a .pass → (w : List ℕ) → DerivesWithin (rulesOf bs) h initial w → Accepts (automatonOf bs) w
 
+  -- ---- the rows
+
+  -- row i that the check left, and the word behind it
+  abbrev pub usedRow : Answer ℕ → ℕ → Row ℕ
+  usedRow a i = rowOn bs (a .journal) i
+
+  abbrev pub usedWord : Answer ℕ → ℕ → List ℕ
+  usedWord a i = wordOf bs (a .journal) i
+
+  -- what row i is
+  pub record RowMeans (a : Answer ℕ) (i : ℕ) : Type 0 where
+    -- its nonterminal derives the word behind it
+    pub derived : Language (rulesOf bs) (usedRow a i .head) (usedWord a i)
+    -- its relation has exactly the pairs of states that a path on this word joins
+    pub pairs-exactly : (p q : ℕ) → p < states → q < states
+        → (has states (usedRow a i .effect) p q ≡ true) ↔ WordPath (automatonOf bs .transitions) p (usedWord a i) q
+    pub length-is : usedRow a i .len ≡ capped (length (usedWord a i))
+    -- it fits the file
+    pub fits : rowFits (base states (automatonOf bs) .forms) (a .journal) (rulesOf bs) i ≡ true
+
+  -- the live rows of one nonterminal are an antichain (document 000, section 4, as document 01 reads it: a condition on two different
+  -- members): of two different ones neither relation is contained in the other
+  abbrev pub LiveAntichain : Answer ℕ → Type 0
+  LiveAntichain a = (i j : ℕ) → i < a .used → j < a .used → (i ≡ j → ⊥) → usedRow a i .head ≡ usedRow a j .head
+      → usedRow a i .retired ≡ 0 → usedRow a j .retired ≡ 0 → Subrelation (usedRow a i .effect) (usedRow a j .effect) → ⊥
+
+  -- ---- the word of a broken answer, written
+
+  -- writing from the journal as a check with a budget of B joins leaves it, which had these rows before, to a buffer that holds old:
+  -- the word is the shown one, and it is refused with 10 where it is too long, and in no other case
+  pub record WritesShown (B : ℕ) (a : Answer ℕ) (rows : List (Row ℕ)) (old : List ℕ) : Type 0 where
+    pub length-told : length (shown bs a) < longWord → length (shown bs a) ≤ length old
+        → writeOf bs (journalAfter bs rows B) (a .used) (a .row) (length old) ≡ answered (length (shown bs a))
+    pub written : length (shown bs a) < longWord → length (shown bs a) ≤ length old
+        → bufferAfter bs (journalAfter bs rows B) (a .used) (a .row) old ≡ shown bs a ++ drop (length (shown bs a)) old
+    pub too-long : (longWord ≤ length (shown bs a)) ⊎ (length old < length (shown bs a))
+        → writeOf bs (journalAfter bs rows B) (a .used) (a .row) (length old) ≡ refused (refuse 10 0)
+    pub untouched : (longWord ≤ length (shown bs a)) ⊎ (length old < length (shown bs a))
+        → bufferAfter bs (journalAfter bs rows B) (a .used) (a .row) old ≡ old
+
 -- ---- what a check that answers promises
 
--- everything that demand 3 asks of the answer a to a check with J rows and a budget of B joins
+-- the answer a to a check with J rows and a budget of B joins
 pub record Promises (bs : List ℕ) (J B : ℕ) (a : Answer ℕ) : Type 0 where
   pub one-verdict : OneVerdict bs J B a
   pub counts : Counts bs J B a
   pub least-height : LeastHeight bs a
   pub rows-mean : (i : ℕ) → i < a .used → RowMeans bs a i
+  pub antichain : LiveAntichain bs a
+  -- whatever the J rows of the journal held before, and whatever the buffer holds
+  pub writes-shown : a .verdict ≡ broken → (rows : List (Row ℕ)) → length rows ≡ J → (old : List ℕ) → WritesShown bs B a rows old
   -- once the verdict is neither "full" nor "spent", a longer journal or a larger budget leaves the answer as it is, with its rows and
   -- the shown word
   pub stable : (a .verdict ≡ full → ⊥) → (a .verdict ≡ spent → ⊥) → (J′ B′ : ℕ) → J ≤ J′ → J′ ≤ journalLimit → B ≤ B′ → checkOf bs J′ B′ ≡ answered a

@@ -1,20 +1,23 @@
 -- What holds of the rows that a check leaves in the journal, on the bytes of any file. Assumes nothing.
-use mathlib.Core.Path.{_≡_}
-use mathlib.Core.Bool.{true}
+use mathlib.Core.Path.{_≡_, refl}
+use mathlib.Core.Bool.{Bool, true, false}
 use mathlib.Core.List.{List, []}
 use Prim.Native.Nat.{ℕ, _<_}
+use native.Mathlib.Omega.{arith}
+use lib.Dec.{ltb}
 use lib.ListN.{length, getD}
-use Rattle.relation.specs.Relation.{states}
+use borrow.Author.Tests.{ltb-true, ltb-false}
+use Rattle.relation.specs.Relation.{states, contained}
 use Rattle.language.specs.Spelling.{DerivesWithin}
 use Rattle.language.specs.WordRelation.{wordRelation}
 use Rattle.plan_file.specs.Views.{rulesOf, automatonOf}
-use Rattle.working_order.specs.Journal.{Row, noRow, capped}
+use Rattle.working_order.specs.Journal.{Row, noRow, capped, liveOf}
 use Rattle.working_order.specs.Behind.{wordsOf, wordBehind}
 use Rattle.working_order.specs.Fitting.{rowFits}
 use Rattle.working_order.specs.SideBySide.{side-at}
 use Rattle.working_order.specs.Soundness.{RowSound}
 use Rattle.working_order.specs.Truth.{check-says}
-use Rattle.working_order.specs.Antichain.{Antichain, check-antichain}
+use Rattle.working_order.specs.Antichain.{Incomparable, antichain-at, check-antichain}
 use Rattle.working_order.specs.FittingRows.{check-fits}
 use Rattle.calls.specs.Base.{base, words}
 use Rattle.calls.specs.BaseLaws.{base-laws, word-sizes, word-derived}
@@ -46,7 +49,18 @@ module _ (bs : List ℕ) (J B : ℕ) where
       let d = word-derived states (automatonOf bs) (rulesOf bs) (rowAt i .birth) (rowAt i .head) (rowAt i .effect) (wordAt i) (s .derived) in
       record { derived = d .0; relation-is = d .1; length-is = s .size; fits = check-fits A (rulesOf bs) J B i h }
 
-  -- the live rows of a nonterminal are an antichain (document 000, section 4, as document 01 reads it)
-  pub antichain : Antichain (base states (automatonOf bs)) (orderOn bs J B .journal)
+  -- of two different live rows of one nonterminal, neither relation is contained in the other (document 000, section 4, as document 01
+  -- reads it)
+  pub incomparable : (i j : ℕ) → i < length (orderOn bs J B .journal) → j < length (orderOn bs J B .journal) → (i ≡ j → ⊥)
+      → (x : ℕ) → liveOf x (rowAt i) ≡ true → liveOf x (rowAt j) ≡ true → contained (rowAt i .effect) (rowAt j .effect) ≡ false
   unfolding orderOn
-  antichain = check-antichain (base states (automatonOf bs)) (rulesOf bs) J B
+  incomparable i j hi hj ne x li lj = by (ltb i j) refl
+    where
+      at : (i j : ℕ) → i < j → j < length (orderOn bs J B .journal) → Incomparable (base states (automatonOf bs)) (rowAt i) (rowAt j)
+      at i j l h =
+          antichain-at (base states (automatonOf bs)) (noRow (base states (automatonOf bs) .forms)) (orderOn bs J B .journal)
+          (check-antichain (base states (automatonOf bs)) (rulesOf bs) J B) i j l h
+
+      by : (b : Bool) → ltb i j ≡ b → contained (rowAt i .effect) (rowAt j .effect) ≡ false
+      by true e = at i j (ltb-true i j e) hj x li lj .0
+      by false e = at j i (let l = ltb-false i j e in omega arith) hi x lj li .1

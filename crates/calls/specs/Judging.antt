@@ -4,13 +4,14 @@ use mathlib.Core.List.{List}
 use Prim.Native.Nat.{ℕ}
 use lib.Dec.{leb, ltb}
 use lib.ListN.{length}
-use Rattle.basics.specs.Lists.{any}
+use Rattle.basics.specs.Elements.{any}
 use Rattle.relation.specs.Relation.{states}
+use Rattle.language.specs.Automaton.{Accepts, TurnsAway}
 use Rattle.language.specs.WordRelation.{rejected}
 use Rattle.plan_file.specs.Limits.{terminals}
 use Rattle.plan_file.specs.Refusals.{refuse, fault}
 use Rattle.plan_file.specs.Views.{automatonOf}
-use Rattle.calls.specs.Replies.{Reply, answered, unless}
+use Rattle.calls.specs.Replies.{Reply, refused, answered, unless}
 
 pub data Judgement : Type 0 where
   accepted turnedAway : Judgement
@@ -30,3 +31,9 @@ judgementBy false = accepted
 -- the file's refusal, then 11, then the judgement
 unfoldable pub judgeOf : List ℕ → List ℕ → Reply Judgement
 judgeOf bs w = let j = judgementBy (rejected states (automatonOf bs) w) in unless (fault bs) (unless (refuse (wordFault w) 0) (answered j))
+
+-- what an answer means: accepted that a path leads from state 0 to a final state on the word, turned away that none does
+abbrev pub Means : List ℕ → List ℕ → Reply Judgement → Type 0
+Means bs w (refused r) = Unit {0}
+Means bs w (answered accepted) = Accepts (automatonOf bs) w
+Means bs w (answered turnedAway) = TurnsAway (automatonOf bs) w

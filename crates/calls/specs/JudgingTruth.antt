@@ -4,20 +4,13 @@ use mathlib.Core.Bool.{Bool, true, false}
 use mathlib.Core.List.{List}
 use Prim.Native.Nat.{ℕ, zero, suc}
 use Rattle.relation.specs.Relation.{states}
-use Rattle.language.specs.Automaton.{Accepts, TurnsAway}
 use Rattle.language.specs.WordRelation.{rejected}
 use Rattle.language.specs.Paths.{turns-away, accepts}
 use Rattle.plan_file.specs.Refusals.{fault}
 use Rattle.plan_file.specs.Views.{automatonOf}
 use Rattle.plan_file.specs.Valid.{automaton-within}
-use Rattle.calls.specs.Replies.{Reply, refused, answered, unlessBy}
-use Rattle.calls.specs.Judging.{Judgement, accepted, turnedAway, wordFault, judgementBy, judgeOf}
-
--- what an answer means
-abbrev pub Means : List ℕ → List ℕ → Reply Judgement → Type 0
-Means bs w (refused r) = Unit {0}
-Means bs w (answered accepted) = Accepts (automatonOf bs) w
-Means bs w (answered turnedAway) = TurnsAway (automatonOf bs) w
+use Rattle.calls.specs.Replies.{answered, unlessBy}
+use Rattle.calls.specs.Judging.{wordFault, judgementBy, judgeOf, Means}
 
 pub judge-means : (bs w : List ℕ) → Means bs w (judgeOf bs w)
 unfolding judgeOf

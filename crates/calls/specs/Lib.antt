@@ -1,4 +1,5 @@
 pub mod Replies
+pub mod ReplyLaws
 pub mod Base
 pub mod Rows
 pub mod Checking
@@ -10,5 +11,6 @@ pub mod Truth
 pub mod Promising
 pub mod JournalTruth
 pub mod JudgingTruth
+pub mod WritingTruth
 pub mod Cases
 pub mod Examples

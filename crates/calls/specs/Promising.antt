@@ -1,31 +1,23 @@
--- A check that answers keeps the promises of demand 3. Assumes nothing.
-use mathlib.Core.Path.{_≡_, refl, sym, ap, _∙_}
+-- A check that answers keeps its promises. Assumes nothing.
+use mathlib.Core.Path.{_≡_, refl, sym, ap, _∙_, subst}
 use mathlib.Core.Bool.{Bool, true, false, _||_, cond}
 use mathlib.Core.List.{List}
-use Prim.Native.Nat.{ℕ, zero, suc, _≤_}
+use Prim.Native.Nat.{ℕ, _≤_}
 use native.Mathlib.Nat.{suc-ne-zero}
 use native.Mathlib.Omega.{arith}
 use lib.Dec.{eqb, ltb}
+use lib.ListN.{length}
 use borrow.Author.Tests.{eqb-false, ltb-false, ne-eqb, le-ltb}
 use Rattle.basics.specs.Tests.{or-neither}
-use Rattle.plan_file.specs.Refusals.{Refusal, refuse, fault}
-use Rattle.working_order.specs.Order.{Answer}
-use Rattle.calls.specs.Replies.{Reply, answered, unlessBy}
+use Rattle.plan_file.specs.Refusals.{refuse, fault}
+use Rattle.working_order.specs.Journal.{Row}
+use Rattle.working_order.specs.Order.{Answer, broken}
+use Rattle.calls.specs.Replies.{answered, unlessBy}
+use Rattle.calls.specs.ReplyLaws.{unless-answers, answered-same}
 use Rattle.calls.specs.Checking.{journalLimit, journalFault, orderOn, checkOf}
-use Rattle.calls.specs.DemandThree.{Promises}
-use Rattle.calls.specs.Truth.{one-verdict, counted, least-height, rows-mean, stable}
-
-module _ {A : Type 0} where
-  -- an answer was not refused
-  unless-answers : (r : Refusal) (x : Reply A) (a : A) → unlessBy (r .number) r x ≡ answered a → (r .number ≡ 0) × (x ≡ answered a)
-  unless-answers r x a e = by (r .number) refl e
-    where
-      by : (f : ℕ) → r .number ≡ f → unlessBy f r x ≡ answered a → (r .number ≡ 0) × (x ≡ answered a)
-      by zero p q = (p, q)
-      by (suc f) p q = absurd (let z : _≡_ {A = ℕ} 0 1 = cc in let y : ⊥ = omega arith in y)
-
-  answered-same : (a b : A) → answered a ≡ answered b → a ≡ b
-  answered-same a b e = cc
+use Rattle.calls.specs.DemandThree.{WritesShown, Promises}
+use Rattle.calls.specs.Truth.{one-verdict, counted, least-height, rows-mean, antichain, stable}
+use Rattle.calls.specs.WritingTruth.{writes-shown}
 
 -- a journal that 8 does not refuse
 journal-size : (J : ℕ) → journalFault J ≡ 0 → (1 ≤ J) × (J ≤ journalLimit)
@@ -63,8 +55,18 @@ module _ (bs : List ℕ) (J B : ℕ) (a : Answer ℕ) (e : checkOf bs J B ≡ an
         counts = rw (o .2) (counted bs v J B (s .0));
         least-height = rw (o .2) (least-height bs v J B);
         rows-mean = rw (o .2) (rows-mean bs v J B (s .0));
+        antichain = rw (o .2) (antichain bs v J B (s .0));
+        writes-shown = shows v (o .1) (s .0) (o .2);
         stable = λ f g J′ B′ j l b.
             ap (λ (x : ℕ). unlessBy x (fault bs) (unlessBy (journalFault J′) (refuse (journalFault J′) 0) (answered (orderOn bs J′ B′)))) v
             ∙ ap (λ (x : ℕ). unlessBy x (refuse (journalFault J′) 0) (answered (orderOn bs J′ B′))) (size-journal J′ (omega (arith, s .0)) l)
             ∙ ap answered (stable bs J B J′ B′ j b (λ x. f (ap (λ (y : Answer ℕ). y .verdict) (o .2) ∙ x)) (λ x. g (ap (λ (y : Answer ℕ). y .verdict) (o .2) ∙ x)) ∙ sym (o .2));
       }
+    where
+      shows : fault bs .number ≡ 0 → journalFault J ≡ 0 → 1 ≤ J → a ≡ orderOn bs J B → a .verdict ≡ broken
+          → (rows : List (Row ℕ)) → length rows ≡ J → (old : List ℕ) → WritesShown bs B a rows old
+      shows v eight l o b rows n old =
+          let same : a ≡ orderOn bs (length rows) B = o ∙ ap (λ (k : ℕ). orderOn bs k B) (sym n) in
+          let counts = counted bs v (length rows) B (subst (λ (k : ℕ). 1 ≤ k) (sym n) l) in
+          subst (λ (x : Answer ℕ). WritesShown bs B x rows old) (sym same)
+          (writes-shown bs v rows (ap journalFault n ∙ eight) B counts (sym (ap (λ (x : Answer ℕ). x .verdict) same) ∙ b) old)

@@ -1,37 +1,46 @@
--- Demand 3 and stability, on the bytes of a file that is not refused, for every journal length and every budget. Assumes nothing.
+-- Demand 3, the counts, what the rows are and stability, on the bytes of a file that is not refused, for every journal length and every
+-- budget. Assumes nothing.
 use mathlib.Core.Path.{_≡_, refl, sym, ap, _∙_, subst}
-use mathlib.Core.Bool.{false}
+use mathlib.Core.Bool.{true, false, true≢false}
 use mathlib.Core.List.{List}
-use Prim.Native.Nat.{ℕ, suc, _+_, _*_, _≤_, _<_}
+use Prim.Native.Nat.{ℕ, suc, _+_, _*_, _^_, _≤_, _<_}
 use native.Mathlib.Nat.{le-refl, le-trans, le-of-eq, mul-comm, mul-assoc, mul-one}
 use native.Mathlib.Numerals.{add-one}
 use native.Mathlib.Omega.{arith}
+use lib.Dec.{eqb}
 use lib.ListN.{length}
-use borrow.Author.Tests.{eqb-true}
-use Rattle.basics.specs.Tests.{and-fst, and-snd}
+use borrow.Author.Tests.{eqb-true, eq-eqb}
+use Rattle.basics.specs.Tests.{and-intro, and-fst, and-snd}
 use Rattle.relation.specs.Relation.{states, has, rejects}
+use Rattle.relation.specs.RelationLaws.{has-contained}
 use Rattle.language.specs.Grammar.{initial}
 use Rattle.language.specs.Spelling.{DerivesWithin}
 use Rattle.language.specs.Agreement.{language}
 use Rattle.language.specs.Automaton.{Automaton, Accepts, TurnsAway}
 use Rattle.language.specs.WordRelation.{wordRelation, isFinal, rejected}
-use Rattle.language.specs.Paths.{path-of, of-path, turns-away, accepts}
+use Rattle.language.specs.Paths.{wordRelation-lt, path-of, of-path, turns-away, accepts}
 use Rattle.plan_file.specs.Refusals.{fault}
 use Rattle.plan_file.specs.Views.{rulesOf, automatonOf}
 use Rattle.plan_file.specs.Valid.{automaton-within}
 use Rattle.working_order.specs.Order.{Answer, Verdict, holds, broken, full, spent, check}
 use Rattle.working_order.specs.Behind.{wordBehind}
 use Rattle.working_order.specs.Truth.{SaysBy, check-says, holds-calm, shownRow}
-use Rattle.working_order.specs.Journal.{absent}
-use Rattle.working_order.specs.Halting.{Stops}
-use Rattle.working_order.specs.Exactly.{Ends, stops-so, ends-so, holds-ends}
+use Rattle.working_order.specs.Journal.{Row, absent, live, liveOf}
+use Rattle.working_order.specs.Stopping.{Stops}
+use Rattle.working_order.specs.Exactly.{stops-so, ends-so}
 use Rattle.working_order.specs.Counting.{Exact, ExactBy, StopsBy, check-exact, never-spent}
 use Rattle.working_order.specs.Stability.{Firm, check-mono}
 use Rattle.calls.specs.Base.{starts, base, words}
 use Rattle.calls.specs.BaseLaws.{base-laws, word-sizes, relation-derived, word-derived}
 use Rattle.calls.specs.Checking.{orderOn, shown}
-use Rattle.calls.specs.DemandThree.{Derivable, Counterexample, OneVerdict, Counts, LeastHeight, rowIn, wordIn, RowMeans}
-use Rattle.calls.specs.JournalTruth.{row-true}
+use Rattle.calls.specs.DemandThree.{Derivable, Counterexample, OneVerdict, Counts, LeastHeight, RowMeans, LiveAntichain}
+use Rattle.calls.specs.JournalTruth.{rowAt, wordAt, row-true, incomparable}
+use Rattle.calls.specs.Writing.{wordOf}
+
+-- a live row of the nonterminal x
+alive : (x : ℕ) (r : Row ℕ) → r .head ≡ x → r .retired ≡ 0 → liveOf x r ≡ true
+unfolding liveOf live
+alive x r h z = and-intro (eqb (r .head) x) (eqb (r .retired) 0) (eq-eqb (r .head) x h) (eq-eqb (r .retired) 0 z)
 
 module _ (bs : List ℕ) (v : fault bs .number ≡ 0) (J B : ℕ) where
   abbrev A : Automaton
@@ -98,11 +107,7 @@ module _ (bs : List ℕ) (v : fault bs .number ≡ 0) (J B : ℕ) where
 
     so : (x : Verdict) → Stops (base states A) (rulesOf bs) J B x (orderOn bs J B) → orderOn bs J B .verdict ≡ x
     unfolding orderOn
-    so x h = stops-so (base states A) (rulesOf bs) J B x (orderOn bs J B) (counts .pass-bound) h
-
-    ends : orderOn bs J B .verdict ≡ holds → Ends (base states A) (rulesOf bs) J B (orderOn bs J B)
-    unfolding orderOn
-    ends = holds-ends (base states A) (rulesOf bs) J B
+    so x h = stops-so (base states A) (rulesOf bs) J B x (orderOn bs J B) h
 
     exact : (x : Verdict) → orderOn bs J B .verdict ≡ x → ExactBy (base states A) 1 (λ x y. le-refl 1) (le-refl 1) (rulesOf bs) J B pos x (orderOn bs J B)
     unfolding orderOn
@@ -123,10 +128,10 @@ module _ (bs : List ℕ) (v : fault bs .number ≡ 0) (J B : ℕ) where
           holds-for-all = meaning holds;
           broken-shows = shows;
           broken-exactly = λ f s. (λ e. (shown bs (orderOn bs J B), shows e), λ c. found (orderOn bs J B .verdict) refl f s c);
-          full-exactly = (stops full, so full);
-          spent-exactly = (stops spent, so spent);
-          broken-where = (stops broken, so broken);
-          holds-where = (ends, ends-so (base states A) (rulesOf bs) J B (orderOn bs J B) (counts .pass-bound));
+          stops-full = (stops full, so full);
+          stops-spent = (stops spent, so spent);
+          stops-broken = (stops broken, so broken);
+          ends-holds = (stops holds, ends-so (base states A) (rulesOf bs) J B (orderOn bs J B));
         }
 
     -- the bound as the counting has it, and as document 01 writes it
@@ -150,21 +155,34 @@ module _ (bs : List ℕ) (v : fault bs .number ≡ 0) (J B : ℕ) where
           never-spent = λ h e. never-spent (base states A) 1 (λ x y. le-refl 1) (le-refl 1) (rulesOf bs) J B pos (le-trans (le-of-eq bound) h) e;
         }
 
-    -- demand 2, of the rows
-    pub rows-mean : (i : ℕ) → i < orderOn bs J B .used → RowMeans bs (orderOn bs J B) i
+    -- ---- the rows
+
+    there : (i : ℕ) → i < orderOn bs J B .used → i < length (orderOn bs J B .journal)
     unfolding orderOn
+    there i l = subst (λ (n : ℕ). i < n) (counts .used-is) l
+
+    pub rows-mean : (i : ℕ) → i < orderOn bs J B .used → RowMeans bs (orderOn bs J B) i
+    unfolding wordOf
     rows-mean i l =
-        let t = row-true bs J B i (subst (λ (n : ℕ). i < n) (counts .used-is) l) in
-        let w = wordIn bs (orderOn bs J B) i in
+        let t = row-true bs J B i (there i l) in
+        let w = wordAt bs J B i in
         let within = automaton-within bs v .targets in
         record {
-          derived = language (rulesOf bs) (rowIn (orderOn bs J B) i .head) w .1 (rowIn (orderOn bs J B) i .birth, t .derived);
-          joins-exactly = λ p q hp hq. (
+          derived = language (rulesOf bs) (rowAt bs J B i .head) w .1 (rowAt bs J B i .birth, t .derived);
+          pairs-exactly = λ p q hp hq. (
             λ h. path-of states (A .transitions) within w p q hp hq (ap (λ (e : ℕ). has states e p q) (t .relation-is) ∙ h),
             λ h. sym (ap (λ (e : ℕ). has states e p q) (t .relation-is)) ∙ of-path states (A .transitions) within w p q hp hq h,
           );
           length-is = t .length-is;
+          fits = t .fits;
         }
+
+    pub antichain : LiveAntichain bs (orderOn bs J B)
+    antichain i j li lj ne head-same live-i live-j sub =
+        let x = rowAt bs J B i in
+        let y = rowAt bs J B j in
+        let z = incomparable bs J B i j (there i li) (there j lj) ne (x .head) (alive (x .head) x refl live-i) (alive (x .head) y (sym head-same) live-j) in
+        true≢false (sym (has-contained states (x .effect) (y .effect) (subst (λ (e : ℕ). e < 2 ^ (states * states)) (row-true bs J B i (there i li) .relation-is) (wordRelation-lt states (A .transitions) (wordAt bs J B i))) sub) ∙ z)
 
 -- once a verdict is neither "full" nor "spent", a longer journal or a larger budget leaves the whole answer as it is: verdict, joins,
 -- used rows, pass, row and the rows themselves

@@ -4,13 +4,14 @@ use mathlib.Core.Bool.{not, _||_, cond}
 use mathlib.Core.List.{List, _++_}
 use Prim.Native.Nat.{ℕ, _+_}
 use lib.Dec.{leb, ltb}
-use lib.ListN.{length, drop}
+use lib.ListN.{length, getD, take, drop}
 use Rattle.relation.specs.Relation.{states}
 use Rattle.plan_file.specs.Refusals.{refuse, fault}
 use Rattle.plan_file.specs.Views.{rulesOf, automatonOf}
 use Rattle.language.specs.Grammar.{Rule}
+use Rattle.language.specs.Rewriting.{Language}
 use Rattle.working_order.specs.Algebra.{Forms}
-use Rattle.working_order.specs.Journal.{Row}
+use Rattle.working_order.specs.Journal.{Row, noRow}
 use Rattle.working_order.specs.Behind.{wordBehind}
 use Rattle.working_order.specs.Fitting.{rowsFit}
 use Rattle.calls.specs.Base.{base, words}
@@ -29,7 +30,10 @@ rowFault M rules rows used i = cond (not (ltb i used) || (ltb (length rows) used
 unfoldable pub roomFault : List ℕ → ℕ → ℕ
 roomFault w room = cond (leb longWord (length w) || ltb room (length w)) 10 0
 
--- the word behind row i of the journal
+-- row i of the journal, and the word behind it
+abbrev pub rowOn : List ℕ → List (Row ℕ) → ℕ → Row ℕ
+rowOn bs rows i = getD rows i (noRow (base states (automatonOf bs) .forms))
+
 unfoldable pub wordOf : List ℕ → List (Row ℕ) → ℕ → List ℕ
 wordOf bs rows i = wordBehind words (rulesOf bs) rows i
 
@@ -49,3 +53,9 @@ writtenBy w old (answered n) = w ++ drop n old
 
 unfoldable pub bufferAfter : List ℕ → List (Row ℕ) → ℕ → ℕ → List ℕ → List ℕ
 bufferAfter bs rows used i old = writtenBy (wordOf bs rows i) old (writeOf bs rows used i (length old))
+
+-- what an answer means, where the buffer holds new afterwards: its first bytes, as many as the length says, are a word that the
+-- nonterminal of row i derives, whoever made the journal
+abbrev pub WordMeans : List ℕ → List (Row ℕ) → ℕ → List ℕ → Reply ℕ → Type 0
+WordMeans bs rows i new (refused r) = Unit {0}
+WordMeans bs rows i new (answered n) = Language (rulesOf bs) (rowOn bs rows i .head) (take n new)

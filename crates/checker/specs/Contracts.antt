@@ -20,5 +20,6 @@ pub record Checks (bs : List ℕ) (B : ℕ) (old new : Journal) (r : Checked) : 
   pub journal : map rowOf new ≡ journalAfter bs (map rowOf old) B
   -- and so number by number
   pub untouched : drop (usedIn (checkOf bs (length old) B)) new ≡ drop (usedIn (checkOf bs (length old) B)) old
-  -- demand 3, the counts, the least height and stability, of the answer
+  -- demand 3, where the verdict comes and what the joins are, the least height, what the rows are, writing the word that is shown,
+  -- and stability, of the answer
   pub promises : (a : Answer ℕ) → checkOf bs (length old) B ≡ answered a → Promises bs (length old) B a

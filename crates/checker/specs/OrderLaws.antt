@@ -10,7 +10,8 @@ use lib.ListN.{getD, List·getD-eq-default}
 use lib.Pow.{pow-pos}
 use borrow.Author.Tests.{eqb-true, ltb-true, ltb-false}
 use Rattle.basics.specs.Tests.{fails, and-fst, and-snd}
-use Rattle.basics.specs.Lists.{In, any-of}
+use Rattle.basics.specs.Elements.{In}
+use Rattle.basics.specs.Lists.{any-of}
 use Rattle.relation.specs.Digits.{number}
 use Rattle.relation.specs.DigitLaws.{bit-number}
 use Rattle.relation.specs.Relation.{states, table}

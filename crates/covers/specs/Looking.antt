@@ -10,7 +10,8 @@ use lib.Dec.{ltb}
 use lib.ListN.{length, getD}
 use borrow.Author.Tests.{ltb-true, ltb-false}
 use Rattle.basics.specs.Tests.{or-neither}
-use Rattle.basics.specs.Lists.{any, any-at, getD-in}
+use Rattle.basics.specs.Elements.{any}
+use Rattle.basics.specs.Lists.{any-at, getD-in}
 use Rattle.relation.specs.Relation.{contained}
 use Rattle.working_order.specs.Journal.{liveOf}
 use Rattle.working_order.specs.Order.{dropped, larger}

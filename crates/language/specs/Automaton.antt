@@ -2,7 +2,7 @@
 use mathlib.Core.Path.{_≡_}
 use mathlib.Core.List.{List, [], _∷_}
 use Prim.Native.Nat.{ℕ, _<_}
-use Rattle.basics.specs.Lists.{In}
+use Rattle.basics.specs.Elements.{In}
 
 -- document 01: a move from stage to stage on a step code
 pub record Transition : Type 0 where

@@ -7,7 +7,8 @@ use Prim.Native.Nat.{ℕ, _*_, _^_, _<_}
 use lib.Dec.{eqb}
 use borrow.Author.Tests.{eqb-true, eq-eqb}
 use Rattle.basics.specs.Tests.{and-intro, and-fst, and-snd, not-fails}
-use Rattle.basics.specs.Lists.{In, any-of, any-at}
+use Rattle.basics.specs.Elements.{In}
+use Rattle.basics.specs.Lists.{any-of, any-at}
 use Rattle.relation.specs.Digits.{some}
 use Rattle.relation.specs.DigitLaws.{some-of}
 use Rattle.relation.specs.Relation.{has, identity, compose, rejects}

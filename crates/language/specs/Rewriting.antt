@@ -2,7 +2,7 @@
 use mathlib.Core.Path.{_≡_}
 use mathlib.Core.List.{List, [], _∷_, _++_, map}
 use Prim.Native.Nat.{ℕ}
-use Rattle.basics.specs.Lists.{In}
+use Rattle.basics.specs.Elements.{In}
 use Rattle.language.specs.Grammar.{Symbol, terminal, nonterminal, symbols, Rule}
 
 -- α ⇒ β: α is α₁ x α₂ and β is α₁ γ α₂, for a rule (x, γ)

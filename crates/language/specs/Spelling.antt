@@ -2,7 +2,7 @@
 use mathlib.Core.Path.{_≡_}
 use mathlib.Core.List.{List, [], _∷_, _++_}
 use Prim.Native.Nat.{ℕ, zero, suc}
-use Rattle.basics.specs.Lists.{In}
+use Rattle.basics.specs.Elements.{In}
 use Rattle.language.specs.Grammar.{Symbol, terminal, nonterminal, symbols, Rule}
 
 -- D x w says that the nonterminal x derives the word w

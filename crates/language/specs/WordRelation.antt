@@ -4,7 +4,7 @@ use mathlib.Core.Bool.{Bool, _&&_}
 use mathlib.Core.List.{List, [], _∷_}
 use Prim.Native.Nat.{ℕ}
 use lib.Dec.{eqb}
-use Rattle.basics.specs.Lists.{any}
+use Rattle.basics.specs.Elements.{any}
 use Rattle.relation.specs.Relation.{table, identity, compose, rejects}
 use Rattle.language.specs.Automaton.{Transition, Automaton}
 

@@ -10,7 +10,8 @@ use lib.ListN.{length, getD, drop, length-map, drop-of-length-le, List·getD-map
 use lib.Seq.{drop-cons}
 use borrow.Author.Tests.{eqb-true, eq-eqb}
 use Rattle.basics.specs.Tests.{and-fst, and-snd, not-excludes, not-fails}
-use Rattle.basics.specs.Lists.{concatMap, concatMap-one, concatMap-same}
+use Rattle.basics.specs.Elements.{concatMap}
+use Rattle.basics.specs.Lists.{concatMap-one, concatMap-same}
 use Rattle.language.specs.Grammar.{terminal, nonterminal, Body, empty, one, two, Rule}
 use Rattle.working_order.specs.Candidates.{choices, sole, bare, bodyCandidates, passCandidates}
 use Rattle.working_order.specs.Journal.{absent}

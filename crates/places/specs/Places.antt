@@ -3,7 +3,7 @@ use mathlib.Core.Path.{_≡_}
 use mathlib.Core.List.{List, [], _∷_, _++_, map}
 use Prim.Native.Nat.{ℕ, suc, _<_}
 use lib.ListN.{length, getD, drop}
-use Rattle.basics.specs.Lists.{concatMap}
+use Rattle.basics.specs.Elements.{concatMap}
 use Rattle.language.specs.Grammar.{Rule}
 use Rattle.working_order.specs.Candidates.{choices, passCandidates}
 use Rattle.calls.specs.Rows.{entryOf}

@@ -6,7 +6,7 @@ use native.Mathlib.Omega.{arith}
 use lib.ListN.{length, getD, take, drop, length-take, length-drop}
 use lib.Seq.{drop-cons, getD-take, getD-drop}
 use borrow.Author.Tests.{eq-eqb, ne-eqb}
-use Rattle.basics.specs.Lists.{concatMap}
+use Rattle.basics.specs.Elements.{concatMap}
 use Rattle.plan_file.specs.Records.{recordCount, recordAt, transitionKind}
 use Rattle.plan_file.specs.Refusals.{fault}
 use Rattle.plan_file.specs.Reading.{stretch}

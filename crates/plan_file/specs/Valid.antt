@@ -10,7 +10,7 @@ use lib.Dec.{eqb, leb, ltb}
 use lib.ListN.{length}
 use borrow.Author.Tests.{eqb-true, eq-eqb, leb-false, ltb-false, not-false}
 use Rattle.basics.specs.Tests.{or-neither}
-use Rattle.basics.specs.Lists.{In}
+use Rattle.basics.specs.Elements.{In}
 use Rattle.relation.specs.Relation.{states}
 use Rattle.language.specs.Automaton.{Transition, Within}
 use Rattle.plan_file.specs.Limits.{recordLimit, terminals, nonterminals, symbolBytes}

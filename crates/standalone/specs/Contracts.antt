@@ -27,7 +27,8 @@ pub record Tells (bs : List ℕ) (rows : List (Row ℕ)) (x : Reply (Answer ℕ)
 -- a check with J rows and a budget of B joins, told so
 pub record ChecksBy (bs : List ℕ) (J B : ℕ) (rows : List (Row ℕ)) (d old new : List ℕ) (r : ℕ) : Type 0 where
   pub told : Tells bs rows (checkOf bs J B) d old new r
-  -- demand 3, the counts, the least height and stability, of the answer
+  -- demand 3, where the verdict comes and what the joins are, the least height, what the rows are, writing the word that is shown,
+  -- and stability, of the answer
   pub promises : (a : Answer ℕ) → checkOf bs J B ≡ answered a → Promises bs J B a
 
 -- over a journal

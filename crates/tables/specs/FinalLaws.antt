@@ -9,7 +9,8 @@ use lib.Dec.{eqb}
 use lib.Pow.{pow-pos, pow-lt}
 use borrow.Author.Tests.{ne-eqb}
 use Rattle.basics.specs.Tests.{eqb-comm}
-use Rattle.basics.specs.Lists.{any, any-append}
+use Rattle.basics.specs.Elements.{any}
+use Rattle.basics.specs.Lists.{any-append}
 use Rattle.relation.specs.Digits.{bit, number}
 use Rattle.relation.specs.DigitLaws.{number-lt, bit-number, bit-zero, bit-power, bit-or, ext}
 use Rattle.tables.specs.Tables.{withState}

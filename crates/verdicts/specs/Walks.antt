@@ -6,7 +6,7 @@ use mathlib.Core.List.{List, map}
 use Prim.Native.Nat.{ℕ, _<_}
 use lib.Dec.{eqb, ltb}
 use lib.ListN.{length}
-use Rattle.basics.specs.Lists.{In}
+use Rattle.basics.specs.Elements.{In}
 use Rattle.relation.specs.Relation.{contained}
 use Rattle.working_order.specs.Candidates.{passCandidates}
 use Rattle.working_order.specs.Journal.{absent}

@@ -19,8 +19,8 @@ use Rattle.calls.specs.Writing.{longWord, rowFault, roomFault}
 use Rattle.fitting.specs.Forms.{noForms}
 use Rattle.witness.specs.Parts.{olderRow, Ready}
 use Rattle.witness.specs.Writes.{tooLong, firstOf, writeFault}
-use Rattle.witness.specs.FittingLaws.{FitThrough, fit-through}
-use Rattle.witness.specs.BehindLaws.{len-behind}
+use Rattle.working_order.specs.FittingLaws.{FitThrough, fit-through}
+use Rattle.working_order.specs.BehindLaws.{len-behind}
 
 -- a test that refuses with a number, and does not
 pub not-refused : (b : Bool) (k : ℕ) → cond b (suc k) 0 ≡ 0 → b ≡ false

@@ -18,8 +18,8 @@ use Rattle.witness.specs.declared.Part.{Part}
 use Rattle.witness.specs.declared.Parts.{Parts}
 use Rattle.fitting.specs.Forms.{noForms}
 use Rattle.witness.specs.Parts.{nothing, olderRow, partOf, bodyParts, partsOf, ownWord, partWord, partsWord, FitsIf, Ready}
-use Rattle.witness.specs.FittingLaws.{FitThrough, PointersFit, lower, bodyAt, fitting}
-use Rattle.witness.specs.BehindLaws.{behind-body, len-behind}
+use Rattle.working_order.specs.FittingLaws.{FitThrough, PointersFit, lower, bodyAt, fitting}
+use Rattle.working_order.specs.BehindLaws.{behind-body, len-behind}
 
 holds-true : (b : Bool) → Holds b → b ≡ true
 holds-true true h = refl

@@ -14,7 +14,7 @@ use Rattle.calls.specs.Rows.{rowOf, blank, entryOf}
 use Rattle.fitting.specs.Forms.{noForms}
 use Rattle.witness.specs.declared.Parts.{Parts}
 use Rattle.witness.specs.Parts.{nothing, bodyParts, partsOf}
-use Rattle.witness.specs.FittingLaws.{fitting}
+use Rattle.working_order.specs.FittingLaws.{fitting}
 
 module _ (rules : List (List ℕ)) (r : LentRow) where
   abbrev none : Parts

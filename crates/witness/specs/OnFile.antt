@@ -17,7 +17,7 @@ use Rattle.calls.specs.Checking.{journalFault}
 use Rattle.calls.specs.Replies.{Reply, answered, unless}
 use Rattle.calls.specs.Writing.{rowFault, roomFault, wordOf, writeOf}
 use Rattle.fitting.specs.Forms.{noForms}
-use Rattle.witness.specs.FittingLaws.{fit-same}
+use Rattle.working_order.specs.FittingLaws.{fit-same}
 use Rattle.witness.specs.Writes.{firstOf, writeFault, writeBy}
 
 -- two refusals one after the other are the first of them

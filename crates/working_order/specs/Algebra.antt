@@ -4,7 +4,7 @@ use mathlib.Core.Path.{_≡_}
 use mathlib.Core.Bool.{Bool, true}
 use mathlib.Core.List.{List}
 use Prim.Native.Nat.{ℕ}
-use Rattle.basics.specs.Lists.{In}
+use Rattle.basics.specs.Elements.{In}
 
 -- the effects that a rule's body forms
 pub record Forms (E : Type 0) : Type 0 where

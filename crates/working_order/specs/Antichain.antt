@@ -3,11 +3,13 @@ use mathlib.Core.Path.{_≡_, refl, sym, ap, _∙_, subst}
 use mathlib.Core.Logic.{_⊎_, inl, inr}
 use mathlib.Core.Bool.{Bool, true, false, true≢false, _&&_, cond, not}
 use mathlib.Core.List.{List, [], _∷_, _++_, map}
-use Prim.Native.Nat.{ℕ, suc}
-use native.Mathlib.Nat.{suc-ne-zero}
+use Prim.Native.Nat.{ℕ, zero, suc, _<_}
+use native.Mathlib.Nat.{suc-ne-zero, not-suc-le-zero, le-of-suc-le-suc}
 use lib.Dec.{eqb}
+use lib.ListN.{length, getD}
 use borrow.Author.Tests.{eqb-true, ne-eqb}
-use Rattle.basics.specs.Lists.{In, any-at, map-in}
+use Rattle.basics.specs.Elements.{In}
+use Rattle.basics.specs.Lists.{any-at, map-in, getD-in}
 use Rattle.basics.specs.Tests.{and-intro, and-fst, and-snd, fails}
 use Rattle.language.specs.Grammar.{Rule}
 use Rattle.working_order.specs.Algebra.{Algebra}
@@ -25,6 +27,13 @@ module _ {E : Type 0} (A : Algebra E) where
   abbrev pub Antichain : List (Row E) → Type 0
   Antichain [] = Unit {0}
   Antichain (r ∷ rows) = ((s : Row E) → In s rows → Incomparable r s) × Antichain rows
+
+  -- of two rows by number
+  pub antichain-at : (d : Row E) (rows : List (Row E)) → Antichain rows → (i j : ℕ) → i < j → j < length rows → Incomparable (getD rows i d) (getD rows j d)
+  antichain-at d [] a i j l h = absurd (not-suc-le-zero h)
+  antichain-at d (r ∷ rows) a i zero l h = absurd (not-suc-le-zero l)
+  antichain-at d (r ∷ rows) a zero (suc j) l h = a .0 (getD rows j d) (getD-in d rows j (le-of-suc-le-suc h))
+  antichain-at d (r ∷ rows) a (suc i) (suc j) l h = antichain-at d rows (a .1) i j (le-of-suc-le-suc l) (le-of-suc-le-suc h)
 
   -- a row that lives on in pass h + 1 lived, and is not larger
   lives-on : (h p : ℕ) (c : Candidate E) (r : Row E) → liveOf p (retire (A .below) (suc h) c r) ≡ true → (liveOf p r ≡ true) × (larger (A .below) c r ≡ false)

@@ -3,7 +3,7 @@
 use mathlib.Core.Bool.{cond}
 use mathlib.Core.List.{List, [], _∷_, _++_, map}
 use Prim.Native.Nat.{ℕ, suc, _+_}
-use Rattle.basics.specs.Lists.{concatMap}
+use Rattle.basics.specs.Elements.{concatMap}
 use Rattle.language.specs.Grammar.{Symbol, terminal, nonterminal, Body, empty, one, two, Rule}
 use Rattle.working_order.specs.Algebra.{Forms}
 use Rattle.working_order.specs.Journal.{Row, absent, capped, liveOf}

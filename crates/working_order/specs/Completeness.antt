@@ -5,7 +5,8 @@ use mathlib.Core.Logic.{inl, inr}
 use mathlib.Core.Bool.{Bool, true, false, cond}
 use mathlib.Core.List.{List, [], _∷_, map}
 use Prim.Native.Nat.{ℕ, zero, suc}
-use Rattle.basics.specs.Lists.{In, concatMap, in-left, in-right, in-map, in-concatMap}
+use Rattle.basics.specs.Elements.{In, concatMap}
+use Rattle.basics.specs.Lists.{in-left, in-right, in-map, in-concatMap}
 use Rattle.language.specs.Grammar.{Symbol, terminal, nonterminal, Body, empty, one, two, Rule}
 use Rattle.working_order.specs.Algebra.{Algebra, Laws}
 use Rattle.working_order.specs.Candidates.{Choice, Candidate, liveRows, sole, paired, choices, bodyCandidates, passCandidates}

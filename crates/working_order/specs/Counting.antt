@@ -3,20 +3,23 @@ use mathlib.Core.Path.{_≡_, refl, sym, ap, _∙_, subst}
 use mathlib.Core.Bool.{Bool, true, false, cond}
 use mathlib.Core.List.{List, [], _∷_, map}
 use Prim.Native.Nat.{ℕ, zero, suc, _+_, _≤_, _<_, suc-le-suc, _*_, zero-le}
-use native.Mathlib.Nat.{le-refl, le-trans, le-of-eq, le-suc, suc-mul, mul-le-mul-right, mul-le-mul, add-le-add, mul-one}
+use native.Mathlib.Nat.{le-refl, le-trans, le-of-eq, le-suc, suc-mul, mul-le-mul-right, mul-le-mul, add-le-add, add-zero, mul-one}
+use native.Mathlib.Numerals.{add-one}
 use native.Mathlib.Omega.{arith}
 use lib.Dec.{eqb}
 use lib.ListN.{length, length-append, length-map}
-use borrow.Author.Tests.{eqb-false}
-use Rattle.basics.specs.Lists.{concatMap, length-concatMap}
+use borrow.Author.Tests.{eqb-true, eqb-false}
+use Rattle.basics.specs.Elements.{concatMap}
+use Rattle.basics.specs.Lists.{length-concatMap}
 use Rattle.language.specs.Grammar.{Symbol, terminal, nonterminal, Body, empty, one, two, Rule}
 use Rattle.working_order.specs.Algebra.{Algebra}
 use Rattle.working_order.specs.Candidates.{Choice, Candidate, liveRows, sole, paired, choices, bodyCandidates, passCandidates}
 use Rattle.working_order.specs.Journal.{Row, absent, liveOf}
 use Rattle.working_order.specs.Order.{Progress, start, Verdict, holds, broken, full, spent, Outcome, going, stopped, Answer, answer, closeBy, close, onePass, passes, check}
 use Rattle.working_order.specs.Truth.{length-added}
+use Rattle.working_order.specs.Stopping.{Found, Halt, lastJoin, Begun, Stops, Ends}
 use Rattle.working_order.specs.Walking.{Post}
-use Rattle.working_order.specs.Halting.{Went, Halt, Begun, Stops, walk-went}
+use Rattle.working_order.specs.Halting.{Went, walk-went, halt-went, begun-came}
 
 -- ---- how many candidates
 
@@ -64,6 +67,14 @@ module _ {E : Type 0} (A : Algebra E) (m : ℕ) (few : (x y : E) → length (A .
       (le-trans (add-le-add (length-bodyCandidates (x .head) r (x .body)) (length-passCandidates (suc r) rules))
       (le-of-eq (let e : J * (J * m) + length rules * (J * (J * m)) ≡ length rules * (J * (J * m)) + J * (J * m) = omega arith in e ∙ sym (suc-mul (length rules) (J * (J * m))))))
 
+-- ---- the join at which a check stops
+
+found-joins : {E : Type 0} (A : Algebra E) (J B k : ℕ) (v : Verdict) (i : ℕ) (c : Candidate E) (t u : Progress E) → Found A J B k v i c t u → u .joins ≡ t .joins + lastJoin v
+found-joins {E} A J B k holds i c t u f = absurd f
+found-joins {E} A J B k broken i c t u f = ap (λ (x : Progress E). x .joins) (f .5) ∙ sym (add-one (t .joins))
+found-joins {E} A J B k full i c t u f = ap (λ (x : Progress E). x .joins) (f .4) ∙ sym (add-one (t .joins))
+found-joins {E} A J B k spent i c t u f = ap (λ (x : Progress E). x .joins) (f .2) ∙ sym (add-zero (t .joins))
+
 -- ---- the whole check
 
 module _ {E : Type 0} (A : Algebra E) (m : ℕ) (few : (x y : E) → length (A .forms .ofPair x y) ≤ m) (pos-m : 1 ≤ m) (rules : List Rule) (J B : ℕ) (pos : 1 ≤ J) where
@@ -78,9 +89,9 @@ module _ {E : Type 0} (A : Algebra E) (m : ℕ) (few : (x y : E) → length (A .
   ExactBy full a = (a .used ≡ J) × (a .row ≡ absent)
   ExactBy spent a = (a .joins ≡ B) × (a .row ≡ absent) × (suc (a .joins) ≤ suc J * per)
 
-  -- every verdict but "holds" comes at a candidate of the last pass
+  -- where each verdict comes: in the last pass, "holds" at its end, and the others at a candidate
   abbrev pub StopsBy : Verdict → Answer E → Type 0
-  StopsBy holds a = Unit {0}
+  StopsBy holds a = Ends A rules J B a
   StopsBy broken a = Stops A rules J B broken a
   StopsBy full a = Stops A rules J B full a
   StopsBy spent a = Stops A rules J B spent a
@@ -111,14 +122,44 @@ module _ {E : Type 0} (A : Algebra E) (m : ℕ) (few : (x y : E) → length (A .
       top : (x : ℕ) → x ≤ s .joins + length cs → x ≤ suc J * per
       top x e = le-trans (up x e) (mul-le-mul-right per (suc-le-suc (le-trans a l)))
 
+      -- how far the walk came before it stopped
+      came : (v : Verdict) (i : ℕ) (u : Progress E) (p : Halt A J B (suc h) cs s v i u) → Went J (length (p .before)) s (p .reached)
+      came v i u p = halt-went A J B (suc h) cs s v i u p l
+
       -- the join at which the walk stopped is one of this pass
       within : (v : Verdict) (i : ℕ) (u : Progress E) (p : Halt A J B (suc h) cs s v i u) → suc (p .reached .joins) ≤ suc J * per
       within v i u p =
           top (suc (p .reached .joins))
-          (omega (arith, p .went .joins-are, ap length (p .split), length-append (p .before) (p .at ∷ p .after)))
+          (omega (arith, came v i u p .joins-are, ap length (p .split), length-append (p .before) (p .at ∷ p .after)))
 
       stops : (v : Verdict) (i : ℕ) (u : Progress E) → Halt A J B (suc h) cs s v i u → Stops A rules J B v (answer v (suc h) i u)
-      stops v i u p = record { passed = h; pass-is = refl; began = s; begun = b; last = u; halt = p; joins-are = refl; journal-is = refl }
+      stops v i u p =
+          let made : u .joins ≡ p .reached .joins + lastJoin v = found-joins A J B (suc h) v i (p .at) (p .reached) u (p .found) in
+          record {
+            passed = h;
+            pass-is = refl;
+            began = s;
+            begun = b;
+            last = u;
+            halt = p;
+            joins-are = omega (arith, made, came v i u p .joins-are, begun-came A rules J B h s b .joins-are);
+            journal-is = refl;
+          }
+
+      ends : (t : Progress E) → onePass A rules J B (suc h) s ≡ going t → length (t .rows) ≡ length (s .rows) → Went J (length cs) s t
+          → Ends A rules J B (answer holds (suc h) absent t)
+      ends t e same p =
+          record {
+            passed = h;
+            pass-is = refl;
+            began = s;
+            begun = b;
+            last = t;
+            walked = e;
+            none-added = same;
+            joins-are = omega (arith, p .joins-are, begun-came A rules J B h s b .joins-are);
+            journal-is = refl;
+          }
 
       by : (r : Outcome E) → onePass A rules J B (suc h) s ≡ r → Post (Went J (length cs) s) (Halt A J B (suc h) cs s) r
           → ((t : Progress E) → Begun A rules J B (suc h) t → J < f + length (t .rows) → length (t .rows) ≤ J → suc h ≤ length (t .rows) → t .joins ≤ suc h * per → Exact (passes A rules J B f (suc (suc h)) t))
@@ -133,7 +174,7 @@ module _ {E : Type 0} (A : Algebra E) (m : ℕ) (few : (x y : E) → length (A .
             stops = stops broken i u p;
             used-is = refl;
             joins-bound = omega (arith, made, within broken i u p);
-            rows-bound = let ne : length (p .reached .rows) ≡ J → ⊥ = c .2 in omega (arith, size, p .went .rows-fit);
+            rows-bound = let ne : length (p .reached .rows) ≡ J → ⊥ = c .2 in omega (arith, size, came broken i u p .rows-fit);
             pass-bound = suc-le-suc (le-trans a l);
           }
       by (stopped full i u) e p next =
@@ -157,13 +198,21 @@ module _ {E : Type 0} (A : Algebra E) (m : ℕ) (few : (x y : E) → length (A .
             stops = stops spent i u p;
             used-is = refl;
             joins-bound = le-trans (le-suc (u .joins)) bound;
-            rows-bound = omega (arith, ap (λ (x : Progress E). length (x .rows)) (c .2), p .went .rows-fit);
+            rows-bound = omega (arith, ap (λ (x : Progress E). length (x .rows)) (c .2), came spent i u p .rows-fit);
             pass-bound = suc-le-suc (le-trans a l);
           }
       by (going t) e p next = fork (eqb (length (t .rows)) (length (s .rows))) refl
         where
           fork : (x : Bool) → eqb (length (t .rows)) (length (s .rows)) ≡ x → Exact (closeBy x (suc h) (passes A rules J B f (suc (suc h))) t)
-          fork true q = record { by-verdict = refl; stops = tt; used-is = refl; joins-bound = top (t .joins) (le-of-eq (p .joins-are)); rows-bound = p .rows-fit; pass-bound = suc-le-suc (le-trans a l) }
+          fork true q =
+              record {
+                by-verdict = refl;
+                stops = ends t e (eqb-true (length (t .rows)) (length (s .rows)) q) p;
+                used-is = refl;
+                joins-bound = top (t .joins) (le-of-eq (p .joins-are));
+                rows-bound = p .rows-fit;
+                pass-bound = suc-le-suc (le-trans a l);
+              }
           fork false q =
               let ne : length (t .rows) ≡ length (s .rows) → ⊥ = eqb-false (length (t .rows)) (length (s .rows)) q in
               next t (s, b, e, ne) (omega (arith, p .rows-up)) (p .rows-fit) (omega (arith, p .rows-up)) (up (t .joins) (le-of-eq (p .joins-are)))

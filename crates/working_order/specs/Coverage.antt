@@ -6,7 +6,8 @@ use mathlib.Core.List.{List, [], _∷_, _++_, map}
 use Prim.Native.Nat.{ℕ}
 use lib.Dec.{eqb}
 use borrow.Author.Tests.{eqb-true, eq-eqb}
-use Rattle.basics.specs.Lists.{In, in-left, in-right, any-of, any-at, in-map}
+use Rattle.basics.specs.Elements.{In}
+use Rattle.basics.specs.Lists.{in-left, in-right, any-of, any-at, in-map}
 use Rattle.basics.specs.Tests.{and-intro, and-fst, and-snd}
 use Rattle.working_order.specs.Algebra.{Algebra, Laws}
 use Rattle.working_order.specs.Candidates.{Candidate}

@@ -9,7 +9,8 @@ use native.Mathlib.Omega.{arith}
 use lib.Dec.{eqb, ltb}
 use lib.ListN.{length, getD, length-append, length-map, List·getD-append}
 use borrow.Author.Tests.{eqb-true, eq-eqb, ltb-true, lt-ltb}
-use Rattle.basics.specs.Lists.{In, map-in, getD-map}
+use Rattle.basics.specs.Elements.{In}
+use Rattle.basics.specs.Lists.{map-in, getD-map}
 use Rattle.basics.specs.Tests.{and-intro, and-fst, and-snd}
 use Rattle.language.specs.Grammar.{Symbol, terminal, nonterminal, Body, empty, one, two, Rule, noRule}
 use Rattle.working_order.specs.Algebra.{Forms, Algebra}

@@ -5,7 +5,7 @@ use mathlib.Core.List.{List}
 use Prim.Native.Nat.{ℕ, zero, suc}
 use lib.Dec.{eqb}
 use lib.ListN.{length}
-use Rattle.basics.specs.Lists.{In}
+use Rattle.basics.specs.Elements.{In}
 use Rattle.language.specs.Grammar.{Rule}
 use Rattle.working_order.specs.Algebra.{Algebra}
 use Rattle.working_order.specs.Candidates.{Candidate, passCandidates}

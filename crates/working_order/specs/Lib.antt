@@ -2,6 +2,7 @@ pub mod Algebra
 pub mod Journal
 pub mod Candidates
 pub mod Order
+pub mod Stopping
 pub mod Behind
 pub mod Fitting
 pub mod Derivation
@@ -15,9 +16,11 @@ pub mod Soundness
 pub mod Repeating
 pub mod Truth
 pub mod Halting
+pub mod Exactly
 pub mod Counting
 pub mod Stability
 pub mod Journals
 pub mod Antichain
 pub mod FittingRows
-pub mod Exactly
+pub mod FittingLaws
+pub mod BehindLaws

@@ -5,7 +5,7 @@ use mathlib.Core.List.{List, [], _∷_, _++_, map}
 use Prim.Native.Nat.{ℕ, zero, suc}
 use lib.Dec.{eqb}
 use lib.ListN.{length}
-use Rattle.basics.specs.Lists.{any}
+use Rattle.basics.specs.Elements.{any}
 use Rattle.language.specs.Grammar.{Rule}
 use Rattle.working_order.specs.Algebra.{Algebra}
 use Rattle.working_order.specs.Journal.{Row, absent, liveOf}

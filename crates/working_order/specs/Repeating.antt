@@ -9,7 +9,8 @@ use native.Mathlib.Omega.{arith}
 use lib.Dec.{eqb}
 use lib.ListN.{length}
 use Rattle.basics.specs.Tests.{and-intro, and-fst, and-snd}
-use Rattle.basics.specs.Lists.{In, concatMap, in-left, in-right, in-cases, in-map, map-in, in-concatMap}
+use Rattle.basics.specs.Elements.{In, concatMap}
+use Rattle.basics.specs.Lists.{in-left, in-right, in-cases, in-map, map-in, in-concatMap}
 use Rattle.language.specs.Grammar.{Symbol, terminal, nonterminal, Body, empty, one, two, Rule}
 use Rattle.working_order.specs.Algebra.{Algebra, Laws}
 use Rattle.working_order.specs.Candidates.{Choice, Candidate, liveRows, sole, paired, bare, choices, bodyCandidates, passCandidates}

@@ -9,7 +9,8 @@ use native.Mathlib.Omega.{arith}
 use lib.Dec.{eqb}
 use lib.ListN.{length, getD, List·getD-append}
 use borrow.Author.Tests.{eqb-true}
-use Rattle.basics.specs.Lists.{In, concatMap, in-cases, map-in, concatMap-in}
+use Rattle.basics.specs.Elements.{In, concatMap}
+use Rattle.basics.specs.Lists.{in-cases, map-in, concatMap-in}
 use Rattle.basics.specs.Tests.{and-fst}
 use Rattle.language.specs.Grammar.{Symbol, terminal, nonterminal, Body, empty, one, two, Rule, noRule}
 use Rattle.working_order.specs.Algebra.{Algebra}

@@ -12,7 +12,8 @@ use lib.ListN.{length, getD, length-append, length-map}
 use lib.Seq.{getD-at}
 use borrow.Author.Tests.{eqb-true}
 use lib.Pow.{low}
-use Rattle.basics.specs.Lists.{In, in-cases, map-in}
+use Rattle.basics.specs.Elements.{In}
+use Rattle.basics.specs.Lists.{in-cases, map-in}
 use Rattle.basics.specs.Tests.{and-fst, fails}
 use Rattle.language.specs.Grammar.{Rule}
 use Rattle.working_order.specs.Algebra.{Algebra, Laws}

@@ -4,24 +4,21 @@ use mathlib.Core.Path.{_≡_, refl, sym, subst}
 use mathlib.Core.Logic.{_⊎_, inl, inr}
 use mathlib.Core.Bool.{Bool, true, false}
 use mathlib.Core.List.{List, [], _∷_, _++_}
-use Prim.Native.Nat.{ℕ, suc}
+use Prim.Native.Nat.{ℕ}
 use lib.Dec.{eqb}
 use lib.ListN.{length}
-use Rattle.basics.specs.Lists.{In}
+use Rattle.basics.specs.Elements.{In}
 use Rattle.working_order.specs.Algebra.{Algebra, Laws}
 use Rattle.working_order.specs.Candidates.{Candidate}
 use Rattle.working_order.specs.Coverage.{Covered, dropped-covered, added-covered, covered-added}
 use Rattle.working_order.specs.Journal.{Row, absent}
 use Rattle.working_order.specs.Order.{Progress, Verdict, broken, full, spent, Outcome, going, stopped, andThen, dropped, added, decide, consider, walk}
+use Rattle.working_order.specs.Stopping.{counted, grown}
 
 module _ {E : Type 0} where
   abbrev pub Post : (Progress E → Type 0) → (Verdict → ℕ → Progress E → Type 0) → Outcome E → Type 0
   Post Q R (going s) = Q s
   Post Q R (stopped v i s) = R v i s
-
-  -- the state after a candidate that was dropped
-  abbrev pub counted : Progress E → Progress E
-  counted s = record { rows = s .rows; joins = suc (s .joins) }
 
   pub post-bind : (Q Q′ : Progress E → Type 0) (R : Verdict → ℕ → Progress E → Type 0) (r : Outcome E) (k : Progress E → Outcome E)
       → Post Q R r → ((s : Progress E) → Q s → Post Q′ R (k s)) → Post Q′ R (andThen r k)
@@ -32,10 +29,6 @@ module _ {E : Type 0} where
   AnyEnd v i s = Unit {0}
 
 module _ {E : Type 0} (A : Algebra E) where
-  -- and after one that became a row
-  abbrev pub grown : ℕ → Candidate E → Progress E → Progress E
-  grown k c s = record { rows = added (A .below) k c (s .rows); joins = suc (s .joins) }
-
   -- t covers each of the candidates, and what s covered
   pub record Covers (cs : List (Candidate E)) (s t : Progress E) : Type 0 where
     pub each : (c : Candidate E) → In c cs → Covered A (c .head) (c .effect) (t .rows)

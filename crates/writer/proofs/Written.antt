@@ -21,7 +21,8 @@ use Rattle.calls.specs.Base.{words}
 use Rattle.calls.specs.Checking.{journalFault}
 use Rattle.calls.specs.Replies.{answered, unless, unlessBy}
 use Rattle.calls.specs.Rows.{entryOf}
-use Rattle.calls.specs.Writing.{rowFault, roomFault, wordOf, writeOf, writtenBy, bufferAfter}
+use Rattle.calls.specs.Writing.{rowFault, roomFault, wordOf, writeOf, writtenBy, bufferAfter, WordMeans}
+use Rattle.calls.specs.WritingTruth.{write-means}
 use Rattle.fitting.specs.Forms.{noForms}
 use Rattle.fitting.specs.ByValue.{lastLen}
 use Rattle.fitting.specs.declared.Fit.{Fit}
@@ -194,7 +195,9 @@ writes bs rows used i table a h f fits len old new n w =
     let r = refusalBy a f (length old) in
     let reply = reply-is bs rows used i table a h f fits len (length old) in
     let g = by (r .number) refl w in
-    record { answer = g .0 ∙ sym reply; buffer = g .1 ∙ ap (writtenBy (wordBehind words (rulesOf bs) rows i) old) (sym reply) }
+    let after : new ≡ bufferAfter bs rows used i old = g .1 ∙ ap (writtenBy (wordBehind words (rulesOf bs) rows i) old) (sym reply) in
+    let means = write-means bs rows used i old in
+    record { answer = g .0 ∙ sym reply; buffer = after; meaning = subst (λ (xs : List ℕ). WordMeans bs rows i xs (writeOf bs rows used i (length old))) (sym after) means }
   where
     by : (k : ℕ) → refusalBy a f (length old) .number ≡ k → Wrote (partWord (map entryOf (take (a .rules) table)) rows (partBy k i)) old new n
         → (writingOf (writingBy k (refusalBy a f (length old)) n) ≡ unless (refusalOf (refusalBy a f (length old))) (answered (length (wordBehind words (rulesOf bs) rows i))))

@@ -4,7 +4,7 @@ use mathlib.Core.List.{List}
 use Prim.Native.Nat.{ℕ}
 use lib.ListN.{length}
 use Rattle.working_order.specs.Journal.{Row}
-use Rattle.calls.specs.Writing.{writeOf, bufferAfter}
+use Rattle.calls.specs.Writing.{writeOf, bufferAfter, WordMeans}
 use Rattle.writer.specs.declared.Writing.{Writing}
 use Rattle.writer.specs.Answers.{writingOf}
 
@@ -14,3 +14,5 @@ pub record Writes (bs : List ℕ) (rows : List (Row ℕ)) (used i : ℕ) (old ne
   pub answer : writingOf r ≡ writeOf bs rows used i (length old)
   -- the word, and then the old bytes; the old bytes whole on a refusal
   pub buffer : new ≡ bufferAfter bs rows used i old
+  -- a word that is written derives from the nonterminal of row i, whoever made the journal (document 000: rewriting)
+  pub meaning : WordMeans bs rows i new (writeOf bs rows used i (length old))

@@ -70,6 +70,7 @@ module _ {E : Type 0} (M : Forms E) (rows : List (Row E)) where
 
   pub record Fitting (rules : List Rule) (i : ℕ) : Type 0 where
     pub inside : getD rows i (noRow M) .rule < length rules
+    pub head-is : getD rules (getD rows i (noRow M) .rule) noRule .head ≡ getD rows i (noRow M) .head
     pub pointers : PointersFit i (bodyAt rules i) (getD rows i (noRow M) .left) (getD rows i (noRow M) .right)
     pub size : getD rows i (noRow M) .len ≡ bodyLen (bodyAt rules i) (getD rows i (noRow M) .left) (getD rows i (noRow M) .right)
 
@@ -82,6 +83,7 @@ module _ {E : Type 0} (M : Forms E) (rows : List (Row E)) where
       let d = bodyFits M rows i (bodyAt rules i) (r .left) (r .right) (r .len) in
       record {
         inside = ltb-true (r .rule) (length rules) (and-fst a b (and-fst (a && b) d f));
+        head-is = eqb-true (getD rules (r .rule) noRule .head) (r .head) (and-snd a b (and-fst (a && b) d f));
         pointers = pointers-fit i (bodyAt rules i) (r .left) (r .right) (r .len) (and-snd (a && b) d f);
         size = length-fits i (bodyAt rules i) (r .left) (r .right) (r .len) (and-snd (a && b) d f);
       }

@@ -9,12 +9,12 @@ use native.Mathlib.Omega.{arith}
 use lib.ListN.{length, getD, take, drop, length-append, List·getD-append}
 use lib.Seq.{split-at, getD-at, length-take-le}
 use Rattle.language.specs.Grammar.{Symbol, terminal, nonterminal, Body, empty, one, two, Rule}
 use Rattle.working_order.specs.Algebra.{Forms}
 use Rattle.working_order.specs.Journal.{Row, noRow, capped}
 use Rattle.working_order.specs.Behind.{Spelling, symbolWord, bodyWord, rowWord, wordsFrom, wordsOf, wordBehind}
 use Rattle.working_order.specs.Fitting.{pointerFits, symbolLen, rowFits}
 use Rattle.working_order.specs.Soundness.{Sizes}
-use Rattle.witness.specs.FittingLaws.{FitThrough, PointersFit, bodyLen, lower, bodyAt, fitting}
+use Rattle.working_order.specs.FittingLaws.{FitThrough, PointersFit, bodyLen, lower, bodyAt, fitting}
 
 -- ---- the words, row by row
 

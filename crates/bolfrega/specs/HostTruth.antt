@@ -1,208 +1,294 @@
--- What a host may conclude from the number that a call gives, the details and the buffer alone, by the contracts. Assumes nothing.
+-- What a host may conclude from what a call gave it (Hosts.antt), by the call's contract alone. Assumes nothing.
 use mathlib.Core.Path.{_≡_, refl, sym, ap, _∙_, subst}
-use mathlib.Core.Bool.{Bool, true, false, _||_, cond}
-use mathlib.Core.List.{List, _∷_, _++_}
-use Prim.Native.Nat.{ℕ, zero, suc, min, _≤_, _<_}
-use native.Mathlib.Nat.{suc-ne-zero}
+use mathlib.Core.Logic.{_⊎_, inl, inr}
+use mathlib.Core.Bool.{cond}
+use mathlib.Core.List.{List, [], _∷_}
+use Prim.Native.Nat.{ℕ, suc, _+_, _*_, _≤_, _<_, zero-le}
 use native.Mathlib.Omega.{arith}
-use lib.Dec.{leb, ltb}
-use lib.ListN.{length, getD, take, drop, length-replicate, List·getD-append}
-use lib.Seq.{take-at}
-use borrow.Author.Tests.{leb-false}
-use Rattle.basics.specs.Lists.{getD-map}
-use Rattle.basics.specs.Tests.{or-neither}
+use lib.Dec.{eqb}
+use lib.ListN.{length, take}
 use Rattle.relation.specs.Relation.{states}
-use Rattle.language.specs.Automaton.{Accepts, TurnsAway}
-use Rattle.plan_file.specs.Refusals.{Refusal, refuse, fault}
+use Rattle.language.specs.Automaton.{Accepts}
+use Rattle.plan_file.specs.Refusals.{Refusal, fault}
 use Rattle.plan_file.specs.Views.{rulesOf, automatonOf}
-use Rattle.working_order.specs.Journal.{Row, noRow, capped}
-use Rattle.working_order.specs.Order.{Answer, Verdict, holds, broken, full, spent}
-use Rattle.working_order.specs.Behind.{wordBehind}
-use Rattle.working_order.specs.Truth.{SaysBy, check-says}
-use Rattle.calls.specs.Base.{base, words}
-use Rattle.calls.specs.BaseLaws.{base-laws, word-sizes}
-use Rattle.calls.specs.Checking.{journalFault, orderOn, checkOf, keptBy, journalAfter, shown}
-use Rattle.calls.specs.DemandThree.{Derivable, Counterexample}
-use Rattle.calls.specs.JournalTruth.{row-true}
-use Rattle.calls.specs.Judging.{Judgement, accepted, turnedAway, judgeOf, Means}
+use Rattle.working_order.specs.Stopping.{Stops}
+use Rattle.working_order.specs.Order.{Progress, Answer, Verdict, holds, broken, full, spent}
+use Rattle.calls.specs.Base.{base}
+use Rattle.calls.specs.Checking.{journalFault, checkOf, shown}
+use Rattle.calls.specs.DemandThree.{Derivable, Counterexample, Promises}
+use Rattle.calls.specs.Judging.{accepted}
 use Rattle.calls.specs.Promising.{from-order}
-use Rattle.calls.specs.Replies.{Reply, refused, answered, unless, unlessBy}
-use Rattle.calls.specs.Writing.{longWord, rowFault, roomFault, wordOf, writeOf, writtenBy, bufferAfter}
-use Rattle.working_order.specs.BehindLaws.{behind-more}
-use Rattle.telling.specs.Codes.{holdsCode, brokenCode, verdictCode, codeBy}
-use Rattle.telling.specs.Telling.{refusedBy}
-use Rattle.standalone.specs.Told.{zeroRow, answerCode, rowIn, lastThree, detailsOf, shownBy, shownOf}
-use Rattle.bolfrega.specs.Codes.{acceptedCode, turnedAwayCode, judgementCode}
-use Rattle.bolfrega.specs.Contracts.{Judges, zeroRows, ChecksZeros}
-use Rattle.bolfrega.specs.LowNumbers.{LowIn, check-low, judge-low}
+use Rattle.calls.specs.Replies.{Reply, refused, answered}
+use Rattle.calls.specs.Writing.{writtenBy}
+use Rattle.telling.specs.Codes.{firstAnswerCode, holdsCode, brokenCode, fullCode, spentCode, verdictCode}
+use Rattle.standalone.specs.Told.{lastThree, shownBy}
+use Rattle.bolfrega.specs.Contracts.{Refuses, ChecksZeros}
+use Rattle.bolfrega.specs.Hosts.{FileTells, toldRecord, toldJoins, toldUsed, toldPass, toldRow, toldPairs, toldLength, toldRefused, Decided, Refusing, RunsOut, Verdicts, Details, Stays, CheckTells}
+use Rattle.bolfrega.specs.HostReplies.{Why, brokenRow, writing, RowsRefused, rows-refused, refused-rows, why-refused, ToldRefusal, ToldAnswer, told-refusal, told-answer}
+use Rattle.bolfrega.specs.LowNumbers.{low-high, file-refusal}
+use Rattle.bolfrega.specs.HostJudging.{judge-tells}
+use Rattle.bolfrega.specs.HostShows.{run-shown}
 
--- a refusal's number is no answer's
-not-low : (f n : ℕ) → f ≤ 11 → 100 ≤ n → f ≡ n → ⊥
-not-low f n l h e = omega arith
+-- ---- the numbers of the verdicts
 
--- ---- judging
+-- the verdict of a number, and back
+abbrev verdictOf : ℕ → Verdict
+verdictOf n = cond (eqb n holdsCode) holds (cond (eqb n brokenCode) broken (cond (eqb n fullCode) full spent))
 
-module _ (bs w : List ℕ) (r i : ℕ) (j : Judges bs w r i) where
-  -- a judgement's number comes with what the judgement means
-  judged-means : (g : Judgement) → r ≡ judgementCode g → Means bs w (answered g)
-  judged-means g e = by (judgeOf bs w) g (judge-low bs w) (j .meaning) (sym (j .code) ∙ e)
-    where
-      by : (x : Reply Judgement) (g : Judgement) → LowIn x → Means bs w x → codeBy judgementCode x ≡ judgementCode g → Means bs w (answered g)
-      by (refused y) accepted l m q = absurd (not-low (y .number) acceptedCode l (omega arith) q)
-      by (refused y) turnedAway l m q = absurd (not-low (y .number) turnedAwayCode l (omega arith) q)
-      by (answered accepted) accepted l m q = m
-      by (answered accepted) turnedAway l m q = absurd (let z : ⊥ = omega arith in z)
-      by (answered turnedAway) accepted l m q = absurd (let z : ⊥ = omega arith in z)
-      by (answered turnedAway) turnedAway l m q = m
+verdict-back : (v : Verdict) → verdictOf (verdictCode v) ≡ v
+verdict-back holds = refl
+verdict-back broken = refl
+verdict-back full = refl
+verdict-back spent = refl
 
-  pub accepted-means : r ≡ acceptedCode → Accepts (automatonOf bs) w
-  accepted-means e = judged-means accepted e
+same-verdict : (v x : Verdict) → verdictCode v ≡ verdictCode x → v ≡ x
+same-verdict v x e = sym (verdict-back v) ∙ ap verdictOf e ∙ verdict-back x
 
-  pub turned-away-means : r ≡ turnedAwayCode → TurnsAway (automatonOf bs) w
-  turned-away-means e = judged-means turnedAway e
+verdict-high : (v : Verdict) → firstAnswerCode ≤ verdictCode v
+verdict-high holds = omega arith
+verdict-high broken = omega arith
+verdict-high full = omega arith
+verdict-high spent = omega arith
 
--- ---- the check
+-- ---- what Stops says of the counts
 
--- the verdict behind a number
-is-holds : (v : Verdict) → verdictCode v ≡ holdsCode → v ≡ holds
-is-holds holds e = refl
-is-holds broken e = absurd (let z : ⊥ = omega arith in z)
-is-holds full e = absurd (let z : ⊥ = omega arith in z)
-is-holds spent e = absurd (let z : ⊥ = omega arith in z)
+module _ (bs : List ℕ) (J B : ℕ) (a : Answer ℕ) where
+  -- full: all rows are used
+  full-rows : Stops (base states (automatonOf bs)) (rulesOf bs) J B full a → length (a .journal) ≡ J
+  full-rows s =
+      let f = s .halt .found in
+      ap length (s .journal-is) ∙ ap (λ (x : Progress ℕ). length (x .rows)) (f .4) ∙ f .2
 
-is-broken : (v : Verdict) → verdictCode v ≡ brokenCode → v ≡ broken
-is-broken holds e = absurd (let z : ⊥ = omega arith in z)
-is-broken broken e = refl
-is-broken full e = absurd (let z : ⊥ = omega arith in z)
-is-broken spent e = absurd (let z : ⊥ = omega arith in z)
+  -- spent: all joins are made
+  spent-budget : Stops (base states (automatonOf bs)) (rulesOf bs) J B spent a → a .joins ≡ B
+  spent-budget s =
+      let f = s .halt .found in
+      s .joins-are ∙ ap (λ (x : Progress ℕ). x .joins) (f .2) ∙ f .0
 
--- a reply that refuses nothing is the one after the refusal
-passes : (x : Refusal) (y : Reply ℕ) → refusedBy (unless x y) ≡ 0 → (x .number ≡ 0) × (unless x y ≡ y) × (refusedBy y ≡ 0)
-passes x y e = by (x .number) refl e
-  where
-    by : (f : ℕ) → x .number ≡ f → refusedBy (unlessBy f x y) ≡ 0 → (x .number ≡ 0) × (unlessBy f x y ≡ y) × (refusedBy y ≡ 0)
-    by zero p q = (p, refl, q)
-    by (suc f) p q = absurd (suc-ne-zero f (sym p ∙ q))
+-- ---- a check that was refused
 
--- a word that 10 does not refuse is not capped
-short : (w : List ℕ) (room : ℕ) → roomFault w room ≡ 0 → capped (length w) ≡ length w
-unfolding roomFault capped
-short w room e = by (leb longWord (length w) || ltb room (length w)) refl e
-  where
-    by : (b : Bool) → (leb longWord (length w) || ltb room (length w)) ≡ b → _≡_ {A = ℕ} (cond b 10 0) 0 → min (length w) 65535 ≡ length w
-    by true p q = absurd (suc-ne-zero 9 q)
-    by false p q = let l = leb-false longWord (length w) (or-neither (leb longWord (length w)) (ltb room (length w)) p .0) in omega arith
+module _ (bs : List ℕ) (J B : ℕ) (d old new : List ℕ) (r : ℕ) where
+  module _ (y : Refusal) (t : ToldRefusal bs J B d old new r y) where
+    -- no verdict has such a number
+    not-verdict : (v : Verdict) → r ≡ verdictCode v → ⊥
+    not-verdict v e = low-high (t .low) (subst (λ (n : ℕ). firstAnswerCode ≤ n) (sym e) (verdict-high v))
 
-module _ (bs : List ℕ) (rows : List (Row ℕ)) (used i : ℕ) (old : List ℕ) where
-  -- a run that is not refused stands at the front of the buffer
-  written : refusedBy (writeOf bs rows used i (length old)) ≡ 0
-      → (capped (length (wordOf bs rows i)) ≡ length (wordOf bs rows i)) × (bufferAfter bs rows used i old ≡ wordOf bs rows i ++ drop (length (wordOf bs rows i)) old)
-  unfolding writeOf bufferAfter
-  written e =
-      let w = wordOf bs rows i in
-      let p₁ = passes (fault bs) _ e in
-      let p₂ = passes (refuse (journalFault (length rows)) 0) _ (p₁ .2) in
-      let p₃ = passes (refuse (rowFault (base states (automatonOf bs) .forms) (rulesOf bs) rows used i) 0) _ (p₂ .2) in
-      let p₄ = passes (refuse (roomFault w (length old)) 0) (answered (length w)) (p₃ .2) in
-      (short w (length old) (p₄ .0), ap (writtenBy w old) (p₁ .1 ∙ p₂ .1 ∙ p₃ .1 ∙ p₄ .1))
+    record-is : toldRecord d ≡ y .place
+    record-is = ap toldRecord (t .details)
+
+    file-number : r ≡ fault bs .number → (fault bs .number ≡ 0 → ⊥) → (1 ≤ r) × (r ≤ 7)
+    file-number e n = (omega (arith, e, n), omega (arith, e, file-refusal bs .number))
+
+    refusing-by : Why (fault bs) (journalFault J) y → Refusing bs J B d old new r
+    refusing-by (inl (n, q)) =
+        record {
+          refused-exactly = (λ l. inl n, λ x. t .low);
+          file-refused = λ m. (t .number ∙ ap (λ (x : Refusal). x .number) q, record-is ∙ ap (λ (x : Refusal). x .place) q);
+          file-numbers = λ m. file-number (t .number ∙ ap (λ (x : Refusal). x .number) q) n;
+          rows-number = λ z. absurd (n z);
+          no-record = λ z. absurd (n z);
+          rest-zero = λ l. t .details ∙ ap (λ (k : ℕ). k ∷ 0 ∷ 0 ∷ 0 ∷ 0 ∷ 0 ∷ 0 ∷ 0 ∷ []) (sym record-is);
+        }
+    refusing-by (inr (z, (n, q))) =
+        let e = rows-refused J n in
+        record {
+          refused-exactly = (λ l. inr (e .0), λ x. t .low);
+          file-refused = λ m. absurd (m z);
+          file-numbers = λ m. absurd (m z);
+          rows-number = λ k l. t .number ∙ ap (λ (x : Refusal). x .number) q ∙ e .1;
+          no-record = λ k. record-is ∙ ap (λ (x : Refusal). x .place) q;
+          rest-zero = λ l. t .details ∙ ap (λ (k : ℕ). k ∷ 0 ∷ 0 ∷ 0 ∷ 0 ∷ 0 ∷ 0 ∷ 0 ∷ []) (sym record-is);
+        }
+
+    -- it is no answer
+    runs-not : (v : Verdict) → RunsOut bs J B d old new r v → ⊥
+    runs-not v o = let z : _≡_ {A = ℕ} 0 1 = cc (t .reply, o .answers) in omega (arith, z)
+
+    refusal-tells : Why (fault bs) (journalFault J) y → CheckTells bs J B d old new r
+    refusal-tells w =
+        record {
+          refusing = refusing-by w;
+          verdicts = record {
+            one-of-four = λ h. absurd (low-high (t .low) h);
+            holds-exactly = λ x. absurd (low-high (t .low) (x .answers));
+            broken-exactly = λ x. absurd (low-high (t .low) (x .answers));
+            full-exactly = (λ e. absurd (not-verdict full e), λ o. absurd (runs-not full o));
+            full-used = λ e. absurd (not-verdict full e);
+            spent-exactly = (λ e. absurd (not-verdict spent e), λ o. absurd (runs-not spent o));
+            spent-joins = λ e. absurd (not-verdict spent e);
+            never-spent = λ l e. not-verdict spent e;
+          };
+          details = record {
+            eight = ap length (t .details);
+            used-bound = subst (λ (n : ℕ). n ≤ J) (sym (ap toldUsed (t .details))) zero-le;
+            pass-bound = subst (λ (n : ℕ). n ≤ J + 1) (sym (ap toldPass (t .details))) zero-le;
+            joins-bound = subst (λ (n : ℕ). n ≤ length (rulesOf bs) * J * J * (J + 1)) (sym (ap toldJoins (t .details))) zero-le;
+            no-row = λ h. absurd (low-high (t .low) h);
+            no-run = λ n. (ap toldPairs (t .details), ap toldLength (t .details), ap toldRefused (t .details));
+            last-row = λ e. absurd (not-verdict broken e);
+            buffer-kept = λ n. t .buffer;
+          };
+          shows = λ e. absurd (not-verdict broken e);
+          stays = record { larger = λ x. absurd (neither x) };
+        }
+      where
+        neither : (r ≡ holdsCode) ⊎ (r ≡ brokenCode) → ⊥
+        neither (inl e) = not-verdict holds e
+        neither (inr e) = not-verdict broken e
+
+-- ---- a check that answers
 
 module _ (bs : List ℕ) (J B : ℕ) (d old new : List ℕ) (r : ℕ) (h : ChecksZeros bs J B d old new r) where
-  -- a verdict's number comes with an answer of that verdict
-  answer-of : (n : ℕ) (v : Verdict) → 100 ≤ n → ((x : Verdict) → verdictCode x ≡ n → x ≡ v) → r ≡ n
-      → (a : Answer ℕ) × (checkOf bs J B ≡ answered a) × (a .verdict ≡ v)
-  answer-of n v t only e = by (checkOf bs J B) refl (check-low bs J B) (sym (h .told .code) ∙ e)
-    where
-      by : (x : Reply (Answer ℕ)) → checkOf bs J B ≡ x → LowIn x → codeBy answerCode x ≡ n
-          → (a : Answer ℕ) × (checkOf bs J B ≡ answered a) × (a .verdict ≡ v)
-      by (refused y) p l q = absurd (not-low (y .number) n l t q)
-      by (answered a) p l q = (a, p, only (a .verdict) q)
+  module _ (a : Answer ℕ) (reply : checkOf bs J B ≡ answered a) where
+    abbrev t : ToldAnswer bs J B d old new r a
+    t = told-answer bs J B d old new r h a reply
 
-  -- "holds": the sheet accepts every run of the plan
-  pub holds-means : r ≡ holdsCode → (w : List ℕ) → Derivable bs w → Accepts (automatonOf bs) w
-  holds-means e = let x = answer-of holdsCode holds (omega arith) is-holds e in h .promises (x .0) (x .1) .one-verdict .holds-for-all (x .2)
+    abbrev p : Promises bs J B a
+    p = h .promises a reply
 
-  module _ (e : r ≡ brokenCode) where
-    abbrev found : (a : Answer ℕ) × (checkOf bs J B ≡ answered a) × (a .verdict ≡ broken)
-    found = answer-of brokenCode broken (omega arith) is-broken e
+    -- the number is that of the verdict
+    is : (v : Verdict) → r ≡ verdictCode v → a .verdict ≡ v
+    is v e = same-verdict (a .verdict) v (sym (t .number) ∙ e)
 
-    abbrev a : Answer ℕ
-    a = found .0
+    code : (v : Verdict) → a .verdict ≡ v → r ≡ verdictCode v
+    code v e = t .number ∙ ap verdictCode e
 
-    -- it is the working order's
-    order : a ≡ orderOn bs J B
-    order = from-order bs J B a (found .1) .2
+    high : firstAnswerCode ≤ r
+    high = subst (λ (n : ℕ). firstAnswerCode ≤ n) (sym (t .number)) (verdict-high (a .verdict))
 
-    -- "broken": the plan has a run that the sheet turns away
-    shows : Counterexample bs (shown bs a)
-    shows = h .promises a (found .1) .one-verdict .broken-shows (found .2)
-
-    pub broken-means : (w : List ℕ) × Counterexample bs w
-    broken-means = (shown bs a, shows)
-
-    -- ---- its row
-
-    in-journal : a .row < length (a .journal)
-    unfolding orderOn
-    in-journal =
-        let A = base states (automatonOf bs) in
-        let says = check-says A (base-laws states (automatonOf bs)) words word-sizes (rulesOf bs) J B .verdict in
-        let s = subst (λ (v : Verdict). SaysBy A words (rulesOf bs) v (orderOn bs J B)) (ap (λ (x : Answer ℕ). x .verdict) (sym order) ∙ found .2) says in
-        let below = subst (λ (x : Answer ℕ). x .row < x .used) (sym order) (s .2) in
-        omega (arith, below, h .promises a (found .1) .counts .used-rows)
-
-    -- the journal after the check: the rows used, and then zeros
-    abbrev rows : List (Row ℕ)
-    rows = journalAfter bs (zeroRows J) B
-
-    rows-are : rows ≡ a .journal ++ drop (a .used) (zeroRows J)
-    unfolding journalAfter zeroRows
-    rows-are = ap (λ (n : ℕ). keptBy (zeroRows J) (checkOf bs n B)) (length-replicate J zeroRow) ∙ ap (keptBy (zeroRows J)) (found .1)
-
-    word-is : wordOf bs rows (a .row) ≡ shown bs a
-    unfolding wordOf shown
-    word-is =
-        ap (λ (xs : List (Row ℕ)). wordBehind words (rulesOf bs) xs (a .row)) rows-are
-        ∙ behind-more words (rulesOf bs) (a .journal) (drop (a .used) (zeroRows J)) (a .row) in-journal
-
-    length-is : rowIn rows (a .row) .len ≡ capped (length (shown bs a))
-    unfolding shown
-    length-is =
-        let len : Row ℕ → ℕ = λ x. x .len in
-        let M = base states (automatonOf bs) .forms in
-        let here = subst (λ (x : Answer ℕ). a .row < length (x .journal)) order in-journal in
-        ap (λ (xs : List (Row ℕ)). getD xs (a .row) zeroRow .len) rows-are
-        ∙ ap len (List·getD-append (a .journal) (drop (a .used) (zeroRows J)) zeroRow (a .row) in-journal)
-        ∙ sym (getD-map len zeroRow 0 (a .journal) (a .row) in-journal)
-        ∙ getD-map len (noRow M) 0 (a .journal) (a .row) in-journal
-        ∙ subst (λ (x : Answer ℕ). getD (x .journal) (a .row) (noRow M) .len ≡ capped (length (wordBehind words (rulesOf bs) (x .journal) (a .row)))) (sym order)
-        (row-true bs J B (a .row) here .length-is)
-
-    -- ---- the run in the buffer
-
-    abbrev writing : Reply ℕ
-    writing = writeOf bs rows (a .used) (a .row) (length old)
-
-    details-are : d ≡ 0 ∷ a .joins ∷ a .used ∷ a .pass ∷ a .row ∷ lastThree broken (rowIn rows (a .row)) writing
-    details-are =
-        h .told .details ∙ ap (detailsOf bs rows (length old)) (found .1)
-        ∙ ap (λ (v : Verdict). 0 ∷ a .joins ∷ a .used ∷ a .pass ∷ a .row ∷ lastThree v (rowIn rows (a .row)) writing) (found .2)
-
-    buffer-is : new ≡ bufferAfter bs rows (a .used) (a .row) old
-    buffer-is = h .told .buffer ∙ ap (shownOf bs rows old) (found .1) ∙ ap (λ (v : Verdict). shownBy v (bufferAfter bs rows (a .used) (a .row) old) old) (found .2)
-
-    -- where nothing refused to write it, the first bytes of the buffer, as many as the length says, are a run of the plan that the
-    -- sheet turns away
-    pub run-means : getD d 7 0 ≡ 0 → Counterexample bs (take (getD d 6 0) new)
-    run-means z = subst (Counterexample bs) (sym same) shows
+    refusing : Refusing bs J B d old new r
+    refusing =
+        let o = from-order bs J B a reply in
+        record {
+          refused-exactly = (λ l. absurd (low-high l high), λ x. absurd (none (o .0) (o .1) x));
+          file-refused = λ n. absurd (n (o .0));
+          file-numbers = λ n. absurd (n (o .0));
+          rows-number = λ z l. absurd (low-high l high);
+          no-record = λ z. ap toldRecord (t .details);
+          rest-zero = λ l. absurd (low-high l high);
+        }
       where
-        w : List ℕ
-        w = wordOf bs rows (a .row)
+        none : fault bs .number ≡ 0 → journalFault J ≡ 0 → (fault bs .number ≡ 0 → ⊥) ⊎ RowsRefused J → ⊥
+        none z k (inl n) = n z
+        none z k (inr x) = refused-rows J x k
 
-        wrote : (capped (length w) ≡ length w) × (bufferAfter bs rows (a .used) (a .row) old ≡ w ++ drop (length w) old)
-        wrote = written bs rows (a .used) (a .row) old (sym (ap (λ (x : List ℕ). getD x 7 0) details-are) ∙ z)
+    -- the counts, as they are told
+    runs-out : (v : Verdict) → Stops (base states (automatonOf bs)) (rulesOf bs) J B v a → RunsOut bs J B d old new r v
+    runs-out v s = record { answer = a; answers = reply; stops = s; joins-told = ap toldJoins (t .details); used-told = ap toldUsed (t .details); pass-told = ap toldPass (t .details) }
 
-        size : length w ≡ getD d 6 0
-        size = sym (ap (λ (x : List ℕ). getD x 6 0) details-are ∙ length-is ∙ ap (λ (x : List ℕ). capped (length x)) (sym word-is) ∙ wrote .0)
+    verdicts : Verdicts bs J B d old new r
+    verdicts =
+        record {
+          one-of-four = λ l. four (a .verdict) refl;
+          holds-exactly = λ x. (λ e. p .one-verdict .holds-for-all (is holds e), λ all. calm x all (a .verdict) refl);
+          broken-exactly = λ x.
+              let b = p .one-verdict .broken-exactly (λ e. x .not-full (code full e)) (λ e. x .not-spent (code spent e)) in
+              (λ e. b .0 (is broken e), λ c. code broken (b .1 c));
+          full-exactly = (
+            λ e. runs-out full (p .one-verdict .stops-full .0 (is full e)),
+            λ o. told-answer bs J B d old new r h (o .answer) (o .answers) .number ∙ ap verdictCode (h .promises (o .answer) (o .answers) .one-verdict .stops-full .1 (o .stops)),
+          );
+          full-used = λ e. ap toldUsed (t .details) ∙ p .counts .used-rows ∙ full-rows bs J B a (p .one-verdict .stops-full .0 (is full e));
+          spent-exactly = (
+            λ e. runs-out spent (p .one-verdict .stops-spent .0 (is spent e)),
+            λ o. told-answer bs J B d old new r h (o .answer) (o .answers) .number ∙ ap verdictCode (h .promises (o .answer) (o .answers) .one-verdict .stops-spent .1 (o .stops)),
+          );
+          spent-joins = λ e. ap toldJoins (t .details) ∙ spent-budget bs J B a (p .one-verdict .stops-spent .0 (is spent e));
+          never-spent = λ l e. p .counts .never-spent l (is spent e);
+        }
+      where
+        four : (v : Verdict) → a .verdict ≡ v → (r ≡ holdsCode) ⊎ ((r ≡ brokenCode) ⊎ ((r ≡ fullCode) ⊎ (r ≡ spentCode)))
+        four holds e = inl (code holds e)
+        four broken e = inr (inl (code broken e))
+        four full e = inr (inr (inl (code full e)))
+        four spent e = inr (inr (inr (code spent e)))
 
-        same : take (getD d 6 0) new ≡ shown bs a
-        same = ap (take (getD d 6 0)) (buffer-is ∙ wrote .1) ∙ take-at w (drop (length w) old) (getD d 6 0) size ∙ word-is
+        -- where every run is accepted, none is shown
+        calm : Decided r → ((w : List ℕ) → Derivable bs w → Accepts (automatonOf bs) w) → (v : Verdict) → a .verdict ≡ v → r ≡ holdsCode
+        calm x all holds e = code holds e
+        calm x all broken e = let c = p .one-verdict .broken-shows e in absurd (c .1 (all (shown bs a) (c .0)))
+        calm x all full e = absurd (x .not-full (code full e))
+        calm x all spent e = absurd (x .not-spent (code spent e))
+
+    details : Details bs J B d old new r
+    details =
+        record {
+          eight = ap length (t .details) ∙ long (a .verdict);
+          used-bound = subst (λ (n : ℕ). n ≤ J) (sym (ap toldUsed (t .details))) (p .counts .rows-bound);
+          pass-bound = subst (λ (n : ℕ). n ≤ J + 1) (sym (ap toldPass (t .details))) (p .counts .pass-bound);
+          joins-bound = subst (λ (n : ℕ). n ≤ length (rulesOf bs) * J * J * (J + 1)) (sym (ap toldJoins (t .details))) (p .counts .joins-bound);
+          no-row = λ l n. ap toldRow (t .details) ∙ p .counts .no-row (λ e. n (code broken e));
+          no-run = λ n.
+              let e = t .details ∙ ap (λ (xs : List ℕ). 0 ∷ a .joins ∷ a .used ∷ a .pass ∷ a .row ∷ xs) (quiet (a .verdict) (λ e. n (code broken e))) in
+              (ap toldPairs e, ap toldLength e, ap toldRefused e);
+          last-row = λ e. ap toldUsed (t .details) ∙ p .counts .last-row (is broken e) ∙ sym (ap (λ (xs : List ℕ). suc (toldRow xs)) (t .details));
+          buffer-kept = λ n. t .buffer ∙ kept (a .verdict) (λ e. n (code broken e));
+        }
+      where
+        long : (v : Verdict) → length (0 ∷ a .joins ∷ a .used ∷ a .pass ∷ a .row ∷ lastThree v (brokenRow a) (writing bs old a)) ≡ 8
+        long holds = refl
+        long broken = refl
+        long full = refl
+        long spent = refl
+
+        quiet : (v : Verdict) → (v ≡ broken → ⊥) → lastThree v (brokenRow a) (writing bs old a) ≡ 0 ∷ 0 ∷ 0 ∷ []
+        quiet holds n = refl
+        quiet broken n = absurd (n refl)
+        quiet full n = refl
+        quiet spent n = refl
+
+        kept : (v : Verdict) → (v ≡ broken → ⊥) → shownBy v (writtenBy (shown bs a) old (writing bs old a)) old ≡ old
+        kept holds n = refl
+        kept broken n = absurd (n refl)
+        kept full n = refl
+        kept spent n = refl
+
+    stays : Stays bs J B d old new r
+    stays =
+        record {
+          larger = λ x J′ B′ j l b d′ new′ r′ h′.
+              let e = p .stable (λ q. firm x fullCode (omega arith) (code full q)) (λ q. firm x spentCode (omega arith) (code spent q)) J′ B′ j l b in
+              let t′ = told-answer bs J′ B′ d′ old new′ r′ h′ a e in
+              (t′ .number ∙ sym (t .number), t′ .details ∙ sym (t .details), t′ .buffer ∙ sym (t .buffer));
+        }
+      where
+        firm : (r ≡ holdsCode) ⊎ (r ≡ brokenCode) → (n : ℕ) → brokenCode < n → r ≡ n → ⊥
+        firm (inl x) n l e = omega (arith, x, l, e)
+        firm (inr x) n l e = omega (arith, x, l, e)
+
+    answer-tells : CheckTells bs J B d old new r
+    answer-tells =
+        record {
+          refusing = refusing;
+          verdicts = verdicts;
+          details = details;
+          shows = λ e. (shown bs a, run-shown bs J B a reply (is broken e) p d old new r t);
+          stays = stays;
+        }
+
+  -- every check that met its contract
+  pub check-tells : CheckTells bs J B d old new r
+  check-tells = by (checkOf bs J B) refl
+    where
+      by : (x : Reply (Answer ℕ)) → checkOf bs J B ≡ x → CheckTells bs J B d old new r
+      by (refused y) e = refusal-tells bs J B d old new r y (told-refusal bs J B d old new r h y e) (why-refused bs J B y e)
+      by (answered a) e = answer-tells a e
+
+  -- so where nothing refused to write it, the first bytes of the buffer, as many as the length tells, are a run of the plan that the sheet
+  -- turns away
+  pub run-means : r ≡ brokenCode → toldRefused d ≡ 0 → Counterexample bs (take (toldLength d) new)
+  run-means e z = let s = check-tells .shows e in subst (Counterexample bs) (sym (s .1 .in-buffer .first-bytes z)) (s .1 .counterexample)
+
+-- ---- reading
+
+pub file-tells : (bs : List ℕ) (r i : ℕ) → Refuses bs r i → FileTells bs r i
+file-tells bs r i h =
+    let x = file-refusal bs in
+    record {
+      numbers = subst (λ (n : ℕ). n ≤ 7) (sym (h .number)) (x .number);
+      no-record = λ l. h .place ∙ x .no-record (subst (λ (n : ℕ). n < 3) (h .number) l);
+      judging-same = λ n w r′ i′ j. let y = judge-tells bs w r′ i′ j .file-refused (λ z. n (h .number ∙ z)) in (y .0 ∙ sym (h .number), y .1 ∙ sym (h .place));
+      checking-same = λ n J B d old new r′ c.
+          let y = check-tells bs J B d old new r′ c .refusing .file-refused (λ z. n (h .number ∙ z)) in
+          (y .0 ∙ sym (h .number), y .1 ∙ sym (h .place));
+    }

@@ -3,4 +3,8 @@ pub mod Contracts
 pub mod Telling
 pub mod ZeroRows
 pub mod LowNumbers
+pub mod Hosts
+pub mod HostReplies
+pub mod HostJudging
+pub mod HostShows
 pub mod HostTruth

@@ -1,7 +1,9 @@
--- The number of a refusal is at most 11, so it is none of the answers' numbers. Assumes nothing.
+-- The numbers that refuse: a file is refused with 1 to 7, with a record for 3 to 7 only, and every refusal's number is below those of the answers.
+-- Assumes nothing.
+use mathlib.Core.Path.{_≡_, refl}
 use mathlib.Core.Bool.{Bool, true, false, not, _||_, cond}
 use mathlib.Core.List.{List}
-use Prim.Native.Nat.{ℕ, zero, suc, _≤_, _%_}
+use Prim.Native.Nat.{ℕ, zero, suc, _≤_, _<_, _%_}
 use native.Mathlib.Omega.{arith}
 use lib.Dec.{eqb, leb, ltb}
 use lib.ListN.{length}
@@ -12,48 +14,66 @@ use Rattle.plan_file.specs.Refusals.{Refusal, refuse, kindKnown, aboveRange, st
 use Rattle.calls.specs.Checking.{journalLimit, journalFault, checkOf}
 use Rattle.calls.specs.Judging.{wordLimit, wordFault, judgeOf}
 use Rattle.calls.specs.Replies.{Reply, refused, answered, unless, unlessBy}
-
-abbrev pub Low : Refusal → Type 0
-Low x = x .number ≤ 11
+use Rattle.telling.specs.Codes.{firstAnswerCode}
 
 -- ---- a file
 
-lowest-low : (a b c d e : Bool) → lowest a b c d e ≤ 11
-lowest-low true b c d e = omega arith
-lowest-low false true c d e = omega arith
-lowest-low false false true d e = omega arith
-lowest-low false false false true e = omega arith
-lowest-low false false false false true = omega arith
-lowest-low false false false false false = omega arith
+-- the refusals of a file
+pub record FileRefusal (x : Refusal) : Type 0 where
+  pub number : x .number ≤ 7
+  pub no-record : x .number < 3 → x .place ≡ 0
 
-next-low : (f i : ℕ) (next : Refusal) → f ≤ 11 → Low next → Low (orNext f i next)
-next-low zero i next h l = l
-next-low (suc f) i next h l = h
+-- the refusals of a record
+record RecordNumber (f : ℕ) : Type 0 where
+  low : f ≤ 7
+  high : 0 < f → 3 ≤ f
 
-at-low : (bs : List ℕ) (i : ℕ) → faultAt bs i ≤ 11
+lowest-number : (a b c d e : Bool) → RecordNumber (lowest a b c d e)
+lowest-number true b c d e = record { low = omega arith; high = λ h. omega arith }
+lowest-number false true c d e = record { low = omega arith; high = λ h. omega arith }
+lowest-number false false true d e = record { low = omega arith; high = λ h. omega arith }
+lowest-number false false false true e = record { low = omega arith; high = λ h. omega arith }
+lowest-number false false false false true = record { low = omega arith; high = λ h. omega arith }
+lowest-number false false false false false = record { low = omega arith; high = λ h. omega arith }
+
+next-refusal : (f i : ℕ) (next : Refusal) → RecordNumber f → FileRefusal next → FileRefusal (orNext f i next)
+next-refusal zero i next h l = l
+next-refusal (suc f) i next h l = record { number = h .low; no-record = λ e. absurd (let z : ⊥ = omega (arith, e, h .high (omega arith)) in z) }
+
+at-number : (bs : List ℕ) (i : ℕ) → RecordNumber (faultAt bs i)
 unfolding faultAt faultBy
-at-low bs i =
-    lowest-low (not (kindKnown (recordAt bs i))) (aboveRange (recordAt bs i)) (strayByte (recordAt bs i)) (not (exceeds bs i))
+at-number bs i =
+    lowest-number (not (kindKnown (recordAt bs i))) (aboveRange (recordAt bs i)) (strayByte (recordAt bs i)) (not (exceeds bs i))
     (overLimit (recordAt bs i) (countOf bs ruleKind i) (countOf bs transitionKind i))
 
-from-low : (bs : List ℕ) (m i : ℕ) → Low (faultFrom bs m i)
+from-refusal : (bs : List ℕ) (m i : ℕ) → FileRefusal (faultFrom bs m i)
 unfolding faultFrom
-from-low bs zero i = omega arith
-from-low bs (suc m) i = next-low (faultAt bs i) i (faultFrom bs m (suc i)) (at-low bs i) (from-low bs m (suc i))
+from-refusal bs zero i = record { number = omega arith; no-record = λ e. refl }
+from-refusal bs (suc m) i = next-refusal (faultAt bs i) i (faultFrom bs m (suc i)) (at-number bs i) (from-refusal bs m (suc i))
 
-either-low : (b : Bool) (x y : Refusal) → Low x → Low y → Low (cond b x y)
-either-low true x y l m = l
-either-low false x y l m = m
+either-refusal : (b : Bool) (x y : Refusal) → FileRefusal x → FileRefusal y → FileRefusal (cond b x y)
+either-refusal true x y l m = l
+either-refusal false x y l m = m
 
-fault-low : (bs : List ℕ) → Low (fault bs)
+pub file-refusal : (bs : List ℕ) → FileRefusal (fault bs)
 unfolding fault
-fault-low bs =
-    either-low (not (eqb (length bs % 8) 0)) (refuse 1 0) (cond (ltb recordLimit (recordCount bs)) (refuse 2 0) (faultFrom bs (recordCount bs) 0)) (omega arith)
-    (either-low (ltb recordLimit (recordCount bs)) (refuse 2 0) (faultFrom bs (recordCount bs) 0) (omega arith) (from-low bs (recordCount bs) 0))
+file-refusal bs =
+    either-refusal (not (eqb (length bs % 8) 0)) (refuse 1 0) (cond (ltb recordLimit (recordCount bs)) (refuse 2 0) (faultFrom bs (recordCount bs) 0)) (record { number = omega arith; no-record = λ e. refl })
+    (either-refusal (ltb recordLimit (recordCount bs)) (refuse 2 0) (faultFrom bs (recordCount bs) 0) (record { number = omega arith; no-record = λ e. refl }) (from-refusal bs (recordCount bs) 0))
 
 -- ---- a reply
 
-number-low : (b : Bool) (f : ℕ) → f ≤ 11 → cond b f 0 ≤ 11
+-- the number of a refusal is no answer's
+abbrev pub Low : Refusal → Type 0
+Low x = x .number < firstAnswerCode
+
+pub low-high : {n : ℕ} → n < firstAnswerCode → firstAnswerCode ≤ n → ⊥
+low-high l h = omega (arith, l, h)
+
+fault-low : (bs : List ℕ) → Low (fault bs)
+fault-low bs = omega (arith, file-refusal bs .number)
+
+number-low : (b : Bool) (f : ℕ) → f < firstAnswerCode → cond b f 0 < firstAnswerCode
 number-low true f h = h
 number-low false f h = omega arith
 

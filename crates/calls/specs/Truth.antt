@@ -195,8 +195,3 @@ stable bs J B J′ B′ j b f s = check-mono (base states (automatonOf bs)) (rul
     firm broken f s = tt
     firm full f s = f refl
     firm spent f s = s refl
-
--- and the shown word with it
-pub same-shown : (bs : List ℕ) (J B J′ B′ : ℕ) → J ≤ J′ → B ≤ B′ → (orderOn bs J B .verdict ≡ full → ⊥) → (orderOn bs J B .verdict ≡ spent → ⊥)
-    → shown bs (orderOn bs J′ B′) ≡ shown bs (orderOn bs J B)
-same-shown bs J B J′ B′ j b f s = ap (shown bs) (stable bs J B J′ B′ j b f s)

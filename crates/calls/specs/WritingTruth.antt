@@ -10,7 +10,7 @@ use native.Mathlib.Omega.{arith}
 use lib.Dec.{eqb, leb, ltb}
 use lib.ListN.{length, getD, drop, length-append, length-drop}
 use lib.Seq.{take-at}
-use borrow.Author.Tests.{eqb-true, ltb-true, ltb-false, lt-ltb, le-ltb, le-leb, lt-leb}
+use borrow.Author.Tests.{eqb-true, leb-true, leb-false, ltb-true, ltb-false, lt-ltb, le-ltb}
 use Rattle.basics.specs.Lists.{getD-in}
 use Rattle.basics.specs.Tests.{and-intro, and-fst, and-snd, or-left, or-right, or-neither, not-fails}
 use Rattle.relation.specs.Relation.{states}
@@ -130,6 +130,19 @@ unfolding rowsFit
 all-fit M rows rules zero f = refl
 all-fit M rows rules (suc m) f = and-intro (rowsFit M rows rules m) (rowFits M rows rules m) (all-fit M rows rules m (λ i l. f i (omega arith))) (f m (omega arith))
 
+-- 10 refuses a word by its length and the room
+pub room-cases : (w : List ℕ) (room : ℕ)
+    → ((roomFault w room ≡ 0) × (length w < longWord) × (length w ≤ room)) ⊎ ((roomFault w room ≡ 10) × ((longWord ≤ length w) ⊎ (room < length w)))
+unfolding roomFault
+room-cases w room = by (leb longWord (length w)) (ltb room (length w)) refl refl
+  where
+    by : (a b : Bool) → leb longWord (length w) ≡ a → ltb room (length w) ≡ b
+        → ((_≡_ {A = ℕ} (cond (leb longWord (length w) || ltb room (length w)) 10 0) 0) × (length w < longWord) × (length w ≤ room))
+        ⊎ ((_≡_ {A = ℕ} (cond (leb longWord (length w) || ltb room (length w)) 10 0) 10) × ((longWord ≤ length w) ⊎ (room < length w)))
+    by true b p q = inr (rw p, inl (leb-true longWord (length w) p))
+    by false true p q = inr (rw (p, q), inr (ltb-true room (length w) q))
+    by false false p q = inl (rw (p, q), leb-false longWord (length w) p, ltb-false room (length w) q)
+
 -- rows are the journal before the check
 module _ (bs : List ℕ) (v : fault bs .number ≡ 0) (rows : List (Row ℕ)) (eight : journalFault (length rows) ≡ 0) (B : ℕ)
     (counts : Counts bs (length rows) B (orderOn bs (length rows) B)) (e : orderOn bs (length rows) B .verdict ≡ broken) where
@@ -180,23 +193,25 @@ module _ (bs : List ℕ) (v : fault bs .number ≡ 0) (rows : List (Row ℕ)) (e
   ten-left room = rw (v, as-long, eight, nine, word-shown)
 
   -- and refuses by its bounds
-  room-for : (w : List ℕ) (room : ℕ) → length w < longWord → length w ≤ room → roomFault w room ≡ 0
-  unfolding roomFault
-  room-for w room l r = ap₂ (λ (x y : Bool). cond (x || y) 10 0) (lt-leb longWord (length w) l) (le-ltb room (length w) r)
-
-  no-room : (w : List ℕ) (room : ℕ) → (longWord ≤ length w) ⊎ (room < length w) → roomFault w room ≡ 10
-  unfolding roomFault
-  no-room w room o = ap (λ (b : Bool). cond b 10 0) (by o)
-    where
-      by : (longWord ≤ length w) ⊎ (room < length w) → (leb longWord (length w) || ltb room (length w)) ≡ true
-      by (inl l) = or-left (leb longWord (length w)) (ltb room (length w)) (le-leb longWord (length w) l)
-      by (inr l) = or-right (leb longWord (length w)) (ltb room (length w)) (lt-ltb room (length w) l)
-
   answers : (room : ℕ) → length (shown bs a) < longWord → length (shown bs a) ≤ room → writeOf bs after (a .used) (a .row) room ≡ answered (length (shown bs a))
-  answers room l r = ten-left room ∙ ap (λ (f : ℕ). unless (refuse f 0) (answered (length (shown bs a)))) (room-for (shown bs a) room l r)
+  answers room l r = ten-left room ∙ by (room-cases (shown bs a) room)
+    where
+      by : ((roomFault (shown bs a) room ≡ 0) × (length (shown bs a) < longWord) × (length (shown bs a) ≤ room))
+          ⊎ ((roomFault (shown bs a) room ≡ 10) × ((longWord ≤ length (shown bs a)) ⊎ (room < length (shown bs a))))
+          → unless (refuse (roomFault (shown bs a) room) 0) (answered (length (shown bs a))) ≡ answered (length (shown bs a))
+      by (inl x) = ap (λ (f : ℕ). unless (refuse f 0) (answered (length (shown bs a)))) (x .0)
+      by (inr (f, inl x)) = absurd (omega arith)
+      by (inr (f, inr x)) = absurd (omega arith)
 
   refuses : (room : ℕ) → (longWord ≤ length (shown bs a)) ⊎ (room < length (shown bs a)) → writeOf bs after (a .used) (a .row) room ≡ refused (refuse 10 0)
-  refuses room o = ten-left room ∙ ap (λ (f : ℕ). unless (refuse f 0) (answered (length (shown bs a)))) (no-room (shown bs a) room o)
+  refuses room o = ten-left room ∙ by (room-cases (shown bs a) room) o
+    where
+      by : ((roomFault (shown bs a) room ≡ 0) × (length (shown bs a) < longWord) × (length (shown bs a) ≤ room))
+          ⊎ ((roomFault (shown bs a) room ≡ 10) × ((longWord ≤ length (shown bs a)) ⊎ (room < length (shown bs a))))
+          → (longWord ≤ length (shown bs a)) ⊎ (room < length (shown bs a)) → unless (refuse (roomFault (shown bs a) room) 0) (answered (length (shown bs a))) ≡ refused (refuse 10 0)
+      by (inr x) o = ap (λ (f : ℕ). unless (refuse f 0) (answered (length (shown bs a)))) (x .0)
+      by (inl (f, l, r)) (inl x) = absurd (omega arith)
+      by (inl (f, l, r)) (inr x) = absurd (omega arith)
 
   pub writes-shown : (old : List ℕ) → WritesShown bs B a rows old
   unfolding bufferAfter

@@ -1,6 +1,9 @@
 // What each public call answers, as definitions on a file's bytes, and the theorems about them: see specs/. And the type that the calls
 // share: a row of the lent journal.
 use relation::Relation;
+ghost use mathlib.Core.Path.{_≡_};
+ghost use Prim.Native.Nat.{_+_};
+ghost use Rattle.working_order.specs.Journal.{capped};
 
 // A kept effect. Pointers are 65,535 where the symbol is a terminal or absent, and so is a length of that or more; a live row is retired in
 // pass 0.
@@ -13,4 +16,16 @@ pub struct Row {
     pub len: u64,
     pub birth: u64,
     pub retired: u64,
+}
+
+// The sum of two lengths, where 65,535 means that or more.
+pub fn capped_sum(a: u64, b: u64) -> u64
+    ensures { λ r. ⌜ r ≡ capped (a + b) ⌝ }
+{
+    if a < 65535 {
+        if b < 65535 - a {
+            return a + b;
+        }
+    }
+    65535
 }

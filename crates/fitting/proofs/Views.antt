@@ -3,6 +3,7 @@ use mathlib.Core.Path.{_≡_, sym, ap, ap₂, _∙_}
 use mathlib.Core.Bool.{Bool, false, _&&_}
 use mathlib.Core.List.{List, [], map}
 use Prim.Native.Nat.{ℕ, _+_, _≤_, _<_}
+use native.Mathlib.Nat.{add-zero}
 use lib.Dec.{eqb, ltb}
 use lib.ListN.{length, getD, length-map, List·getD-map}
 use borrow.Author.Tests.{eq-eqb, ne-eqb, lt-ltb, le-ltb}
@@ -14,10 +15,10 @@ use Rattle.fitting.specs.ByValue.{pointerBy, lengthBy, bodyBy, rowBy}
 
 -- a body of one symbol, and of two, where the tests and lengths of its symbols are at hand
 module _ (i n a b : ℕ) (r x y : Row ℕ) (f : Bool) (k : ℕ) (p : f ≡ pointerBy i (symbolOf a) (r .left) x) (q : k ≡ lengthBy (symbolOf a) x) (z : n ≡ 0 → ⊥) where
-  pub fits-one : n ≡ 1 → ((f && eqb (r .right) absent) && eqb (r .len) k) ≡ bodyBy i (bodyOf n a b) r x y
+  pub fits-one : (m : ℕ) → m ≡ capped (k + 0) → n ≡ 1 → ((f && eqb (r .right) absent) && eqb (r .len) m) ≡ bodyBy i (bodyOf n a b) r x y
   unfolding bodyBy
-  fits-one o =
-      ap₂ (λ (f : Bool) (k : ℕ). (f && eqb (r .right) absent) && eqb (r .len) k) p q
+  fits-one m e o =
+      ap₂ (λ (f : Bool) (m : ℕ). (f && eqb (r .right) absent) && eqb (r .len) m) p (e ∙ ap capped (add-zero k ∙ q))
       ∙ sym (ap₂ (λ (u v : Bool). bodyBy i (bodyWhere u v a b) r x y) (ne-eqb n 0 z) (eq-eqb n 1 o))
 
   pub fits-two : (g : Bool) (j m : ℕ) → g ≡ pointerBy i (symbolOf b) (r .right) y → j ≡ lengthBy (symbolOf b) y → m ≡ capped (k + j) → (n ≡ 1 → ⊥)

@@ -24,7 +24,7 @@ lengthBy (nonterminal h) x = x .len
 -- row i is r, and its pointers name x and y
 unfoldable pub bodyBy : ℕ → Body → Row ℕ → Row ℕ → Row ℕ → Bool
 bodyBy i empty r x y = (eqb (r .left) absent && eqb (r .right) absent) && eqb (r .len) 0
-bodyBy i (one s) r x y = (pointerBy i s (r .left) x && eqb (r .right) absent) && eqb (r .len) (lengthBy s x)
+bodyBy i (one s) r x y = (pointerBy i s (r .left) x && eqb (r .right) absent) && eqb (r .len) (capped (lengthBy s x))
 bodyBy i (two s t) r x y = (pointerBy i s (r .left) x && pointerBy i t (r .right) y) && eqb (r .len) (capped (lengthBy s x + lengthBy t y))
 
 unfoldable pub rowBy : List Rule → ℕ → Row ℕ → Row ℕ → Row ℕ → Bool

@@ -66,10 +66,10 @@ module _ (rows : List (Row ℕ)) (i : ℕ) where
     body-same empty = refl
     body-same (one s) =
         let a = pointerFits noForms rows i s (r .left) in
-        ap (λ (f : Bool). (f && eqb (r .right) absent) && eqb (r .len) (lengthBy s x)) (pointer-same rows i (r .left) s)
-        ∙ assoc a (eqb (r .right) absent) (eqb (r .len) (lengthBy s x))
-        ∙ length-same rows i (r .left) s (λ k. eqb (r .right) absent && eqb (r .len) k)
-        ∙ sym (assoc a (eqb (r .right) absent) (eqb (r .len) (symbolLen noForms rows s (r .left))))
+        ap (λ (f : Bool). (f && eqb (r .right) absent) && eqb (r .len) (capped (lengthBy s x))) (pointer-same rows i (r .left) s)
+        ∙ assoc a (eqb (r .right) absent) (eqb (r .len) (capped (lengthBy s x)))
+        ∙ length-same rows i (r .left) s (λ k. eqb (r .right) absent && eqb (r .len) (capped k))
+        ∙ sym (assoc a (eqb (r .right) absent) (eqb (r .len) (capped (symbolLen noForms rows s (r .left)))))
     body-same (two s t) =
         let a = pointerFits noForms rows i s (r .left) in
         let b = pointerFits noForms rows i t (r .right) in

@@ -5,26 +5,13 @@ ghost use mathlib.Core.Bool.{_&&_};
 ghost use mathlib.Core.Path.{_≡_};
 ghost use lib.Dec.{eqb};
 ghost use mathlib.Core.List.{map};
-ghost use Prim.Native.Nat.{_+_, _≤_};
+ghost use Prim.Native.Nat.{_≤_};
 ghost use lib.ListN.{length};
 ghost use Rattle.plan_file.specs.Views.{symbolOf};
-ghost use Rattle.working_order.specs.Journal.{capped};
 ghost use Rattle.working_order.specs.Fitting.{rowsFit};
 ghost use Rattle.calls.specs.Rows.{rowOf, entryOf};
 ghost use Rattle.fitting.specs.Forms.{noForms};
 ghost use Rattle.fitting.specs.ByValue.{lowerOf, pointerBy, lengthBy, bodyBy, rowBy, lastLen};
-
-// The sum, where 65,535 means that or more.
-fn capped_sum(a: u64, b: u64) -> u64
-    ensures { λ r. ⌜ r ≡ capped (a + b) ⌝ }
-{
-    if a < 65535 {
-        if b < 65535 - a {
-            return a + b;
-        }
-    }
-    65535
-}
 
 // The row that the pointer of row i names, where it is lower, else row i.
 fn lower(pointer: u64, i: usize) -> usize
@@ -73,12 +60,12 @@ fn body_fits(i: usize, rule: [u8; 4], row: Row, left: Row, right: Row) -> bool
     let first = pointer_fits(i, a, row.left, left);
     let n = symbol_length(a, left);
     if symbols == 1 {
-        return (first & (row.right == 65535)) & (row.len == n);
+        return (first & (row.right == 65535)) & (row.len == calls::capped_sum(n, 0));
     }
     let b = rule[3];
     let second = pointer_fits(i, b, row.right, right);
     let m = symbol_length(b, right);
-    (first & second) & (row.len == capped_sum(n, m))
+    (first & second) & (row.len == calls::capped_sum(n, m))
 }
 
 // The rule's head is the nonterminal.

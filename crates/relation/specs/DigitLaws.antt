@@ -5,11 +5,10 @@ use mathlib.Core.Bool.{Bool, true, false, _&&_, _||_, false≢true}
 use Prim.Native.Nat.{ℕ, zero, suc, _+_, _-_, _*_, _/_, _%_, _^_, _<_, zero-le, suc-le-suc, min, max}
 use native.Mathlib.Nat.{le-refl, le-of-suc-le-suc, not-suc-le-zero, zero-lt-suc, mod-lt, pow-suc, eq-or-lt-of-le, mul-add-mod-self-right, mul-comm, lt-of-le-of-lt, le-of-lt, add-zero, zero-mul, one-mul, div-eq-of-lt}
 use native.Mathlib.Omega.{arith}
-use native.Mathlib.Numerals.{add-one}
 use lib.Dec.{eqb, ltb}
 use lib.Arith.{digits-lt, lt-one, lt-of-le-ne}
 use lib.Pow.{pow-pos, pow-lt, shr-shr, high, low, field, mod-mod-pow, recompose}
-use lib.Bits.{bitAnd, bitOr, and-shr, and-step, or-shr, or-step, and-le-l, and-self, and-comm}
+use lib.Bits.{bitAnd, bitOr, and-shr, and-step, or-shr, or-step, and-le-l, and-self}
 use borrow.Author.Tests.{eqb-true, eqb-false, eq-eqb, ltb-true, ltb-false}
 use Rattle.basics.specs.Tests.{or-left, or-right}
 use Rattle.relation.specs.Digits.{bit, digit, number, some, subset}
@@ -188,10 +187,6 @@ below-power (suc x) = let l = below-power x in omega (arith, pow-lt (le-refl (su
 pub subset-trans : (x y z : ℕ) → subset x y ≡ true → subset y z ≡ true → subset x z ≡ true
 subset-trans x y z p q = bit-subset x x z (below-power x) (λ k l h. subset-bit y z q k (subset-bit x y p k h))
 
-pub subset-antisym : (x y : ℕ) → subset x y ≡ true → subset y x ≡ true → x ≡ y
-unfolding subset
-subset-antisym x y p q = sym (eqb-true (bitAnd x y) x p) ∙ and-comm x y ∙ eqb-true (bitAnd y x) y q
-
 -- ---- some number below m
 
 pub some-at : (m : ℕ) (f : ℕ → Bool) (k : ℕ) → k < m → f k ≡ true → some m f ≡ true
@@ -219,9 +214,3 @@ unfolding some
 some-same zero f g h = refl
 some-same (suc m) f g h =
     ap₂ (λ (a b : Bool). a || b) (h m (le-refl (suc m))) (some-same m f g (λ k l. h k (le-of-lt (suc-le-suc l))))
-
--- ---- a loop that goes up and looks for a number
-
-pub number-next : (m : ℕ) (f : ℕ → Bool) → number (m + 1) f ≡ digit (f m) * 2 ^ m + number m f
-unfolding number
-number-next m f = ap (λ (x : ℕ). number x f) (add-one m)

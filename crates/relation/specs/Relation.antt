@@ -41,6 +41,10 @@ insert n r a b = table n (λ x y. has n r x y || (eqb x a && eqb y b))
 unfoldable pub pairs : ℕ → ℕ → ℕ
 pairs n r = count (n * n) (bit r)
 
+-- a small number of the relation, where a table is to be looked up: the remainder by a prime, so that unlike relations seldom share one
+abbrev pub digest : ℕ → ℕ
+digest r = r % 32749
+
 -- no pair (0, f) with f final (document 000, section 3: rejecting)
 unfoldable pub rejects : ℕ → (ℕ → Bool) → ℕ → Bool
 rejects n final r = not (some n (λ f. final f && has n r 0 f))

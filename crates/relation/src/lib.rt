@@ -1,9 +1,8 @@
 // Relations on the states of an automaton as one word: the pair (a, b) is bit a * 8 + b.
 ghost use mathlib.Core.Path.{_≡_};
-ghost use Prim.Native.Nat.{_<_};
 ghost use lib.Dec.{eqb};
 ghost use Rattle.relation.specs.Digits.{bit};
-ghost use Rattle.relation.specs.Relation.{states, identity, compose, contained, single, insert, pairs, rejects};
+ghost use Rattle.relation.specs.Relation.{states, identity, compose, contained, single, insert, pairs, digest, rejects};
 ghost use Rattle.relation.specs.Representation.{value};
 
 const STATES: u32 = 8;
@@ -104,7 +103,7 @@ impl Relation {
 
     // A small number of the relation: equal relations have the same, and others seldom do.
     pub fn digest(self) -> usize
-        ensures { λ r. ⌜ r < 32749 ⌝ }
+        ensures { λ r. ⌜ r ≡ digest (value self) ⌝ }
     {
         (self.bits % DIGESTS) as usize
     }

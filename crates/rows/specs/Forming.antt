@@ -1,8 +1,8 @@
 -- A candidate formed at one place of a pass, from the rule and the two rows of that place. Definitions only. Assumes nothing.
 use mathlib.Core.Bool.{Bool, _&&_}
 use mathlib.Core.List.{List}
-use Prim.Native.Nat.{ℕ}
-use Rattle.relation.specs.Relation.{contained}
+use Prim.Native.Nat.{ℕ, _+_, _*_}
+use Rattle.relation.specs.Relation.{contained, digest}
 use Rattle.relation.specs.Representation.{value}
 use Rattle.language.specs.Grammar.{Symbol, terminal, nonterminal, Body, empty, one, two, Rule}
 use Rattle.working_order.specs.Candidates.{sole}
@@ -19,6 +19,10 @@ isBelow c r = liveOf (c .head) r && contained (r .effect) (c .effect)
 abbrev pub retiredIn : ℕ → Row → Row
 retiredIn k r =
     record { head = r .head; rule = r .rule; effect = r .effect; left = r .left; right = r .right; len = r .len; birth = r .birth; retired = k }
+
+-- where the row is noted that covered a candidate of this nonterminal and relation: a number below 36,864
+abbrev pub slotOf : Candidate → ℕ
+slotOf c = digest (c .effect) + 16 * c .head
 
 -- row i as a choice
 abbrev pub rowChoice : ℕ → Row → Choice

@@ -3,19 +3,18 @@
 use calls::Row;
 use relation::Relation;
 ghost use mathlib.Core.Path.{_≡_};
-ghost use Prim.Native.Nat.{_+_, _≤_, _<_};
+ghost use Prim.Native.Nat.{_≤_};
 ghost use lib.ListN.{length};
 ghost use Rattle.relation.specs.Relation.{contained};
 ghost use Rattle.plan_file.specs.Views.{symbolOf};
 ghost use Rattle.working_order.specs.Candidates.{sole};
-ghost use Rattle.working_order.specs.Journal.{capped};
 ghost use Rattle.working_order.specs.Order.{larger, born};
 ghost use Rattle.calls.specs.Rows.{rowOf, entryOf};
 ghost use Rattle.rows.specs.Base.{emptyBody, joined, breaking};
 ghost use Rattle.rows.specs.Meanings.{candidateOf, choiceOf};
-ghost use Rattle.rows.specs.Forming.{isBelow, retiredIn, symbolChoice, formedBy};
+ghost use Rattle.rows.specs.Forming.{isBelow, retiredIn, slotOf, symbolChoice, formedBy};
 
-// A pointer that names no row, and the length that means this or more.
+// A pointer that names no row.
 const ABSENT: u64 = 65535;
 
 const TERMINALS: u8 = 128;
@@ -114,9 +113,9 @@ pub fn breaks(finals: u8, candidate: Candidate) -> bool
     (candidate.head == 0) & formed.rejects(finals)
 }
 
-// Where to look first for a row with the candidate's relation.
+// Where the row that covered a candidate of this nonterminal and relation is noted.
 pub fn slot(candidate: Candidate) -> usize
-    ensures { λ r. ⌜ r < 36864 ⌝ }
+    ensures { λ r. ⌜ r ≡ slotOf (candidateOf candidate) ⌝ }
 {
     let formed = candidate.relation;
     formed.digest() + 16 * candidate.head as usize
@@ -144,18 +143,6 @@ fn taken(letters: &[u64], symbol: u8, i: usize, row: Row) -> Choice
         pointer: i as u64,
         len: row.len,
     }
-}
-
-// The sum, where 65,535 means that or more.
-fn cap_sum(a: u64, b: u64) -> u64
-    ensures { λ r. ⌜ r ≡ capped (a + b) ⌝ }
-{
-    if a < ABSENT {
-        if b < ABSENT - a {
-            return a + b;
-        }
-    }
-    ABSENT
 }
 
 fn empty_body(origin: Origin) -> Candidate
@@ -196,7 +183,7 @@ fn two_symbols(origin: Origin, first: Choice, second: Choice) -> Candidate
         relation: left.compose(right),
         left: first.pointer,
         right: second.pointer,
-        len: cap_sum(first.len, second.len),
+        len: calls::capped_sum(first.len, second.len),
     }
 }
 

@@ -7,7 +7,8 @@ ghost use Rattle.rows.specs.Meanings.{candidateOf};
 ghost use Rattle.retiring.specs.Clearing.{Settled};
 ghost use Rattle.verdicts.specs.Running.{MayFind, Found, MaySettle, Running, Ran};
 
-// The first row that covers the candidate, if there is one.
+// Looks for a live row that covers the candidate, until one is found or none is left: at the row of its nonterminal that covered last, at the
+// row that was noted for its relation, and then along the linked rows. Any that covers will do: the contract is whether there is one.
 fn find(journal: &[Row], table: &[u32], state: State, candidate: Candidate) -> Look
     requires { ⌜ MayFind state (now journal) (now table) ⌝ }
     ensures { λ r. ⌜ Found state candidate (now (journal .entry)) (now (table .entry)) r ⌝ }

@@ -1,7 +1,11 @@
--- The numbers of the verdicts, beside the refusals 1 to 11 of document 01. Definitions only. Assumes nothing.
+-- The numbers of the verdicts, above those of the refusals of document 01. Definitions only. Assumes nothing.
 use Prim.Native.Nat.{ℕ}
 use Rattle.working_order.specs.Order.{Verdict, holds, broken, full, spent}
 use Rattle.calls.specs.Replies.{Reply, refused, answered}
+
+-- numbers below this one refuse a call; answers have this one or a higher one
+abbrev pub firstAnswerCode : ℕ
+firstAnswerCode = 100
 
 abbrev pub holdsCode : ℕ
 holdsCode = 100

@@ -114,7 +114,7 @@ module _ {E W : Type 0} (S : Spelling E W) (M : Forms E) (rules : List Rule) (ro
       body-size : (b : Body) (e : E) (l r : ℕ) → PointersFit M rows i b l r → bodyLen M rows b l r ≡ capped (S .size (bodyWord S (wordsOf S rules rows) b e l r))
       unfolding bodyWord capped
       body-size empty e l r f = ap capped (sym (Z .of-nothing))
-      body-size (one s) e l r f = symbol-size s l f
+      body-size (one s) e l r f = omega (arith, symbol-size s l f)
       body-size (two s t) e l r f =
           let u = symbolWord S (wordsOf S rules rows) s l in
           let v = symbolWord S (wordsOf S rules rows) t r in

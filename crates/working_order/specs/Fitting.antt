@@ -21,7 +21,7 @@ module _ {E : Type 0} (M : Forms E) (rows : List (Row E)) where
   -- the pointers l and r, and the length n, which is the capped sum
   unfoldable pub bodyFits : ℕ → Body → ℕ → ℕ → ℕ → Bool
   bodyFits i empty l r n = (eqb l absent && eqb r absent) && eqb n 0
-  bodyFits i (one s) l r n = (pointerFits i s l && eqb r absent) && eqb n (symbolLen s l)
+  bodyFits i (one s) l r n = (pointerFits i s l && eqb r absent) && eqb n (capped (symbolLen s l))
   bodyFits i (two s t) l r n = (pointerFits i s l && pointerFits i t r) && eqb n (capped (symbolLen s l + symbolLen t r))
 
   -- the rule is there and belongs to the row's nonterminal

@@ -36,7 +36,7 @@ module _ {E : Type 0} (M : Forms E) (rows : List (Row E)) where
 
   abbrev pub bodyLen : Body → ℕ → ℕ → ℕ
   bodyLen empty l r = 0
-  bodyLen (one s) l r = symbolLen M rows s l
+  bodyLen (one s) l r = capped (symbolLen M rows s l)
   bodyLen (two s t) l r = capped (symbolLen M rows s l + symbolLen M rows t r)
 
   -- a nonterminal points to a lower row
@@ -47,7 +47,7 @@ module _ {E : Type 0} (M : Forms E) (rows : List (Row E)) where
   pointers-fit : (i : ℕ) (b : Body) (l r n : ℕ) → bodyFits M rows i b l r n ≡ true → PointersFit i b l r
   unfolding bodyFits
   pointers-fit i empty l r n f = tt
-  pointers-fit i (one s) l r n f = and-fst (pointerFits M rows i s l) (eqb r absent) (and-fst (pointerFits M rows i s l && eqb r absent) (eqb n (symbolLen M rows s l)) f)
+  pointers-fit i (one s) l r n f = and-fst (pointerFits M rows i s l) (eqb r absent) (and-fst (pointerFits M rows i s l && eqb r absent) (eqb n (capped (symbolLen M rows s l))) f)
   pointers-fit i (two s t) l r n f =
       let a = pointerFits M rows i s l in
       let b = pointerFits M rows i t r in
@@ -56,7 +56,7 @@ module _ {E : Type 0} (M : Forms E) (rows : List (Row E)) where
   length-fits : (i : ℕ) (b : Body) (l r n : ℕ) → bodyFits M rows i b l r n ≡ true → n ≡ bodyLen b l r
   unfolding bodyFits
   length-fits i empty l r n f = eqb-true n 0 (and-snd (eqb l absent && eqb r absent) (eqb n 0) f)
-  length-fits i (one s) l r n f = eqb-true n (symbolLen M rows s l) (and-snd (pointerFits M rows i s l && eqb r absent) (eqb n (symbolLen M rows s l)) f)
+  length-fits i (one s) l r n f = let m = capped (symbolLen M rows s l) in eqb-true n m (and-snd (pointerFits M rows i s l && eqb r absent) (eqb n m) f)
   length-fits i (two s t) l r n f =
       let m = capped (symbolLen M rows s l + symbolLen M rows t r) in eqb-true n m (and-snd (pointerFits M rows i s l && pointerFits M rows i t r) (eqb n m) f)
 
@@ -110,7 +110,7 @@ module _ {E : Type 0} (M N : Forms E) (rows : List (Row E)) where
   body-same : (i : ℕ) (b : Body) (l r n : ℕ) → bodyFits M rows i b l r n ≡ bodyFits N rows i b l r n
   unfolding bodyFits
   body-same i empty l r n = refl
-  body-same i (one s) l r n = ap₂ (λ (t : Bool) (m : ℕ). (t && eqb r absent) && eqb n m) (pointer-same i s l) (len-same s l)
+  body-same i (one s) l r n = ap₂ (λ (t : Bool) (m : ℕ). (t && eqb r absent) && eqb n (capped m)) (pointer-same i s l) (len-same s l)
   body-same i (two s t) l r n =
       ap₂ (λ (x y : Bool). (x && y) && eqb n (capped (symbolLen M rows s l + symbolLen M rows t r))) (pointer-same i s l) (pointer-same i t r)
       ∙ ap₂ (λ (x y : ℕ). (pointerFits N rows i s l && pointerFits N rows i t r) && eqb n (capped (x + y))) (len-same s l) (len-same t r)

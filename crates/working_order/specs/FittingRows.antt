@@ -80,11 +80,12 @@ module _ {E : Type 0} (A : Algebra E) where
     body-same empty l r n f = f
     body-same (one s) l r n f =
         let P = pointerFits M rows₀ i s l in
-        let h = and-fst (P && eqb r absent) (eqb n (symbolLen M rows₀ s l)) f in
+        let N = eqb n (capped (symbolLen M rows₀ s l)) in
+        let h = and-fst (P && eqb r absent) N f in
         let a = and-fst P (eqb r absent) h in
-        and-intro (pointerFits M rows i′ s l && eqb r absent) (eqb n (symbolLen M rows s l))
+        and-intro (pointerFits M rows i′ s l && eqb r absent) (eqb n (capped (symbolLen M rows s l)))
         (and-intro (pointerFits M rows i′ s l) (eqb r absent) (pointer-same s l a) (and-snd P (eqb r absent) h))
-        (ap (eqb n) (len-same s l a) ∙ and-snd (P && eqb r absent) (eqb n (symbolLen M rows₀ s l)) f)
+        (ap (λ (x : ℕ). eqb n (capped x)) (len-same s l a) ∙ and-snd (P && eqb r absent) N f)
     body-same (two s t) l r n f =
         let P = pointerFits M rows₀ i s l in
         let Q = pointerFits M rows₀ i t r in
@@ -95,6 +96,28 @@ module _ {E : Type 0} (A : Algebra E) where
         and-intro (pointerFits M rows i′ s l && pointerFits M rows i′ t r) (eqb n (capped (symbolLen M rows s l + symbolLen M rows t r)))
         (and-intro (pointerFits M rows i′ s l) (pointerFits M rows i′ t r) (pointer-same s l a) (pointer-same t r b))
         (ap₂ (λ (x y : ℕ). eqb n (capped (x + y))) (len-same s l a) (len-same t r b) ∙ and-snd (P && Q) N f)
+
+  -- ---- the length of a row that fits is at most 65,535
+
+  body-short : (rows : List (Row E)) (i : ℕ) (b : Body) (l r n : ℕ) → bodyFits M rows i b l r n ≡ true → capped n ≡ n
+  unfolding bodyFits capped
+  body-short rows i empty l r n f = let e = eqb-true n 0 (and-snd (eqb l absent && eqb r absent) (eqb n 0) f) in omega (arith, e)
+  body-short rows i (one s) l r n f =
+      let m = capped (symbolLen M rows s l) in
+      let e = eqb-true n m (and-snd (pointerFits M rows i s l && eqb r absent) (eqb n m) f) in
+      omega (arith, e)
+  body-short rows i (two s t) l r n f =
+      let m = capped (symbolLen M rows s l + symbolLen M rows t r) in
+      let e = eqb-true n m (and-snd (pointerFits M rows i s l && pointerFits M rows i t r) (eqb n m) f) in
+      omega (arith, e)
+
+  row-short : (rows : List (Row E)) (rules : List Rule) (i : ℕ) → rowFits M rows rules i ≡ true → capped (getD rows i none-row .len) ≡ getD rows i none-row .len
+  unfolding rowFits
+  row-short rows rules i f =
+      let r : Row E = getD rows i none-row in
+      let x = getD rules (r .rule) noRule in
+      let body = bodyFits M rows i (x .body) (r .left) (r .right) (r .len) in
+      body-short rows i (x .body) (r .left) (r .right) (r .len) (and-snd (ltb (r .rule) (length rules) && eqb (x .head) (r .head)) body f)
 
   -- ---- the candidates of a pass fit
 
@@ -120,47 +143,55 @@ module _ {E : Type 0} (A : Algebra E) where
     abbrev fitsBody : Body → Candidate E → Bool
     fitsBody b x = bodyFits M rows (length rows) b (x .left) (x .right) (x .len)
 
-    body-candidate-fits : (p r : ℕ) (b : Body) (c : Candidate E) → In c (bodyCandidates M rows p r b) → (c .head ≡ p) × (c .rule ≡ r) × (fitsBody b c ≡ true)
-    unfolding bodyCandidates bodyFits sole paired bare
-    body-candidate-fits p r empty c (inr m) = absurd m
-    body-candidate-fits p r empty c (inl e) = (ap (λ (x : Candidate E). x .head) e, ap (λ (x : Candidate E). x .rule) e, ap (fitsBody empty) e)
-    body-candidate-fits p r (one s) c m =
-        let t = map-in (sole p r) c (choices M rows s) m in
-        let a : Choice E = t .0 in
-        let f = choice-fits s a (t .1) in (
-          ap (λ (x : Candidate E). x .head) (t .2),
-          ap (λ (x : Candidate E). x .rule) (t .2),
-          ap (fitsBody (one s)) (t .2)
-              ∙ and-intro (pointerFits M rows (length rows) s (a .pointer) && eqb absent absent) (eqb (a .len) (symbolLen M rows s (a .pointer)))
-              (and-intro (pointerFits M rows (length rows) s (a .pointer)) (eqb absent absent) (f .0) refl) (eq-eqb (a .len) (symbolLen M rows s (a .pointer)) (f .1)),
-        )
-    body-candidate-fits p r (two s s′) c m =
-        let t = pairs-out A rows p r c (choices M rows s) (choices M rows s′) m in
-        let a : Choice E = t .0 in
-        let b : Choice E = t .1 in
-        let f = choice-fits s a (t .3) in
-        let g = choice-fits s′ b (t .4) in
-        let N = eqb (capped (a .len + b .len)) (capped (symbolLen M rows s (a .pointer) + symbolLen M rows s′ (b .pointer))) in
-        let P = pointerFits M rows (length rows) s (a .pointer) in
-        let Q = pointerFits M rows (length rows) s′ (b .pointer) in (
-          ap (λ (x : Candidate E). x .head) (t .6),
-          ap (λ (x : Candidate E). x .rule) (t .6),
-          ap (fitsBody (two s s′)) (t .6)
-              ∙ and-intro (P && Q) N (and-intro P Q (f .0) (g .0))
-              (eq-eqb (capped (a .len + b .len)) (capped (symbolLen M rows s (a .pointer) + symbolLen M rows s′ (b .pointer))) (ap₂ (λ (x y : ℕ). capped (x + y)) (f .1) (g .1))),
-        )
+    -- where the lengths of the rows are at most 65,535
+    module _ (short : (i : ℕ) → i < length rows → capped (getD rows i none-row .len) ≡ getD rows i none-row .len) where
+      symbol-short : (s : Symbol) (p : ℕ) → pointerFits M rows (length rows) s p ≡ true → capped (symbolLen M rows s p) ≡ symbolLen M rows s p
+      unfolding pointerFits symbolLen capped
+      symbol-short (terminal c) p f = refl
+      symbol-short (nonterminal q) p f = short p (ltb-true p (length rows) (and-fst (ltb p (length rows)) (eqb (getD rows p none-row .head) q) f))
 
-    candidate-fits : (c : Candidate E) → In c (passCandidates M rows 0 rules) → CandidateFits c
-    candidate-fits c m =
-        let t = passCandidates-out A rows c rules 0 m in
-        let f = body-candidate-fits (t .0 .head) (0 + t .1) (t .0 .body) c (t .4) in
-        let e : c .rule ≡ t .1 = f .1 ∙ zero-add (t .1) in
-        let x : getD rules (c .rule) noRule ≡ t .0 = ap (λ (z : ℕ). getD rules z noRule) e ∙ t .3 in
-        record {
-          rule-in = subst (λ (z : ℕ). z < length rules) (sym e) (t .5);
-          head-is = ap (λ (z : Rule). z .head) x ∙ sym (f .0);
-          body-fits = subst (λ (z : Rule). fitsBody (z .body) c ≡ true) (sym x) (f .2);
-        }
+      body-candidate-fits : (p r : ℕ) (b : Body) (c : Candidate E) → In c (bodyCandidates M rows p r b) → (c .head ≡ p) × (c .rule ≡ r) × (fitsBody b c ≡ true)
+      unfolding bodyCandidates bodyFits sole paired bare
+      body-candidate-fits p r empty c (inr m) = absurd m
+      body-candidate-fits p r empty c (inl e) = (ap (λ (x : Candidate E). x .head) e, ap (λ (x : Candidate E). x .rule) e, ap (fitsBody empty) e)
+      body-candidate-fits p r (one s) c m =
+          let t = map-in (sole p r) c (choices M rows s) m in
+          let a : Choice E = t .0 in
+          let f = choice-fits s a (t .1) in (
+            ap (λ (x : Candidate E). x .head) (t .2),
+            ap (λ (x : Candidate E). x .rule) (t .2),
+            ap (fitsBody (one s)) (t .2)
+                ∙ and-intro (pointerFits M rows (length rows) s (a .pointer) && eqb absent absent) (eqb (a .len) (capped (symbolLen M rows s (a .pointer))))
+                (and-intro (pointerFits M rows (length rows) s (a .pointer)) (eqb absent absent) (f .0) refl)
+                (eq-eqb (a .len) (capped (symbolLen M rows s (a .pointer))) (f .1 ∙ sym (symbol-short s (a .pointer) (f .0)))),
+          )
+      body-candidate-fits p r (two s s′) c m =
+          let t = pairs-out A rows p r c (choices M rows s) (choices M rows s′) m in
+          let a : Choice E = t .0 in
+          let b : Choice E = t .1 in
+          let f = choice-fits s a (t .3) in
+          let g = choice-fits s′ b (t .4) in
+          let N = eqb (capped (a .len + b .len)) (capped (symbolLen M rows s (a .pointer) + symbolLen M rows s′ (b .pointer))) in
+          let P = pointerFits M rows (length rows) s (a .pointer) in
+          let Q = pointerFits M rows (length rows) s′ (b .pointer) in (
+            ap (λ (x : Candidate E). x .head) (t .6),
+            ap (λ (x : Candidate E). x .rule) (t .6),
+            ap (fitsBody (two s s′)) (t .6)
+                ∙ and-intro (P && Q) N (and-intro P Q (f .0) (g .0))
+                (eq-eqb (capped (a .len + b .len)) (capped (symbolLen M rows s (a .pointer) + symbolLen M rows s′ (b .pointer))) (ap₂ (λ (x y : ℕ). capped (x + y)) (f .1) (g .1))),
+          )
+
+      candidate-fits : (c : Candidate E) → In c (passCandidates M rows 0 rules) → CandidateFits c
+      candidate-fits c m =
+          let t = passCandidates-out A rows c rules 0 m in
+          let f = body-candidate-fits (t .0 .head) (0 + t .1) (t .0 .body) c (t .4) in
+          let e : c .rule ≡ t .1 = f .1 ∙ zero-add (t .1) in
+          let x : getD rules (c .rule) noRule ≡ t .0 = ap (λ (z : ℕ). getD rules z noRule) e ∙ t .3 in
+          record {
+            rule-in = subst (λ (z : ℕ). z < length rules) (sym e) (t .5);
+            head-is = ap (λ (z : Rule). z .head) x ∙ sym (f .0);
+            body-fits = subst (λ (z : Rule). fitsBody (z .body) c ≡ true) (sym x) (f .2);
+          }
 
   -- ---- a journal that grows goes on fitting
 
@@ -211,6 +242,6 @@ module _ {E : Type 0} (A : Algebra E) where
     check-fits J B =
         journal-ind A rules J B AllFit (λ rows₀ rows. Keeps rows₀ rows × AllFit rows)
         (λ rows p. (keeps-refl rows, p))
-        (λ h rows₀ rows c m d p q. (keeps-trans rows₀ rows (added (A .below) (suc h) c rows) (q .0) (keeps-added (suc h) c rows), fit-added (suc h) c rows₀ rows (candidate-fits rules rows₀ c m) (q .0) (q .1)))
+        (λ h rows₀ rows c m d p q. (keeps-trans rows₀ rows (added (A .below) (suc h) c rows) (q .0) (keeps-added (suc h) c rows), fit-added (suc h) c rows₀ rows (candidate-fits rules rows₀ (λ i l. row-short rows₀ rules i (p i l)) c m) (q .0) (q .1)))
         (λ rows₀ rows q. q .1)
         (suc J) 0 (record { rows = []; joins = 0 }) (λ i h. absurd (not-suc-le-zero h))

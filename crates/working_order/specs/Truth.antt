@@ -160,27 +160,26 @@ module _ {E W : Type 0} (A : Algebra E) (L : Laws A) (S : Spelling E W) (Z : Siz
   unfolding passes answer onePass
   passes-say zero h s b = record { sound = sound-taller A S rules h (s .rows) (b .sound); verdict = tt }
   passes-say (suc f) h s b =
-      by (onePass A rules J B (suc h) s) (one-pass h s b) (walk-covers A J B (suc h) L (passCandidates (A .forms) (s .rows) 0 rules) s) (passes-say f (suc h))
+      by (onePass A rules J B (suc h) s) refl (one-pass h s b) (walk-covers A J B (suc h) L (passCandidates (A .forms) (s .rows) 0 rules) s) (passes-say f (suc h))
     where
-      fork : (t : Progress E) (x : Bool) → eqb (length (t .rows)) (length (s .rows)) ≡ x → During h (s .rows) t
+      fork : (t : Progress E) → onePass A rules J B (suc h) s ≡ going t → (x : Bool) → eqb (length (t .rows)) (length (s .rows)) ≡ x → During h (s .rows) t
           → Covers A (passCandidates (A .forms) (s .rows) 0 rules) s t
           → ((t : Progress E) → Between (suc h) (t .rows) → Says A S rules (passes A rules J B f (suc (suc h)) t))
           → Says A S rules (closeBy x (suc h) (passes A rules J B f (suc (suc h))) t)
-      fork t true e d v next =
+      fork t w true e d v next =
           let same : t .rows ≡ s .rows = d .same (eqb-true (length (t .rows)) (length (s .rows)) e) in
           record {
             sound = d .sound;
             verdict = (d .quiet, subst (λ (x : List (Row E)). Follows A rules (LiveIn x) (LiveIn (t .rows))) (sym same) (follows A (s .rows) rules (t .rows) (v .each)));
           }
-      fork t false e d v next =
-          next t (record { sound = d .sound; quiet = d .quiet; covers = higher A L rules h (LiveIn (s .rows)) (LiveIn (t .rows)) (b .covers) (follows A (s .rows) rules (t .rows) (v .each)) })
+      fork t w false e d v next = next t (after-pass h s t b w)
 
-      by : (r : Outcome E) → Post (During h (s .rows)) (End (suc h)) r
+      by : (r : Outcome E) → onePass A rules J B (suc h) s ≡ r → Post (During h (s .rows)) (End (suc h)) r
           → Post (Covers A (passCandidates (A .forms) (s .rows) 0 rules) s) (λ v i t. Unit {0}) r
           → ((t : Progress E) → Between (suc h) (t .rows) → Says A S rules (passes A rules J B f (suc (suc h)) t))
           → Says A S rules (close (suc h) (length (s .rows)) (passes A rules J B f (suc (suc h))) r)
-      by (stopped v i t) p q next = record { sound = p .0; verdict = p .1 }
-      by (going t) p q next = fork t (eqb (length (t .rows)) (length (s .rows))) refl p q next
+      by (stopped v i t) w p q next = record { sound = p .0; verdict = p .1 }
+      by (going t) w p q next = fork t w (eqb (length (t .rows)) (length (s .rows))) refl p q next
 
   -- the check's verdict is true, and its rows are sound
   pub check-says : Says A S rules (check A rules J B)

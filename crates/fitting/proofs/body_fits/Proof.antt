@@ -14,15 +14,16 @@ returns c = simp (eq-eqb _ _ (c .before .before .before .if1 .taken))
 
 returns-2 : tie.Need-returns-2
 returns-2 c =
-    let d = c .before .before .before .before .before .before in
-    let a = d .args in
-    fits-one (a .i) (getD (a .t2) 1 0) (getD (a .t2) 2 0) (getD (a .t2) 3 0) (rowOf (a .row)) (rowOf (a .left)) (rowOf (a .right)) _ _ (c .before .before .before .before .pointer-fits .ensures) (c .before .before .before .symbol-length .ensures) (c .before .before .before .before .before .if1 .left) (c .before .before .if2 .taken)
+    let at-tests = c .before .before .before in
+    let a = at-tests .before .before .before .before .args in
+    fits-one (a .i) (getD (a .t2) 1 0) (getD (a .t2) 2 0) (getD (a .t2) 3 0) (rowOf (a .row)) (rowOf (a .left)) (rowOf (a .right)) _ _ (at-tests .before .before .pointer-fits .ensures) (at-tests .before .symbol-length .ensures) (at-tests .before .before .before .if1 .left)
+    _ (c .before .capped-sum .ensures) (at-tests .if2 .taken)
 
 returns-3 : tie.Need-returns-3
 returns-3 c =
     let a = c .before .before .before .before .before .before .before .before .args in
     fits-two (a .i) (getD (a .t2) 1 0) (getD (a .t2) 2 0) (getD (a .t2) 3 0) (rowOf (a .row)) (rowOf (a .left)) (rowOf (a .right)) _ _ (c .before .before .before .before .before .before .pointer-fits .ensures) (c .before .before .before .before .before .symbol-length .ensures) (c .before .before .before .before .before .before .before .if1 .left)
-    _ _ _ (c .before .before .before .pointer-fits2 .ensures) (c .before .before .symbol-length2 .ensures) (c .before .capped-sum .ensures) (c .before .before .before .before .if2 .left)
+    _ _ _ (c .before .before .before .pointer-fits2 .ensures) (c .before .before .symbol-length2 .ensures) (c .before .capped-sum2 .ensures) (c .before .before .before .before .if2 .left)
 
 pub body-fits-spec : {M : Type 1} → statement M
 body-fits-spec =
@@ -31,6 +32,7 @@ body-fits-spec =
     (λ c. search needs)
     returns
     (λ c. search needs)
+    (λ c κs. search needs)
     (λ c κs. search needs)
     (λ c κs. search needs)
     returns-2

@@ -6,7 +6,7 @@ use Rattle.rows.proofs.two_symbols.Tie as tie
 
 returns : tie.Need-returns
 unfolding paired
-returns c = rw (c .before .compose .ensures, c .cap-sum .ensures)
+returns c = rw (c .before .compose .ensures, c .capped-sum .ensures)
 
 pub two-symbols-spec : {M : Type 1} → statement M
 two-symbols-spec = tie.close (tie.spec (λ c κs. search needs) (λ c κs. search needs) returns)

@@ -1,9 +1,9 @@
--- The sum, capped. Assumes nothing.
+-- `calls::capped_sum` meets its contract: below 65,535 the sum fits, and else 65,535 is less. Assumes nothing.
 use native.Mathlib.Omega.{arith}
 use borrow.Author.Needs.{needs}
 use Rattle.working_order.specs.Journal.{capped}
-use Rattle.fitting.proofs.capped_sum.Statement.{statement}
-use Rattle.fitting.proofs.capped_sum.Tie as tie
+use Rattle.calls.proofs.capped_sum.Statement.{statement}
+use Rattle.calls.proofs.capped_sum.Tie as tie
 
 returns : tie.Need-returns
 unfolding capped

@@ -1,0 +1,188 @@
+-- What the contract of a check says of each reply, a refusal or an answer: the number, the details and the buffer, as functions of the reply, of
+-- the file and of the buffer. The journal's size and the budget are not in them. Assumes nothing.
+use mathlib.Core.Path.{_≡_, refl, sym, ap, ap₂, _∙_, subst}
+use mathlib.Core.Logic.{_⊎_, inl, inr}
+use mathlib.Core.Bool.{Bool, true, false, _||_, cond}
+use mathlib.Core.List.{List, [], _∷_, _++_}
+use Prim.Native.Nat.{ℕ, zero, suc, _≤_, _<_}
+use native.Mathlib.Nat.{suc-ne-zero}
+use native.Mathlib.Omega.{arith}
+use lib.Dec.{eqb, ltb}
+use lib.ListN.{length, getD, drop, length-replicate, List·getD-append}
+use borrow.Author.Tests.{eqb-true, ltb-true, ne-eqb, eq-eqb, lt-ltb}
+use Rattle.plan_file.specs.Refusals.{Refusal, refuse, fault}
+use Rattle.working_order.specs.Journal.{Row}
+use Rattle.working_order.specs.Order.{Answer, Verdict, holds, broken, full, spent}
+use Rattle.calls.specs.Checking.{journalLimit, journalFault, orderOn, checkOf, keptBy, journalAfter, shown}
+use Rattle.calls.specs.Promising.{from-order, promises}
+use Rattle.calls.specs.Replies.{Reply, refused, answered, unless, unlessBy}
+use Rattle.calls.specs.DemandThree.{WritesShown}
+use Rattle.calls.specs.Writing.{longWord, roomFault, writeOf, writtenBy, bufferAfter}
+use Rattle.calls.specs.WritingTruth.{room-cases}
+use Rattle.telling.specs.Codes.{firstAnswerCode, verdictCode, codeBy}
+use Rattle.standalone.specs.Told.{zeroRow, answerCode, rowIn, lastThree, detailsOf, shownBy, shownOf}
+use Rattle.bolfrega.specs.Contracts.{zeroRows, ChecksZeros}
+use Rattle.bolfrega.specs.LowNumbers.{LowIn, check-low}
+
+-- ---- an answer, told with no journal
+
+-- a row that breaks
+abbrev pub brokenRow : Answer ℕ → Row ℕ
+brokenRow a = getD (a .journal) (a .row) zeroRow
+
+module _ (bs old : List ℕ) (a : Answer ℕ) where
+  -- writing the shown word: 10 or its length
+  abbrev pub writing : Reply ℕ
+  writing = unless (refuse (roomFault (shown bs a) (length old)) 0) (answered (length (shown bs a)))
+
+  abbrev pub answerDetails : List ℕ
+  answerDetails = 0 ∷ a .joins ∷ a .used ∷ a .pass ∷ a .row ∷ lastThree (a .verdict) (brokenRow a) writing
+
+  abbrev pub answerBuffer : List ℕ
+  answerBuffer = shownBy (a .verdict) (writtenBy (shown bs a) old writing) old
+
+-- after a check over these rows the same is told of the journal
+module _ (bs old : List ℕ) (rows : List (Row ℕ)) (B : ℕ) (a : Answer ℕ) (e : checkOf bs (length rows) B ≡ answered a) where
+  abbrev after : List (Row ℕ)
+  after = journalAfter bs rows B
+
+  abbrev wrote : Reply ℕ
+  wrote = writeOf bs after (a .used) (a .row) (length old)
+
+  row-same : a .verdict ≡ broken → rowIn after (a .row) ≡ brokenRow a
+  unfolding journalAfter
+  row-same v =
+      let c = promises bs (length rows) B a e .counts in
+      ap (λ (xs : List (Row ℕ)). rowIn xs (a .row)) (ap (keptBy rows) e)
+      ∙ List·getD-append (a .journal) (drop (a .used) rows) zeroRow (a .row) (omega (arith, c .last-row v, c .used-rows))
+
+  -- the shown word is written, or 10 refuses it
+  shown-written : a .verdict ≡ broken → (wrote ≡ writing bs old a) × (bufferAfter bs after (a .used) (a .row) old ≡ writtenBy (shown bs a) old (writing bs old a))
+  shown-written v = by (promises bs (length rows) B a e .writes-shown v rows refl old) (room-cases (shown bs a) (length old))
+    where
+      w : List ℕ
+      w = shown bs a
+
+      by : WritesShown bs B a rows old → ((roomFault w (length old) ≡ 0) × (length w < longWord) × (length w ≤ length old)) ⊎ ((roomFault w (length old) ≡ 10) × ((longWord ≤ length w) ⊎ (length old < length w)))
+          → (wrote ≡ writing bs old a) × (bufferAfter bs after (a .used) (a .row) old ≡ writtenBy w old (writing bs old a))
+      by s (inl (f, l, r)) = (rw f (s .length-told l r), rw f (s .written l r))
+      by s (inr (f, o)) = (rw f (s .too-long o), rw f (s .untouched o))
+
+  three-same : (v : Verdict) → a .verdict ≡ v → lastThree v (rowIn after (a .row)) wrote ≡ lastThree v (brokenRow a) (writing bs old a)
+  three-same holds q = refl
+  three-same broken q = ap₂ (λ (x : Row ℕ) (w : Reply ℕ). lastThree broken x w) (row-same q) (shown-written q .0)
+  three-same full q = refl
+  three-same spent q = refl
+
+  pub details-same : detailsOf bs after (length old) (answered a) ≡ answerDetails bs old a
+  details-same = ap (λ (xs : List ℕ). 0 ∷ a .joins ∷ a .used ∷ a .pass ∷ a .row ∷ xs) (three-same (a .verdict) refl)
+
+  by-verdict : (v : Verdict) → a .verdict ≡ v → shownBy v (bufferAfter bs after (a .used) (a .row) old) old ≡ shownBy v (writtenBy (shown bs a) old (writing bs old a)) old
+  by-verdict holds q = refl
+  by-verdict broken q = shown-written q .1
+  by-verdict full q = refl
+  by-verdict spent q = refl
+
+  pub buffer-same : shownOf bs after old (answered a) ≡ answerBuffer bs old a
+  buffer-same = by-verdict (a .verdict) refl
+
+-- ---- why a call is refused
+
+-- the refusal y is x, or else that of the number g
+abbrev pub Why : Refusal → ℕ → Refusal → Type 0
+Why x g y = ((x .number ≡ 0 → ⊥) × (y ≡ x)) ⊎ ((x .number ≡ 0) × ((g ≡ 0 → ⊥) × (y ≡ refuse g 0)))
+
+-- a reply that x refuses, or else g, or else neither
+module _ {A : Type 0} (x : Refusal) (g : ℕ) (a : A) where
+  refused-same : (y z : Refusal) → _≡_ {A = Reply A} (refused y) (refused z) → z ≡ y
+  refused-same y z e = cc
+
+  answered-refused : (b : A) (y : Refusal) → answered b ≡ refused y → ⊥
+  answered-refused b y e = let z : _≡_ {A = ℕ} 0 1 = cc in omega (arith, z)
+
+  pub why : (y : Refusal) → unless x (unless (refuse g 0) (answered a)) ≡ refused y → Why x g y
+  why y e = by (x .number) refl e
+    where
+      next : (n : ℕ) → g ≡ n → x .number ≡ 0 → unlessBy n (refuse g 0) (answered a) ≡ refused y → Why x g y
+      next zero p z q = absurd (answered-refused a y q)
+      next (suc n) p z q = inr (z, (λ k. suc-ne-zero n (sym p ∙ k), refused-same (refuse g 0) y q))
+
+      by : (n : ℕ) → x .number ≡ n → unlessBy n x (unless (refuse g 0) (answered a)) ≡ refused y → Why x g y
+      by zero p q = next g refl p q
+      by (suc n) p q = inl (λ z. suc-ne-zero n (sym p ∙ z), refused-same x y q)
+
+  pub why-not : (b : A) → unless x (unless (refuse g 0) (answered a)) ≡ answered b → (x .number ≡ 0) × (g ≡ 0)
+  why-not b e = by (x .number) refl e
+    where
+      next : (n : ℕ) → g ≡ n → x .number ≡ 0 → unlessBy n (refuse g 0) (answered a) ≡ answered b → (x .number ≡ 0) × (g ≡ 0)
+      next zero p z q = (z, p)
+      next (suc n) p z q = absurd (answered-refused b (refuse g 0) (sym q))
+
+      by : (n : ℕ) → x .number ≡ n → unlessBy n x (unless (refuse g 0) (answered a)) ≡ answered b → (x .number ≡ 0) × (g ≡ 0)
+      by zero p q = next g refl p q
+      by (suc n) p q = absurd (answered-refused b x (sym q))
+
+-- 8: no row, or more than a journal may have
+abbrev pub RowsRefused : ℕ → Type 0
+RowsRefused n = (n ≡ 0) ⊎ (journalLimit < n)
+
+pub rows-refused : (n : ℕ) → (journalFault n ≡ 0 → ⊥) → RowsRefused n × (journalFault n ≡ 8)
+unfolding journalFault
+rows-refused n h = by (eqb n 0) (ltb journalLimit n) refl refl
+  where
+    by : (a b : Bool) → eqb n 0 ≡ a → ltb journalLimit n ≡ b → RowsRefused n × (_≡_ {A = ℕ} (cond (eqb n 0 || ltb journalLimit n) 8 0) 8)
+    by true b p q = (inl (eqb-true n 0 p), rw p)
+    by false true p q = (inr (ltb-true journalLimit n q), rw (p, q))
+    by false false p q = absurd (h (rw (p, q)))
+
+pub refused-rows : (n : ℕ) → RowsRefused n → journalFault n ≡ 0 → ⊥
+unfolding journalFault
+refused-rows n (inl z) e = suc-ne-zero 7 (sym (ap (λ (b : Bool). cond (b || ltb journalLimit n) 8 0) (eq-eqb n 0 z)) ∙ e)
+refused-rows n (inr l) e =
+    suc-ne-zero 7
+    (sym (ap₂ (λ (a b : Bool). cond (a || b) 8 0) (ne-eqb n 0 (λ z. omega arith)) (lt-ltb journalLimit n l)) ∙ e)
+
+pub why-refused : (bs : List ℕ) (J B : ℕ) (y : Refusal) → checkOf bs J B ≡ refused y → Why (fault bs) (journalFault J) y
+unfolding checkOf
+why-refused bs J B y e = why (fault bs) (journalFault J) (orderOn bs J B) y e
+
+-- ---- the reply to a check that met its contract
+
+module _ (bs : List ℕ) (J B : ℕ) (d old new : List ℕ) (r : ℕ) where
+  pub record ToldRefusal (y : Refusal) : Type 0 where
+    pub reply : checkOf bs J B ≡ refused y
+    pub low : r < firstAnswerCode
+    pub number : r ≡ y .number
+    pub details : d ≡ y .place ∷ 0 ∷ 0 ∷ 0 ∷ 0 ∷ 0 ∷ 0 ∷ 0 ∷ []
+    pub buffer : new ≡ old
+
+  pub record ToldAnswer (a : Answer ℕ) : Type 0 where
+    pub reply : checkOf bs J B ≡ answered a
+    pub number : r ≡ verdictCode (a .verdict)
+    pub details : d ≡ answerDetails bs old a
+    pub buffer : new ≡ answerBuffer bs old a
+
+  module _ (h : ChecksZeros bs J B d old new r) where
+    pub told-refusal : (y : Refusal) → checkOf bs J B ≡ refused y → ToldRefusal y
+    told-refusal y e =
+        let rows = journalAfter bs (zeroRows J) B in
+        let n = h .told .code ∙ ap (codeBy answerCode) e in
+        record {
+          reply = e;
+          low = subst (λ (k : ℕ). k < firstAnswerCode) (sym n) (subst LowIn e (check-low bs J B));
+          number = n;
+          details = h .told .details ∙ ap (detailsOf bs rows (length old)) e;
+          buffer = h .told .buffer ∙ ap (shownOf bs rows old) e;
+        }
+
+    pub told-answer : (a : Answer ℕ) → checkOf bs J B ≡ answered a → ToldAnswer a
+    unfolding zeroRows
+    told-answer a e =
+        let sized : checkOf bs (length (zeroRows J)) B ≡ answered a = ap (λ (n : ℕ). checkOf bs n B) (length-replicate J zeroRow) ∙ e in
+        let rows = journalAfter bs (zeroRows J) B in
+        record {
+          reply = e;
+          number = h .told .code ∙ ap (codeBy answerCode) e;
+          details = h .told .details ∙ ap (detailsOf bs rows (length old)) e ∙ details-same bs old (zeroRows J) B a sized;
+          buffer = h .told .buffer ∙ ap (shownOf bs rows old) e ∙ buffer-same bs old (zeroRows J) B a sized;
+        }

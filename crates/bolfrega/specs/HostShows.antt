@@ -1,0 +1,136 @@
+-- What a host may conclude of the run of a broken check (Shows), by what is told of the answer and what it promises. Assumes nothing.
+use mathlib.Core.Path.{_≡_, refl, sym, ap, _∙_, subst}
+use mathlib.Core.Logic.{_⊎_, inl, inr}
+use mathlib.Core.List.{List, [], _∷_}
+use Prim.Native.Nat.{ℕ, zero, suc, _≤_, _<_}
+use native.Mathlib.Nat.{suc-ne-zero}
+use native.Mathlib.Omega.{arith}
+use lib.ListN.{length, getD, take, drop}
+use lib.Seq.{take-at, drop-at}
+use Rattle.basics.specs.Lists.{getD-map}
+use Rattle.relation.specs.Relation.{states, pairs}
+use Rattle.language.specs.Grammar.{initial}
+use Rattle.language.specs.Spelling.{DerivesWithin}
+use Rattle.language.specs.WordRelation.{wordRelation}
+use Rattle.plan_file.specs.Refusals.{refuse}
+use Rattle.plan_file.specs.Views.{rulesOf, automatonOf}
+use Rattle.working_order.specs.Behind.{wordBehind}
+use Rattle.working_order.specs.Journal.{Row, noRow, capped}
+use Rattle.working_order.specs.Order.{Answer, Verdict, broken}
+use Rattle.calls.specs.Base.{base, words}
+use Rattle.calls.specs.Checking.{checkOf, shown}
+use Rattle.calls.specs.DemandThree.{Promises}
+use Rattle.calls.specs.JournalTruth.{row-true}
+use Rattle.calls.specs.Promising.{from-order}
+use Rattle.calls.specs.Replies.{answered, unless, unlessBy}
+use Rattle.calls.specs.Writing.{longWord, roomFault, writtenBy}
+use Rattle.calls.specs.WritingTruth.{room-cases}
+use Rattle.telling.specs.Telling.{refusedBy}
+use Rattle.standalone.specs.Told.{zeroRow, lastThree, shownBy}
+use Rattle.bolfrega.specs.Hosts.{toldPass, toldPairs, toldLength, toldRefused, InBuffer, Shows}
+use Rattle.bolfrega.specs.HostReplies.{brokenRow, writing, ToldAnswer}
+
+-- what is told of writing, by the number that refuses it
+refused-told : (f n : ℕ) → refusedBy (unless (refuse f 0) (answered n)) ≡ f
+refused-told zero n = refl
+refused-told (suc f) n = refl
+
+module _ (bs : List ℕ) (J B : ℕ) (a : Answer ℕ) (reply : checkOf bs J B ≡ answered a) (v : a .verdict ≡ broken) (p : Promises bs J B a) where
+  abbrev run : List ℕ
+  run = shown bs a
+
+  in-journal : a .row < length (a .journal)
+  in-journal = omega (arith, p .counts .last-row v, p .counts .used-rows)
+
+  -- a field of the row, whatever stands past the journal's end
+  field-same : (f : Row ℕ → ℕ) (x y : Row ℕ) → f (getD (a .journal) (a .row) x) ≡ f (getD (a .journal) (a .row) y)
+  field-same f x y = sym (getD-map f x 0 (a .journal) (a .row) in-journal) ∙ getD-map f y 0 (a .journal) (a .row) in-journal
+
+  row-length : brokenRow a .len ≡ capped (length run)
+  unfolding shown
+  row-length = field-same (λ x. x .len) zeroRow _ ∙ p .rows-mean (a .row) (omega (arith, p .counts .last-row v)) .length-is
+
+  row-relation : brokenRow a .effect ≡ wordRelation states (automatonOf bs .transitions) run
+  unfolding shown
+  row-relation =
+      let order = from-order bs J B a reply .2 in
+      let here = subst (λ (x : Answer ℕ). a .row < length (x .journal)) order in-journal in
+      let M = base states (automatonOf bs) .forms in
+      field-same (λ x. x .effect) zeroRow (noRow M)
+      ∙ ap (λ (x : Answer ℕ). getD (x .journal) (a .row) (noRow M) .effect) order
+      ∙ sym (row-true bs J B (a .row) here .relation-is)
+      ∙ ap (λ (x : Answer ℕ). wordRelation states (automatonOf bs .transitions) (wordBehind words (rulesOf bs) (x .journal) (a .row))) (sym order)
+
+  module _ (d old new : List ℕ) (r : ℕ) (t : ToldAnswer bs J B d old new r a) where
+    abbrev room : ℕ
+    room = length old
+
+    details-are : d ≡ 0 ∷ a .joins ∷ a .used ∷ a .pass ∷ a .row ∷ pairs states (brokenRow a .effect) ∷ brokenRow a .len ∷ refusedBy (writing bs old a) ∷ []
+    details-are = t .details ∙ ap (λ (x : Verdict). 0 ∷ a .joins ∷ a .used ∷ a .pass ∷ a .row ∷ lastThree x (brokenRow a) (writing bs old a)) v
+
+    buffer-is : new ≡ writtenBy run old (writing bs old a)
+    buffer-is = t .buffer ∙ ap (λ (x : Verdict). shownBy x (writtenBy run old (writing bs old a)) old) v
+
+    length-told : toldLength d ≡ capped (length run)
+    length-told = ap toldLength details-are ∙ row-length
+
+    refusal-told : toldRefused d ≡ roomFault run room
+    refusal-told = ap toldRefused details-are ∙ refused-told (roomFault run room) (length run)
+
+    buffer-by : (f : ℕ) → roomFault run room ≡ f → new ≡ writtenBy run old (unlessBy f (refuse f 0) (answered (length run)))
+    buffer-by f e = buffer-is ∙ ap (λ (x : ℕ). writtenBy run old (unlessBy x (refuse x 0) (answered (length run)))) e
+
+    in-buffer : InBuffer bs J B d old new r run
+    unfolding capped
+    in-buffer = by (room-cases run room)
+      where
+        by : ((roomFault run room ≡ 0) × (length run < longWord) × (length run ≤ room)) ⊎ ((roomFault run room ≡ 10) × ((longWord ≤ length run) ⊎ (room < length run)))
+            → InBuffer bs J B d old new r run
+        by (inl (f, short, fits)) =
+            let size : length run ≡ toldLength d = omega (arith, length-told, short) in
+            let new-is = buffer-by 0 f in
+            record {
+              written-or-not = inl (refusal-told ∙ f);
+              refused-exactly = (λ e. absurd (suc-ne-zero 9 (sym e ∙ refusal-told ∙ f)), λ x. absurd (no x));
+              refused-told = (λ e. absurd (suc-ne-zero 9 (sym e ∙ refusal-told ∙ f)), λ x. absurd (no-told x));
+              first-bytes = λ e. ap (take (toldLength d)) new-is ∙ take-at run (drop (length run) old) (toldLength d) size;
+              other-bytes = λ e. ap (drop (toldLength d)) new-is ∙ drop-at run (drop (length run) old) (toldLength d) size ∙ ap (λ (k : ℕ). drop k old) size;
+              buffer-kept = λ e. absurd (suc-ne-zero 9 (sym e ∙ refusal-told ∙ f));
+            }
+          where
+            no : (longWord ≤ length run) ⊎ (room < length run) → ⊥
+            no (inl x) = omega (arith, x, short)
+            no (inr x) = omega (arith, x, fits)
+
+            no-told : (toldLength d ≡ longWord) ⊎ (room < toldLength d) → ⊥
+            no-told (inl x) = omega (arith, x, short, length-told)
+            no-told (inr x) = omega (arith, x, fits, short, length-told)
+        by (inr (f, long)) =
+            record {
+              written-or-not = inr (refusal-told ∙ f);
+              refused-exactly = (λ e. long, λ x. refusal-told ∙ f);
+              refused-told = (λ e. told long, λ x. refusal-told ∙ f);
+              first-bytes = λ e. absurd (suc-ne-zero 9 (sym f ∙ sym refusal-told ∙ e));
+              other-bytes = λ e. absurd (suc-ne-zero 9 (sym f ∙ sym refusal-told ∙ e));
+              buffer-kept = λ e. buffer-by 10 f;
+            }
+          where
+            told : (longWord ≤ length run) ⊎ (room < length run) → (toldLength d ≡ longWord) ⊎ (room < toldLength d)
+            told (inl x) = inl (omega (arith, x, length-told))
+            told (inr x) = over (leb longWord (length run)) refl
+              where
+                over : (b : Bool) → leb longWord (length run) ≡ b → (toldLength d ≡ longWord) ⊎ (room < toldLength d)
+                over true q = let g = leb-true longWord (length run) q in inl (omega (arith, g, length-told))
+                over false q = let g = leb-false longWord (length run) q in inr (omega (arith, g, x, length-told))
+
+    pub run-shown : Shows bs J B d old new r run
+    run-shown =
+        let pass-is : toldPass d ≡ a .pass = ap toldPass details-are in
+        record {
+          counterexample = p .one-verdict .broken-shows v;
+          within = subst (λ (k : ℕ). DerivesWithin (rulesOf bs) k initial run) (sym pass-is) (p .least-height .shown-within v);
+          none-lower = λ h l. p .least-height .none-lower v h (subst (λ (k : ℕ). h < k) pass-is l);
+          pairs-are = ap toldPairs details-are ∙ ap (pairs states) row-relation;
+          length-is = length-told;
+          in-buffer = in-buffer;
+        }

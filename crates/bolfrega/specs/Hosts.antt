@@ -1,0 +1,160 @@
+-- What a host in C or Rust may conclude from what a call gave it: the number, the details and the buffer. HostTruth.antt proves each of these
+-- records of every call that met its contract, for every file, every number of rows and every budget. Definitions only. Assumes nothing.
+use mathlib.Core.Path.{_≡_}
+use mathlib.Core.Logic.{_↔_, _⊎_}
+use mathlib.Core.List.{List, [], _∷_, _++_}
+use Prim.Native.Nat.{ℕ, suc, _+_, _*_, _≤_, _<_}
+use lib.ListN.{length, getD, take, drop}
+use Rattle.relation.specs.Relation.{states, pairs}
+use Rattle.language.specs.Grammar.{initial}
+use Rattle.language.specs.Spelling.{DerivesWithin}
+use Rattle.language.specs.Automaton.{Accepts, TurnsAway}
+use Rattle.language.specs.WordRelation.{wordRelation}
+use Rattle.plan_file.specs.Refusals.{fault}
+use Rattle.plan_file.specs.Views.{rulesOf, automatonOf}
+use Rattle.working_order.specs.Stopping.{Stops}
+use Rattle.working_order.specs.Journal.{absent, capped}
+use Rattle.working_order.specs.Order.{Answer, Verdict, full, spent}
+use Rattle.calls.specs.Base.{base}
+use Rattle.calls.specs.Checking.{journalLimit, checkOf}
+use Rattle.calls.specs.DemandThree.{Derivable, Counterexample}
+use Rattle.calls.specs.Judging.{wordFault}
+use Rattle.calls.specs.Replies.{answered}
+use Rattle.calls.specs.Writing.{longWord}
+use Rattle.telling.specs.Codes.{firstAnswerCode, holdsCode, brokenCode, fullCode, spentCode}
+use Rattle.bolfrega.specs.Codes.{acceptedCode, turnedAwayCode}
+use Rattle.bolfrega.specs.Contracts.{Judges, ChecksZeros}
+
+-- ---- judging: the number r and the record i that bolfrega_judge gave for the run w
+
+pub record JudgeTells (bs w : List ℕ) (r i : ℕ) : Type 0 where
+  -- below 100 the call was refused: the file's refusal, or else 11
+  pub file-refused : (fault bs .number ≡ 0 → ⊥) → (r ≡ fault bs .number) × (i ≡ fault bs .place)
+  pub run-refused : fault bs .number ≡ 0 → (r < firstAnswerCode) ↔ (wordFault w ≡ 11)
+  pub run-number : fault bs .number ≡ 0 → r < firstAnswerCode → r ≡ 11
+  pub no-record : fault bs .number ≡ 0 → i ≡ 0
+  -- from 100 on it is 110 exactly when there is an accepting path, and 111 exactly when there is none
+  pub accepted-exactly : firstAnswerCode ≤ r → (r ≡ acceptedCode) ↔ Accepts (automatonOf bs) w
+  pub turned-away-exactly : firstAnswerCode ≤ r → (r ≡ turnedAwayCode) ↔ TurnsAway (automatonOf bs) w
+
+-- ---- the eight details of bolfrega_check, in the header's order
+
+abbrev pub toldRecord : List ℕ → ℕ
+toldRecord d = getD d 0 0
+
+abbrev pub toldJoins : List ℕ → ℕ
+toldJoins d = getD d 1 0
+
+abbrev pub toldUsed : List ℕ → ℕ
+toldUsed d = getD d 2 0
+
+abbrev pub toldPass : List ℕ → ℕ
+toldPass d = getD d 3 0
+
+abbrev pub toldRow : List ℕ → ℕ
+toldRow d = getD d 4 0
+
+abbrev pub toldPairs : List ℕ → ℕ
+toldPairs d = getD d 5 0
+
+abbrev pub toldLength : List ℕ → ℕ
+toldLength d = getD d 6 0
+
+abbrev pub toldRefused : List ℕ → ℕ
+toldRefused d = getD d 7 0
+
+-- ---- checking: the number r, the details d and the buffer, old before and new after, that bolfrega_check gave for J rows and a budget of B joins
+
+-- the number says whether the sheet accepts every run: it is no refusal, the rows have not run out, and the joins have not
+pub record Decided (r : ℕ) : Type 0 where
+  pub answers : firstAnswerCode ≤ r
+  pub not-full : r ≡ fullCode → ⊥
+  pub not-spent : r ≡ spentCode → ⊥
+
+module _ (bs : List ℕ) (J B : ℕ) (d old new : List ℕ) (r : ℕ) where
+  -- below 100 the call was refused: the file's refusal, or else 8 for the rows
+  pub record Refusing : Type 0 where
+    pub refused-exactly : (r < firstAnswerCode) ↔ ((fault bs .number ≡ 0 → ⊥) ⊎ ((J ≡ 0) ⊎ (journalLimit < J)))
+    pub file-refused : (fault bs .number ≡ 0 → ⊥) → (r ≡ fault bs .number) × (toldRecord d ≡ fault bs .place)
+    pub file-numbers : (fault bs .number ≡ 0 → ⊥) → (1 ≤ r) × (r ≤ 7)
+    pub rows-number : fault bs .number ≡ 0 → r < firstAnswerCode → r ≡ 8
+    pub no-record : fault bs .number ≡ 0 → toldRecord d ≡ 0
+    pub rest-zero : r < firstAnswerCode → d ≡ toldRecord d ∷ 0 ∷ 0 ∷ 0 ∷ 0 ∷ 0 ∷ 0 ∷ 0 ∷ []
+
+  -- the working order stops with this verdict, and the details tell of where it does
+  pub record RunsOut (v : Verdict) : Type 0 where
+    pub answer : Answer ℕ
+    pub answers : checkOf bs J B ≡ answered answer
+    pub stops : Stops (base states (automatonOf bs)) (rulesOf bs) J B v answer
+    pub joins-told : toldJoins d ≡ answer .joins
+    pub used-told : toldUsed d ≡ answer .used
+    pub pass-told : toldPass d ≡ answer .pass
+
+  pub record Verdicts : Type 0 where
+    pub one-of-four : firstAnswerCode ≤ r → (r ≡ holdsCode) ⊎ ((r ≡ brokenCode) ⊎ ((r ≡ fullCode) ⊎ (r ≡ spentCode)))
+    -- 100 exactly when the sheet accepts every run of the plan, and 101 exactly when it turns one away
+    pub holds-exactly : Decided r → (r ≡ holdsCode) ↔ ((w : List ℕ) → Derivable bs w → Accepts (automatonOf bs) w)
+    pub broken-exactly : Decided r → (r ≡ brokenCode) ↔ ((w : List ℕ) × Counterexample bs w)
+    -- 102 exactly where the working order runs out of rows: all are used
+    pub full-exactly : (r ≡ fullCode) ↔ RunsOut full
+    pub full-used : r ≡ fullCode → toldUsed d ≡ J
+    -- 103 exactly where it runs out of joins: all of the budget are made; a budget of document 01's size is never spent
+    pub spent-exactly : (r ≡ spentCode) ↔ RunsOut spent
+    pub spent-joins : r ≡ spentCode → toldJoins d ≡ B
+    pub never-spent : length (rulesOf bs) * J * J * (J + 1) ≤ B → r ≡ spentCode → ⊥
+
+  pub record Details : Type 0 where
+    pub eight : length d ≡ 8
+    pub used-bound : toldUsed d ≤ J
+    pub pass-bound : toldPass d ≤ J + 1
+    pub joins-bound : toldJoins d ≤ length (rulesOf bs) * J * J * (J + 1)
+    -- an answer that is not broken has no row and shows no run; a broken one has the last row
+    pub no-row : firstAnswerCode ≤ r → (r ≡ brokenCode → ⊥) → toldRow d ≡ absent
+    pub no-run : (r ≡ brokenCode → ⊥) → (toldPairs d ≡ 0) × (toldLength d ≡ 0) × (toldRefused d ≡ 0)
+    pub last-row : r ≡ brokenCode → toldUsed d ≡ suc (toldRow d)
+    -- only a broken answer changes the buffer
+    pub buffer-kept : (r ≡ brokenCode → ⊥) → new ≡ old
+
+  -- the run w of a broken check, and the buffer
+  pub record InBuffer (w : List ℕ) : Type 0 where
+    -- it is written, or refused with 10: exactly where it has 65,535 steps or more, or more than the buffer has bytes
+    pub written-or-not : (toldRefused d ≡ 0) ⊎ (toldRefused d ≡ 10)
+    pub refused-exactly : (toldRefused d ≡ 10) ↔ ((longWord ≤ length w) ⊎ (length old < length w))
+    -- the same by the length that is told
+    pub refused-told : (toldRefused d ≡ 10) ↔ ((toldLength d ≡ longWord) ⊎ (length old < toldLength d))
+    -- written, it is as many of the buffer's first bytes as the length tells, and the others keep their values
+    pub first-bytes : toldRefused d ≡ 0 → take (toldLength d) new ≡ w
+    pub other-bytes : toldRefused d ≡ 0 → drop (toldLength d) new ≡ drop (toldLength d) old
+    pub buffer-kept : toldRefused d ≡ 10 → new ≡ old
+
+  -- 101 shows the run w
+  pub record Shows (w : List ℕ) : Type 0 where
+    -- it is a run of the plan that the sheet turns away
+    pub counterexample : Counterexample bs w
+    -- the pass is the least height of a derivation of such a run
+    pub within : DerivesWithin (rulesOf bs) (toldPass d) initial w
+    pub none-lower : (h : ℕ) → h < toldPass d → (u : List ℕ) → DerivesWithin (rulesOf bs) h initial u → Accepts (automatonOf bs) u
+    pub pairs-are : toldPairs d ≡ pairs states (wordRelation states (automatonOf bs .transitions) w)
+    pub length-is : toldLength d ≡ capped (length w)
+    pub in-buffer : InBuffer w
+
+  -- a call with more rows or a larger budget, and the same buffer, tells the same once the number is 100 or 101
+  pub record Stays : Type 0 where
+    pub larger : (r ≡ holdsCode) ⊎ (r ≡ brokenCode) → (J′ B′ : ℕ) → J ≤ J′ → J′ ≤ journalLimit → B ≤ B′ → (d′ new′ : List ℕ) (r′ : ℕ) → ChecksZeros bs J′ B′ d′ old new′ r′ → (r′ ≡ r) × (d′ ≡ d) × (new′ ≡ new)
+
+  pub record CheckTells : Type 0 where
+    pub refusing : Refusing
+    pub verdicts : Verdicts
+    pub details : Details
+    pub shows : r ≡ brokenCode → (w : List ℕ) × Shows w
+    pub stays : Stays
+
+-- ---- reading: the number r and the record i that bolfrega_refusal gave
+
+pub record FileTells (bs : List ℕ) (r i : ℕ) : Type 0 where
+  pub numbers : r ≤ 7
+  -- a record is named for 3 to 7 only
+  pub no-record : r < 3 → i ≡ 0
+  -- where it is not 0, every judging and every check of the file is refused with the same number and the same record
+  pub judging-same : (r ≡ 0 → ⊥) → (w : List ℕ) (r′ i′ : ℕ) → Judges bs w r′ i′ → (r′ ≡ r) × (i′ ≡ i)
+  pub checking-same : (r ≡ 0 → ⊥) → (J B : ℕ) (d old new : List ℕ) (r′ : ℕ) → ChecksZeros bs J B d old new r′ → (r′ ≡ r) × (toldRecord d ≡ i)

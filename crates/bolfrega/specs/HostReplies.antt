@@ -3,8 +3,8 @@
 use mathlib.Core.Path.{_≡_, refl, sym, ap, ap₂, _∙_, subst}
 use mathlib.Core.Logic.{_⊎_, inl, inr}
 use mathlib.Core.Bool.{Bool, true, false, _||_, cond}
-use mathlib.Core.List.{List, [], _∷_, _++_}
-use Prim.Native.Nat.{ℕ, zero, suc, _≤_, _<_}
+use mathlib.Core.List.{List, [], _∷_}
+use Prim.Native.Nat.{ℕ, zero, suc, _<_}
 use native.Mathlib.Nat.{suc-ne-zero}
 use native.Mathlib.Omega.{arith}
 use lib.Dec.{eqb, ltb}
@@ -14,13 +14,14 @@ use Rattle.plan_file.specs.Refusals.{Refusal, refuse, fault}
 use Rattle.working_order.specs.Journal.{Row}
 use Rattle.working_order.specs.Order.{Answer, Verdict, holds, broken, full, spent}
 use Rattle.calls.specs.Checking.{journalLimit, journalFault, orderOn, checkOf, keptBy, journalAfter, shown}
-use Rattle.calls.specs.Promising.{from-order, promises}
+use Rattle.calls.specs.Promising.{promises}
 use Rattle.calls.specs.Replies.{Reply, refused, answered, unless, unlessBy}
-use Rattle.calls.specs.Writing.{roomFault, wordOf, writeOf, writtenBy, bufferAfter}
+use Rattle.calls.specs.Writing.{roomFault, writeOf, writtenBy, bufferAfter}
 use Rattle.witness.specs.Shown.{word-shown, writes-shown}
 use Rattle.telling.specs.Codes.{firstAnswerCode, verdictCode, codeBy}
 use Rattle.standalone.specs.Told.{zeroRow, answerCode, rowIn, lastThree, detailsOf, shownBy, shownOf}
 use Rattle.bolfrega.specs.Contracts.{zeroRows, ChecksZeros}
+use Rattle.bolfrega.specs.Hosts.{RowsRefused}
 use Rattle.bolfrega.specs.LowNumbers.{LowIn, check-low}
 
 -- ---- an answer, told with no journal
@@ -64,7 +65,8 @@ module _ (bs old : List ℕ) (rows : List (Row ℕ)) (B : ℕ) (a : Answer ℕ) 
   pub details-same : detailsOf bs after (length old) (answered a) ≡ answerDetails bs old a
   details-same = ap (λ (xs : List ℕ). 0 ∷ a .joins ∷ a .used ∷ a .pass ∷ a .row ∷ xs) (three-same (a .verdict) refl)
 
-  by-verdict : (v : Verdict) → a .verdict ≡ v → shownBy v (bufferAfter bs after (a .used) (a .row) old) old ≡ shownBy v (writtenBy (shown bs a) old (writing bs old a)) old
+  by-verdict : (v : Verdict) → a .verdict ≡ v
+      → shownBy v (bufferAfter bs after (a .used) (a .row) old) old ≡ shownBy v (writtenBy (shown bs a) old (writing bs old a)) old
   unfolding bufferAfter
   by-verdict holds q = refl
   by-verdict broken q = ap₂ (λ (w : List ℕ) (x : Reply ℕ). writtenBy w old x) (word-shown bs rows B a e q) (writes-shown bs rows B a e q (length old))
@@ -110,9 +112,7 @@ module _ {A : Type 0} (x : Refusal) (g : ℕ) (a : A) where
       by zero p q = next g refl p q
       by (suc n) p q = absurd (answered-refused b x (sym q))
 
--- 8: no row, or more than a journal may have
-abbrev pub RowsRefused : ℕ → Type 0
-RowsRefused n = (n ≡ 0) ⊎ (journalLimit < n)
+-- ---- 8
 
 pub rows-refused : (n : ℕ) → (journalFault n ≡ 0 → ⊥) → RowsRefused n × (journalFault n ≡ 8)
 unfolding journalFault

@@ -16,16 +16,15 @@ use Rattle.working_order.specs.Order.{Progress, Answer, Verdict, holds, broken,
 use Rattle.calls.specs.Base.{base}
 use Rattle.calls.specs.Checking.{journalFault, checkOf, shown}
 use Rattle.calls.specs.DemandThree.{Derivable, Counterexample, Promises}
-use Rattle.calls.specs.Judging.{accepted}
 use Rattle.calls.specs.Promising.{from-order}
 use Rattle.calls.specs.Replies.{Reply, refused, answered}
 use Rattle.calls.specs.Writing.{writtenBy}
 use Rattle.telling.specs.Codes.{firstAnswerCode, holdsCode, brokenCode, fullCode, spentCode, verdictCode}
 use Rattle.standalone.specs.Told.{lastThree, shownBy}
 use Rattle.bolfrega.specs.Contracts.{Refuses, ChecksZeros}
-use Rattle.bolfrega.specs.Hosts.{FileTells, toldRecord, toldJoins, toldUsed, toldPass, toldRow, toldPairs, toldLength, toldRefused, Decided, Refusing, RunsOut, Verdicts, Details, Stays, CheckTells}
-use Rattle.bolfrega.specs.HostReplies.{Why, brokenRow, writing, RowsRefused, rows-refused, refused-rows, why-refused, ToldRefusal, ToldAnswer, told-refusal, told-answer}
-use Rattle.bolfrega.specs.LowNumbers.{low-high, file-refusal}
+use Rattle.bolfrega.specs.Hosts.{FilePasses, FileRefused, RowsRefused, FileTells, toldRecord, toldJoins, toldUsed, toldPass, toldRow, toldPairs, toldLength, toldRefused, Decided, Refusing, RunsOut, Verdicts, Details, Stays, CheckTells}
+use Rattle.bolfrega.specs.HostReplies.{Why, brokenRow, writing, rows-refused, refused-rows, why-refused, ToldRefusal, ToldAnswer, told-refusal, told-answer}
+use Rattle.bolfrega.specs.LowNumbers.{file-refusal, record-none, low-high}
 use Rattle.bolfrega.specs.HostJudging.{judge-tells}
 use Rattle.bolfrega.specs.HostShows.{run-shown}
 
@@ -76,18 +75,23 @@ module _ (bs : List ℕ) (J B : ℕ) (d old new : List ℕ) (r : ℕ) where
     record-is : toldRecord d ≡ y .place
     record-is = ap toldRecord (t .details)
 
-    file-number : r ≡ fault bs .number → (fault bs .number ≡ 0 → ⊥) → (1 ≤ r) × (r ≤ 7)
+    zeros : d ≡ toldRecord d ∷ 0 ∷ 0 ∷ 0 ∷ 0 ∷ 0 ∷ 0 ∷ 0 ∷ []
+    zeros = t .details ∙ ap (λ (k : ℕ). k ∷ 0 ∷ 0 ∷ 0 ∷ 0 ∷ 0 ∷ 0 ∷ 0 ∷ []) (sym record-is)
+
+    file-number : r ≡ fault bs .number → FileRefused bs → (1 ≤ r) × (r ≤ 7)
     file-number e n = (omega (arith, e, n), omega (arith, e, file-refusal bs .number))
 
     refusing-by : Why (fault bs) (journalFault J) y → Refusing bs J B d old new r
     refusing-by (inl (n, q)) =
+        let number-is = t .number ∙ ap (λ (x : Refusal). x .number) q in
+        let place-is = record-is ∙ ap (λ (x : Refusal). x .place) q in
         record {
           refused-exactly = (λ l. inl n, λ x. t .low);
-          file-refused = λ m. (t .number ∙ ap (λ (x : Refusal). x .number) q, record-is ∙ ap (λ (x : Refusal). x .place) q);
-          file-numbers = λ m. file-number (t .number ∙ ap (λ (x : Refusal). x .number) q) n;
+          file-refused = λ m. (number-is, place-is);
+          file-numbers = λ m. file-number number-is n;
           rows-number = λ z. absurd (n z);
-          no-record = λ z. absurd (n z);
-          rest-zero = λ l. t .details ∙ ap (λ (k : ℕ). k ∷ 0 ∷ 0 ∷ 0 ∷ 0 ∷ 0 ∷ 0 ∷ 0 ∷ []) (sym record-is);
+          no-record = record-none bs r (toldRecord d) number-is place-is;
+          rest-zero = λ l. zeros;
         }
     refusing-by (inr (z, (n, q))) =
         let e = rows-refused J n in
@@ -97,7 +101,7 @@ module _ (bs : List ℕ) (J B : ℕ) (d old new : List ℕ) (r : ℕ) where
           file-numbers = λ m. absurd (m z);
           rows-number = λ k l. t .number ∙ ap (λ (x : Refusal). x .number) q ∙ e .1;
           no-record = λ k. record-is ∙ ap (λ (x : Refusal). x .place) q;
-          rest-zero = λ l. t .details ∙ ap (λ (k : ℕ). k ∷ 0 ∷ 0 ∷ 0 ∷ 0 ∷ 0 ∷ 0 ∷ 0 ∷ []) (sym record-is);
+          rest-zero = λ l. zeros;
         }
 
     -- it is no answer
@@ -168,13 +172,25 @@ module _ (bs : List ℕ) (J B : ℕ) (d old new : List ℕ) (r : ℕ) (h : Check
           rest-zero = λ l. absurd (low-high l high);
         }
       where
-        none : fault bs .number ≡ 0 → journalFault J ≡ 0 → (fault bs .number ≡ 0 → ⊥) ⊎ RowsRefused J → ⊥
+        none : FilePasses bs → journalFault J ≡ 0 → FileRefused bs ⊎ RowsRefused J → ⊥
         none z k (inl n) = n z
         none z k (inr x) = refused-rows J x k
 
     -- the counts, as they are told
     runs-out : (v : Verdict) → Stops (base states (automatonOf bs)) (rulesOf bs) J B v a → RunsOut bs J B d old new r v
-    runs-out v s = record { answer = a; answers = reply; stops = s; joins-told = ap toldJoins (t .details); used-told = ap toldUsed (t .details); pass-told = ap toldPass (t .details) }
+    runs-out v s =
+        record {
+          answer = a;
+          answers = reply;
+          stops = s;
+          joins-told = ap toldJoins (t .details);
+          used-told = ap toldUsed (t .details);
+          pass-told = ap toldPass (t .details);
+        }
+
+    -- and back
+    ran-out : (v : Verdict) (o : RunsOut bs J B d old new r v) → o .answer .verdict ≡ v → r ≡ verdictCode v
+    ran-out v o e = told-answer bs J B d old new r h (o .answer) (o .answers) .number ∙ ap verdictCode e
 
     verdicts : Verdicts bs J B d old new r
     verdicts =
@@ -186,12 +202,12 @@ module _ (bs : List ℕ) (J B : ℕ) (d old new : List ℕ) (r : ℕ) (h : Check
               (λ e. b .0 (is broken e), λ c. code broken (b .1 c));
           full-exactly = (
             λ e. runs-out full (p .one-verdict .full-exactly .0 (is full e)),
-            λ o. told-answer bs J B d old new r h (o .answer) (o .answers) .number ∙ ap verdictCode (h .promises (o .answer) (o .answers) .one-verdict .full-exactly .1 (o .stops)),
+            λ o. ran-out full o (h .promises (o .answer) (o .answers) .one-verdict .full-exactly .1 (o .stops)),
           );
           full-used = λ e. ap toldUsed (t .details) ∙ p .counts .used-rows ∙ full-rows bs J B a (p .one-verdict .full-exactly .0 (is full e));
           spent-exactly = (
             λ e. runs-out spent (p .one-verdict .spent-exactly .0 (is spent e)),
-            λ o. told-answer bs J B d old new r h (o .answer) (o .answers) .number ∙ ap verdictCode (h .promises (o .answer) (o .answers) .one-verdict .spent-exactly .1 (o .stops)),
+            λ o. ran-out spent o (h .promises (o .answer) (o .answers) .one-verdict .spent-exactly .1 (o .stops)),
           );
           spent-joins = λ e. ap toldJoins (t .details) ∙ spent-budget bs J B a (p .one-verdict .spent-exactly .0 (is spent e));
           never-spent = λ l e. p .counts .never-spent l (is spent e);
@@ -274,7 +290,17 @@ module _ (bs : List ℕ) (J B : ℕ) (d old new : List ℕ) (r : ℕ) (h : Check
       by (refused y) e = refusal-tells bs J B d old new r y (told-refusal bs J B d old new r h y e) (why-refused bs J B y e)
       by (answered a) e = answer-tells a e
 
-  -- so where nothing refused to write it, the first bytes of the buffer, as many as the length tells, are a run of the plan that the sheet
+  -- ---- some of it in short
+
+  pub holds-means : r ≡ holdsCode → (w : List ℕ) → Derivable bs w → Accepts (automatonOf bs) w
+  holds-means e =
+      let sure : Decided r = record { answers = omega (arith, e); not-full = λ z. omega (arith, e, z); not-spent = λ z. omega (arith, e, z) } in
+      check-tells .verdicts .holds-exactly sure .0 e
+
+  pub broken-means : r ≡ brokenCode → (w : List ℕ) × Counterexample bs w
+  broken-means e = let s = check-tells .shows e in (s .0, s .1 .counterexample)
+
+  -- where nothing refused to write it, the first bytes of the buffer, as many as the length tells, are a run of the plan that the sheet
   -- turns away
   pub run-means : r ≡ brokenCode → toldRefused d ≡ 0 → Counterexample bs (take (toldLength d) new)
   run-means e z = let s = check-tells .shows e in subst (Counterexample bs) (sym (s .1 .in-buffer .first-bytes z)) (s .1 .counterexample)

@@ -4,7 +4,7 @@ use mathlib.Core.Path.{_≡_, refl, sym, ap, ap₂, _∙_, subst}
 use mathlib.Core.Logic.{_⊎_, inl, inr}
 use mathlib.Core.Bool.{Bool, true, false, _||_, cond}
 use mathlib.Core.List.{List, [], _∷_}
-use Prim.Native.Nat.{ℕ, zero, suc, _<_}
+use Prim.Native.Nat.{ℕ, zero, suc, _≤_, _<_}
 use native.Mathlib.Nat.{suc-ne-zero}
 use native.Mathlib.Omega.{arith}
 use lib.Dec.{eqb, ltb}
@@ -18,11 +18,32 @@ use Rattle.calls.specs.Promising.{promises}
 use Rattle.calls.specs.Replies.{Reply, refused, answered, unless, unlessBy}
 use Rattle.calls.specs.Writing.{roomFault, writeOf, writtenBy, bufferAfter}
 use Rattle.witness.specs.Shown.{word-shown, writes-shown}
-use Rattle.telling.specs.Codes.{firstAnswerCode, verdictCode, codeBy}
+use Rattle.telling.specs.Codes.{firstAnswerCode, holdsCode, brokenCode, fullCode, verdictCode, codeBy}
 use Rattle.standalone.specs.Told.{zeroRow, answerCode, rowIn, lastThree, detailsOf, shownBy, shownOf}
 use Rattle.bolfrega.specs.Contracts.{zeroRows, ChecksZeros}
 use Rattle.bolfrega.specs.Hosts.{RowsRefused}
 use Rattle.bolfrega.specs.LowNumbers.{LowIn, check-low}
+
+-- ---- the numbers of the verdicts
+
+-- the verdict of a number, and back
+abbrev verdictOf : ℕ → Verdict
+verdictOf n = cond (eqb n holdsCode) holds (cond (eqb n brokenCode) broken (cond (eqb n fullCode) full spent))
+
+verdict-back : (v : Verdict) → verdictOf (verdictCode v) ≡ v
+verdict-back holds = refl
+verdict-back broken = refl
+verdict-back full = refl
+verdict-back spent = refl
+
+pub same-verdict : (v x : Verdict) → verdictCode v ≡ verdictCode x → v ≡ x
+same-verdict v x e = sym (verdict-back v) ∙ ap verdictOf e ∙ verdict-back x
+
+pub verdict-high : (v : Verdict) → firstAnswerCode ≤ verdictCode v
+verdict-high holds = omega arith
+verdict-high broken = omega arith
+verdict-high full = omega arith
+verdict-high spent = omega arith
 
 -- ---- an answer, told with no journal
 

@@ -1,11 +1,9 @@
 -- What a host may conclude from what a call gave it (Hosts.antt), by the call's contract alone. Assumes nothing.
 use mathlib.Core.Path.{_≡_, refl, sym, ap, _∙_, subst}
 use mathlib.Core.Logic.{_⊎_, inl, inr}
-use mathlib.Core.Bool.{cond}
 use mathlib.Core.List.{List, [], _∷_}
 use Prim.Native.Nat.{ℕ, suc, _+_, _*_, _≤_, _<_, zero-le}
 use native.Mathlib.Omega.{arith}
-use lib.Dec.{eqb}
 use lib.ListN.{length, take}
 use Rattle.relation.specs.Relation.{states}
 use Rattle.language.specs.Automaton.{Accepts}
@@ -23,31 +21,10 @@ use Rattle.telling.specs.Codes.{firstAnswerCode, holdsCode, brokenCode, fullCod
 use Rattle.standalone.specs.Told.{lastThree, shownBy}
 use Rattle.bolfrega.specs.Contracts.{Refuses, ChecksZeros}
 use Rattle.bolfrega.specs.Hosts.{FilePasses, FileRefused, RowsRefused, FileTells, toldRecord, toldJoins, toldUsed, toldPass, toldRow, toldPairs, toldLength, toldRefused, Decided, Refusing, RunsOut, Verdicts, Details, Stays, CheckTells}
-use Rattle.bolfrega.specs.HostReplies.{Why, brokenRow, writing, rows-refused, refused-rows, why-refused, ToldRefusal, ToldAnswer, told-refusal, told-answer}
+use Rattle.bolfrega.specs.HostReplies.{same-verdict, verdict-high, Why, brokenRow, writing, rows-refused, refused-rows, why-refused, ToldRefusal, ToldAnswer, told-refusal, told-answer}
 use Rattle.bolfrega.specs.LowNumbers.{file-refusal, record-none, low-high}
 use Rattle.bolfrega.specs.HostJudging.{judge-tells}
 use Rattle.bolfrega.specs.HostShows.{run-shown}
-
--- ---- the numbers of the verdicts
-
--- the verdict of a number, and back
-abbrev verdictOf : ℕ → Verdict
-verdictOf n = cond (eqb n holdsCode) holds (cond (eqb n brokenCode) broken (cond (eqb n fullCode) full spent))
-
-verdict-back : (v : Verdict) → verdictOf (verdictCode v) ≡ v
-verdict-back holds = refl
-verdict-back broken = refl
-verdict-back full = refl
-verdict-back spent = refl
-
-same-verdict : (v x : Verdict) → verdictCode v ≡ verdictCode x → v ≡ x
-same-verdict v x e = sym (verdict-back v) ∙ ap verdictOf e ∙ verdict-back x
-
-verdict-high : (v : Verdict) → firstAnswerCode ≤ verdictCode v
-verdict-high holds = omega arith
-verdict-high broken = omega arith
-verdict-high full = omega arith
-verdict-high spent = omega arith
 
 -- ---- what Stops says of the counts
 

@@ -12,16 +12,17 @@ use Rattle.basics.specs.Elements.{any}
 use Rattle.relation.specs.Relation.{states}
 use Rattle.language.specs.WordRelation.{rejected}
 use Rattle.plan_file.specs.Limits.{terminals}
+use Rattle.language.specs.Automaton.{Accepts, TurnsAway}
 use Rattle.plan_file.specs.Refusals.{Refusal, fault}
 use Rattle.plan_file.specs.Views.{automatonOf}
 use Rattle.calls.specs.Judging.{Judgement, accepted, turnedAway, wordLimit, wordFault, judgementBy, judgeOf, Means}
 use Rattle.calls.specs.Replies.{Reply, refused, answered}
 use Rattle.telling.specs.Codes.{firstAnswerCode, codeBy}
-use Rattle.bolfrega.specs.Codes.{judgementCode, placeIn}
+use Rattle.bolfrega.specs.Codes.{acceptedCode, turnedAwayCode, judgementCode, placeIn}
 use Rattle.bolfrega.specs.Contracts.{Judges}
 use Rattle.bolfrega.specs.Hosts.{JudgeTells}
 use Rattle.bolfrega.specs.HostReplies.{Why, why, why-not}
-use Rattle.bolfrega.specs.LowNumbers.{low-high, LowIn, judge-low}
+use Rattle.bolfrega.specs.LowNumbers.{record-none, low-high, LowIn, judge-low}
 
 word-refused : (w : List ℕ) → (wordFault w ≡ 0 → ⊥) → wordFault w ≡ 11
 unfolding wordFault
@@ -39,11 +40,13 @@ module _ (bs w : List ℕ) (r i : ℕ) (h : Judges bs w r i) where
     -- it was the file, or else the run
     tells-by : Why (fault bs) (wordFault w) y → JudgeTells bs w r i
     tells-by (inl (n, q)) =
+        let number-is = h .code ∙ ap (codeBy judgementCode) e ∙ ap (λ (x : Refusal). x .number) q in
+        let place-is = h .place ∙ ap placeIn e ∙ ap (λ (x : Refusal). x .place) q in
         record {
-          file-refused = λ m. (h .code ∙ ap (codeBy judgementCode) e ∙ ap (λ (x : Refusal). x .number) q, h .place ∙ ap placeIn e ∙ ap (λ (x : Refusal). x .place) q);
+          file-refused = λ m. (number-is, place-is);
           run-refused = λ z. absurd (n z);
           run-number = λ z. absurd (n z);
-          no-record = λ z. absurd (n z);
+          no-record = record-none bs r i number-is place-is;
           accepted-exactly = λ t. absurd (low-high low t);
           turned-away-exactly = λ t. absurd (low-high low t);
         }
@@ -90,3 +93,11 @@ module _ (bs w : List ℕ) (r i : ℕ) (h : Judges bs w r i) where
       by (answered g) e =
           let t = why-not (fault bs) (wordFault w) last g e in
           tells-as (t .0) (t .1) (h .place ∙ ap placeIn e) g (h .code ∙ ap (codeBy judgementCode) e) (subst (Means bs w) e (h .meaning))
+
+  -- ---- in short
+
+  pub accepted-means : r ≡ acceptedCode → Accepts (automatonOf bs) w
+  accepted-means e = judge-tells .accepted-exactly (omega (arith, e)) .0 e
+
+  pub turned-away-means : r ≡ turnedAwayCode → TurnsAway (automatonOf bs) w
+  turned-away-means e = judge-tells .turned-away-exactly (omega (arith, e)) .0 e

@@ -3,7 +3,7 @@
 use mathlib.Core.Path.{_≡_, refl, sym, ap, ap₂, _∙_, subst}
 use mathlib.Core.Logic.{_⊎_, inl, inr}
 use mathlib.Core.Bool.{Bool, true, false, _||_, cond}
-use mathlib.Core.List.{List, [], _∷_, _++_}
+use mathlib.Core.List.{List, [], _∷_}
 use Prim.Native.Nat.{ℕ, zero, suc, _≤_, _<_}
 use native.Mathlib.Nat.{suc-ne-zero}
 use native.Mathlib.Omega.{arith}
@@ -14,15 +14,37 @@ use Rattle.plan_file.specs.Refusals.{Refusal, refuse, fault}
 use Rattle.working_order.specs.Journal.{Row}
 use Rattle.working_order.specs.Order.{Answer, Verdict, holds, broken, full, spent}
 use Rattle.calls.specs.Checking.{journalLimit, journalFault, orderOn, checkOf, keptBy, journalAfter, shown}
-use Rattle.calls.specs.Promising.{from-order, promises}
+use Rattle.calls.specs.Promising.{promises}
 use Rattle.calls.specs.Replies.{Reply, refused, answered, unless, unlessBy}
 use Rattle.calls.specs.DemandThree.{WritesShown}
 use Rattle.calls.specs.Writing.{longWord, roomFault, writeOf, writtenBy, bufferAfter}
 use Rattle.calls.specs.WritingTruth.{room-cases}
-use Rattle.telling.specs.Codes.{firstAnswerCode, verdictCode, codeBy}
+use Rattle.telling.specs.Codes.{firstAnswerCode, holdsCode, brokenCode, fullCode, verdictCode, codeBy}
 use Rattle.standalone.specs.Told.{zeroRow, answerCode, rowIn, lastThree, detailsOf, shownBy, shownOf}
 use Rattle.bolfrega.specs.Contracts.{zeroRows, ChecksZeros}
+use Rattle.bolfrega.specs.Hosts.{RowsRefused}
 use Rattle.bolfrega.specs.LowNumbers.{LowIn, check-low}
+
+-- ---- the numbers of the verdicts
+
+-- the verdict of a number, and back
+abbrev verdictOf : ℕ → Verdict
+verdictOf n = cond (eqb n holdsCode) holds (cond (eqb n brokenCode) broken (cond (eqb n fullCode) full spent))
+
+verdict-back : (v : Verdict) → verdictOf (verdictCode v) ≡ v
+verdict-back holds = refl
+verdict-back broken = refl
+verdict-back full = refl
+verdict-back spent = refl
+
+pub same-verdict : (v x : Verdict) → verdictCode v ≡ verdictCode x → v ≡ x
+same-verdict v x e = sym (verdict-back v) ∙ ap verdictOf e ∙ verdict-back x
+
+pub verdict-high : (v : Verdict) → firstAnswerCode ≤ verdictCode v
+verdict-high holds = omega arith
+verdict-high broken = omega arith
+verdict-high full = omega arith
+verdict-high spent = omega arith
 
 -- ---- an answer, told with no journal
 
@@ -77,7 +99,8 @@ module _ (bs old : List ℕ) (rows : List (Row ℕ)) (B : ℕ) (a : Answer ℕ) 
   pub details-same : detailsOf bs after (length old) (answered a) ≡ answerDetails bs old a
   details-same = ap (λ (xs : List ℕ). 0 ∷ a .joins ∷ a .used ∷ a .pass ∷ a .row ∷ xs) (three-same (a .verdict) refl)
 
-  by-verdict : (v : Verdict) → a .verdict ≡ v → shownBy v (bufferAfter bs after (a .used) (a .row) old) old ≡ shownBy v (writtenBy (shown bs a) old (writing bs old a)) old
+  by-verdict : (v : Verdict) → a .verdict ≡ v
+      → shownBy v (bufferAfter bs after (a .used) (a .row) old) old ≡ shownBy v (writtenBy (shown bs a) old (writing bs old a)) old
   by-verdict holds q = refl
   by-verdict broken q = shown-written q .1
   by-verdict full q = refl
@@ -122,9 +145,7 @@ module _ {A : Type 0} (x : Refusal) (g : ℕ) (a : A) where
       by zero p q = next g refl p q
       by (suc n) p q = absurd (answered-refused b x (sym q))
 
--- 8: no row, or more than a journal may have
-abbrev pub RowsRefused : ℕ → Type 0
-RowsRefused n = (n ≡ 0) ⊎ (journalLimit < n)
+-- ---- 8
 
 pub rows-refused : (n : ℕ) → (journalFault n ≡ 0 → ⊥) → RowsRefused n × (journalFault n ≡ 8)
 unfolding journalFault

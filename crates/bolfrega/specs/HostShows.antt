@@ -1,12 +1,15 @@
 -- What a host may conclude of the run of a broken check (Shows), by what is told of the answer and what it promises. Assumes nothing.
 use mathlib.Core.Path.{_≡_, refl, sym, ap, _∙_, subst}
 use mathlib.Core.Logic.{_⊎_, inl, inr}
+use mathlib.Core.Bool.{Bool, true, false}
 use mathlib.Core.List.{List, [], _∷_}
 use Prim.Native.Nat.{ℕ, zero, suc, _≤_, _<_}
 use native.Mathlib.Nat.{suc-ne-zero}
 use native.Mathlib.Omega.{arith}
+use lib.Dec.{leb}
 use lib.ListN.{length, getD, take, drop}
 use lib.Seq.{take-at, drop-at}
+use borrow.Author.Tests.{leb-true, leb-false}
 use Rattle.basics.specs.Lists.{getD-map}
 use Rattle.relation.specs.Relation.{states, pairs}
 use Rattle.language.specs.Grammar.{initial}
@@ -23,7 +26,7 @@ use Rattle.calls.specs.DemandThree.{Promises}
 use Rattle.calls.specs.JournalTruth.{row-true}
 use Rattle.calls.specs.Promising.{from-order}
 use Rattle.calls.specs.Replies.{answered, unless, unlessBy}
-use Rattle.calls.specs.Writing.{longWord, roomFault, writtenBy}
+use Rattle.calls.specs.Writing.{longWord, roomFault, wordOf, writtenBy}
 use Rattle.calls.specs.WritingTruth.{room-cases}
 use Rattle.telling.specs.Telling.{refusedBy}
 use Rattle.standalone.specs.Told.{zeroRow, lastThree, shownBy}
@@ -47,7 +50,7 @@ module _ (bs : List ℕ) (J B : ℕ) (a : Answer ℕ) (reply : checkOf bs J B �
   field-same f x y = sym (getD-map f x 0 (a .journal) (a .row) in-journal) ∙ getD-map f y 0 (a .journal) (a .row) in-journal
 
   row-length : brokenRow a .len ≡ capped (length run)
-  unfolding shown
+  unfolding shown wordOf
   row-length = field-same (λ x. x .len) zeroRow _ ∙ p .rows-mean (a .row) (omega (arith, p .counts .last-row v)) .length-is
 
   row-relation : brokenRow a .effect ≡ wordRelation states (automatonOf bs .transitions) run

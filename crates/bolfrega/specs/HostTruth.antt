@@ -1,11 +1,9 @@
 -- What a host may conclude from what a call gave it (Hosts.antt), by the call's contract alone. Assumes nothing.
 use mathlib.Core.Path.{_≡_, refl, sym, ap, _∙_, subst}
 use mathlib.Core.Logic.{_⊎_, inl, inr}
-use mathlib.Core.Bool.{cond}
 use mathlib.Core.List.{List, [], _∷_}
 use Prim.Native.Nat.{ℕ, suc, _+_, _*_, _≤_, _<_, zero-le}
 use native.Mathlib.Omega.{arith}
-use lib.Dec.{eqb}
 use lib.ListN.{length, take}
 use Rattle.relation.specs.Relation.{states}
 use Rattle.language.specs.Automaton.{Accepts}
@@ -16,54 +14,17 @@ use Rattle.working_order.specs.Order.{Progress, Answer, Verdict, holds, broken,
 use Rattle.calls.specs.Base.{base}
 use Rattle.calls.specs.Checking.{journalFault, checkOf, shown}
 use Rattle.calls.specs.DemandThree.{Derivable, Counterexample, Promises}
-use Rattle.calls.specs.Judging.{accepted}
 use Rattle.calls.specs.Promising.{from-order}
 use Rattle.calls.specs.Replies.{Reply, refused, answered}
 use Rattle.calls.specs.Writing.{writtenBy}
 use Rattle.telling.specs.Codes.{firstAnswerCode, holdsCode, brokenCode, fullCode, spentCode, verdictCode}
 use Rattle.standalone.specs.Told.{lastThree, shownBy}
 use Rattle.bolfrega.specs.Contracts.{Refuses, ChecksZeros}
-use Rattle.bolfrega.specs.Hosts.{FileTells, toldRecord, toldJoins, toldUsed, toldPass, toldRow, toldPairs, toldLength, toldRefused, Decided, Refusing, RunsOut, Verdicts, Details, Stays, CheckTells}
-use Rattle.bolfrega.specs.HostReplies.{Why, brokenRow, writing, RowsRefused, rows-refused, refused-rows, why-refused, ToldRefusal, ToldAnswer, told-refusal, told-answer}
-use Rattle.bolfrega.specs.LowNumbers.{low-high, file-refusal}
+use Rattle.bolfrega.specs.Hosts.{FilePasses, FileRefused, RowsRefused, FileTells, toldRecord, toldJoins, toldUsed, toldPass, toldRow, toldPairs, toldLength, toldRefused, Decided, Refusing, RunsOut, Verdicts, Details, Stays, CheckTells}
+use Rattle.bolfrega.specs.HostReplies.{same-verdict, verdict-high, Why, brokenRow, writing, rows-refused, refused-rows, why-refused, ToldRefusal, ToldAnswer, told-refusal, told-answer}
+use Rattle.bolfrega.specs.LowNumbers.{file-refusal, record-none, low-high}
 use Rattle.bolfrega.specs.HostJudging.{judge-tells}
 use Rattle.bolfrega.specs.HostShows.{run-shown}
-
--- ---- the numbers of the verdicts
-
--- the verdict of a number, and back
-abbrev verdictOf : ℕ → Verdict
-verdictOf n = cond (eqb n holdsCode) holds (cond (eqb n brokenCode) broken (cond (eqb n fullCode) full spent))
-
-verdict-back : (v : Verdict) → verdictOf (verdictCode v) ≡ v
-verdict-back holds = refl
-verdict-back broken = refl
-verdict-back full = refl
-verdict-back spent = refl
-
-same-verdict : (v x : Verdict) → verdictCode v ≡ verdictCode x → v ≡ x
-same-verdict v x e = sym (verdict-back v) ∙ ap verdictOf e ∙ verdict-back x
-
-verdict-high : (v : Verdict) → firstAnswerCode ≤ verdictCode v
-verdict-high holds = omega arith
-verdict-high broken = omega arith
-verdict-high full = omega arith
-verdict-high spent = omega arith
-
--- ---- what Stops says of the counts
-
-module _ (bs : List ℕ) (J B : ℕ) (a : Answer ℕ) where
-  -- full: all rows are used
-  full-rows : Stops (base states (automatonOf bs)) (rulesOf bs) J B full a → length (a .journal) ≡ J
-  full-rows s =
-      let f = s .halt .found in
-      ap length (s .journal-is) ∙ ap (λ (x : Progress ℕ). length (x .rows)) (f .4) ∙ f .2
-
-  -- spent: all joins are made
-  spent-budget : Stops (base states (automatonOf bs)) (rulesOf bs) J B spent a → a .joins ≡ B
-  spent-budget s =
-      let f = s .halt .found in
-      s .joins-are ∙ ap (λ (x : Progress ℕ). x .joins) (f .2) ∙ f .0
 
 -- ---- a check that was refused
 
@@ -76,18 +37,23 @@ module _ (bs : List ℕ) (J B : ℕ) (d old new : List ℕ) (r : ℕ) where
     record-is : toldRecord d ≡ y .place
     record-is = ap toldRecord (t .details)
 
-    file-number : r ≡ fault bs .number → (fault bs .number ≡ 0 → ⊥) → (1 ≤ r) × (r ≤ 7)
+    zeros : d ≡ toldRecord d ∷ 0 ∷ 0 ∷ 0 ∷ 0 ∷ 0 ∷ 0 ∷ 0 ∷ []
+    zeros = t .details ∙ ap (λ (k : ℕ). k ∷ 0 ∷ 0 ∷ 0 ∷ 0 ∷ 0 ∷ 0 ∷ 0 ∷ []) (sym record-is)
+
+    file-number : r ≡ fault bs .number → FileRefused bs → (1 ≤ r) × (r ≤ 7)
     file-number e n = (omega (arith, e, n), omega (arith, e, file-refusal bs .number))
 
     refusing-by : Why (fault bs) (journalFault J) y → Refusing bs J B d old new r
     refusing-by (inl (n, q)) =
+        let number-is = t .number ∙ ap (λ (x : Refusal). x .number) q in
+        let place-is = record-is ∙ ap (λ (x : Refusal). x .place) q in
         record {
           refused-exactly = (λ l. inl n, λ x. t .low);
-          file-refused = λ m. (t .number ∙ ap (λ (x : Refusal). x .number) q, record-is ∙ ap (λ (x : Refusal). x .place) q);
-          file-numbers = λ m. file-number (t .number ∙ ap (λ (x : Refusal). x .number) q) n;
+          file-refused = λ m. (number-is, place-is);
+          file-numbers = λ m. file-number number-is n;
           rows-number = λ z. absurd (n z);
-          no-record = λ z. absurd (n z);
-          rest-zero = λ l. t .details ∙ ap (λ (k : ℕ). k ∷ 0 ∷ 0 ∷ 0 ∷ 0 ∷ 0 ∷ 0 ∷ 0 ∷ []) (sym record-is);
+          no-record = record-none bs r (toldRecord d) number-is place-is;
+          rest-zero = λ l. zeros;
         }
     refusing-by (inr (z, (n, q))) =
         let e = rows-refused J n in
@@ -97,7 +63,7 @@ module _ (bs : List ℕ) (J B : ℕ) (d old new : List ℕ) (r : ℕ) where
           file-numbers = λ m. absurd (m z);
           rows-number = λ k l. t .number ∙ ap (λ (x : Refusal). x .number) q ∙ e .1;
           no-record = λ k. record-is ∙ ap (λ (x : Refusal). x .place) q;
-          rest-zero = λ l. t .details ∙ ap (λ (k : ℕ). k ∷ 0 ∷ 0 ∷ 0 ∷ 0 ∷ 0 ∷ 0 ∷ 0 ∷ []) (sym record-is);
+          rest-zero = λ l. zeros;
         }
 
     -- it is no answer
@@ -168,13 +134,25 @@ module _ (bs : List ℕ) (J B : ℕ) (d old new : List ℕ) (r : ℕ) (h : Check
           rest-zero = λ l. absurd (low-high l high);
         }
       where
-        none : fault bs .number ≡ 0 → journalFault J ≡ 0 → (fault bs .number ≡ 0 → ⊥) ⊎ RowsRefused J → ⊥
+        none : FilePasses bs → journalFault J ≡ 0 → FileRefused bs ⊎ RowsRefused J → ⊥
         none z k (inl n) = n z
         none z k (inr x) = refused-rows J x k
 
     -- the counts, as they are told
     runs-out : (v : Verdict) → Stops (base states (automatonOf bs)) (rulesOf bs) J B v a → RunsOut bs J B d old new r v
-    runs-out v s = record { answer = a; answers = reply; stops = s; joins-told = ap toldJoins (t .details); used-told = ap toldUsed (t .details); pass-told = ap toldPass (t .details) }
+    runs-out v s =
+        record {
+          answer = a;
+          answers = reply;
+          stops = s;
+          joins-told = ap toldJoins (t .details);
+          used-told = ap toldUsed (t .details);
+          pass-told = ap toldPass (t .details);
+        }
+
+    -- and back
+    ran-out : (v : Verdict) (o : RunsOut bs J B d old new r v) → o .answer .verdict ≡ v → r ≡ verdictCode v
+    ran-out v o e = told-answer bs J B d old new r h (o .answer) (o .answers) .number ∙ ap verdictCode e
 
     verdicts : Verdicts bs J B d old new r
     verdicts =
@@ -186,14 +164,14 @@ module _ (bs : List ℕ) (J B : ℕ) (d old new : List ℕ) (r : ℕ) (h : Check
               (λ e. b .0 (is broken e), λ c. code broken (b .1 c));
           full-exactly = (
             λ e. runs-out full (p .one-verdict .stops-full .0 (is full e)),
-            λ o. told-answer bs J B d old new r h (o .answer) (o .answers) .number ∙ ap verdictCode (h .promises (o .answer) (o .answers) .one-verdict .stops-full .1 (o .stops)),
+            λ o. ran-out full o (h .promises (o .answer) (o .answers) .one-verdict .stops-full .1 (o .stops)),
           );
-          full-used = λ e. ap toldUsed (t .details) ∙ p .counts .used-rows ∙ full-rows bs J B a (p .one-verdict .stops-full .0 (is full e));
+          full-used = λ e. ap toldUsed (t .details) ∙ p .counts .all-rows (is full e);
           spent-exactly = (
             λ e. runs-out spent (p .one-verdict .stops-spent .0 (is spent e)),
-            λ o. told-answer bs J B d old new r h (o .answer) (o .answers) .number ∙ ap verdictCode (h .promises (o .answer) (o .answers) .one-verdict .stops-spent .1 (o .stops)),
+            λ o. ran-out spent o (h .promises (o .answer) (o .answers) .one-verdict .stops-spent .1 (o .stops)),
           );
-          spent-joins = λ e. ap toldJoins (t .details) ∙ spent-budget bs J B a (p .one-verdict .stops-spent .0 (is spent e));
+          spent-joins = λ e. ap toldJoins (t .details) ∙ p .counts .all-joins (is spent e);
           never-spent = λ l e. p .counts .never-spent l (is spent e);
         }
       where
@@ -221,7 +199,7 @@ module _ (bs : List ℕ) (J B : ℕ) (d old new : List ℕ) (r : ℕ) (h : Check
           no-run = λ n.
               let e = t .details ∙ ap (λ (xs : List ℕ). 0 ∷ a .joins ∷ a .used ∷ a .pass ∷ a .row ∷ xs) (quiet (a .verdict) (λ e. n (code broken e))) in
               (ap toldPairs e, ap toldLength e, ap toldRefused e);
-          last-row = λ e. ap toldUsed (t .details) ∙ p .counts .last-row (is broken e) ∙ sym (ap (λ (xs : List ℕ). suc (toldRow xs)) (t .details));
+          last-row = λ e. ap (λ (xs : List ℕ). suc (toldRow xs)) (t .details) ∙ p .counts .last-row (is broken e) ∙ sym (ap toldUsed (t .details));
           buffer-kept = λ n. t .buffer ∙ kept (a .verdict) (λ e. n (code broken e));
         }
       where
@@ -274,7 +252,17 @@ module _ (bs : List ℕ) (J B : ℕ) (d old new : List ℕ) (r : ℕ) (h : Check
       by (refused y) e = refusal-tells bs J B d old new r y (told-refusal bs J B d old new r h y e) (why-refused bs J B y e)
       by (answered a) e = answer-tells a e
 
-  -- so where nothing refused to write it, the first bytes of the buffer, as many as the length tells, are a run of the plan that the sheet
+  -- ---- some of it in short
+
+  pub holds-means : r ≡ holdsCode → (w : List ℕ) → Derivable bs w → Accepts (automatonOf bs) w
+  holds-means e =
+      let sure : Decided r = record { answers = omega (arith, e); not-full = λ z. omega (arith, e, z); not-spent = λ z. omega (arith, e, z) } in
+      check-tells .verdicts .holds-exactly sure .0 e
+
+  pub broken-means : r ≡ brokenCode → (w : List ℕ) × Counterexample bs w
+  broken-means e = let s = check-tells .shows e in (s .0, s .1 .counterexample)
+
+  -- where nothing refused to write it, the first bytes of the buffer, as many as the length tells, are a run of the plan that the sheet
   -- turns away
   pub run-means : r ≡ brokenCode → toldRefused d ≡ 0 → Counterexample bs (take (toldLength d) new)
   run-means e z = let s = check-tells .shows e in subst (Counterexample bs) (sym (s .1 .in-buffer .first-bytes z)) (s .1 .counterexample)

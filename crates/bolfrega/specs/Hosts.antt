@@ -2,7 +2,7 @@
 -- records of every call that met its contract, for every file, every number of rows and every budget. Definitions only. Assumes nothing.
 use mathlib.Core.Path.{_≡_}
 use mathlib.Core.Logic.{_↔_, _⊎_}
-use mathlib.Core.List.{List, [], _∷_, _++_}
+use mathlib.Core.List.{List, [], _∷_}
 use Prim.Native.Nat.{ℕ, suc, _+_, _*_, _≤_, _<_}
 use lib.ListN.{length, getD, take, drop}
 use Rattle.relation.specs.Relation.{states, pairs}
@@ -25,14 +25,28 @@ use Rattle.telling.specs.Codes.{firstAnswerCode, holdsCode, brokenCode, fullCod
 use Rattle.bolfrega.specs.Codes.{acceptedCode, turnedAwayCode}
 use Rattle.bolfrega.specs.Contracts.{Judges, ChecksZeros}
 
+-- ---- what is refused
+
+-- nothing refuses the file; one of the numbers 1 to 7 does
+abbrev pub FilePasses : List ℕ → Type 0
+FilePasses bs = fault bs .number ≡ 0
+
+abbrev pub FileRefused : List ℕ → Type 0
+FileRefused bs = FilePasses bs → ⊥
+
+-- 8: no row, or more than 4,096
+abbrev pub RowsRefused : ℕ → Type 0
+RowsRefused J = (J ≡ 0) ⊎ (journalLimit < J)
+
 -- ---- judging: the number r and the record i that bolfrega_judge gave for the run w
 
 pub record JudgeTells (bs w : List ℕ) (r i : ℕ) : Type 0 where
   -- below 100 the call was refused: the file's refusal, or else 11
-  pub file-refused : (fault bs .number ≡ 0 → ⊥) → (r ≡ fault bs .number) × (i ≡ fault bs .place)
-  pub run-refused : fault bs .number ≡ 0 → (r < firstAnswerCode) ↔ (wordFault w ≡ 11)
-  pub run-number : fault bs .number ≡ 0 → r < firstAnswerCode → r ≡ 11
-  pub no-record : fault bs .number ≡ 0 → i ≡ 0
+  pub file-refused : FileRefused bs → (r ≡ fault bs .number) × (i ≡ fault bs .place)
+  pub run-refused : FilePasses bs → (r < firstAnswerCode) ↔ (wordFault w ≡ 11)
+  pub run-number : FilePasses bs → r < firstAnswerCode → r ≡ 11
+  -- a record is named for 3 to 7 only
+  pub no-record : (r < 3) ⊎ (7 < r) → i ≡ 0
   -- from 100 on it is 110 exactly when there is an accepting path, and 111 exactly when there is none
   pub accepted-exactly : firstAnswerCode ≤ r → (r ≡ acceptedCode) ↔ Accepts (automatonOf bs) w
   pub turned-away-exactly : firstAnswerCode ≤ r → (r ≡ turnedAwayCode) ↔ TurnsAway (automatonOf bs) w
@@ -63,7 +77,8 @@ toldLength d = getD d 6 0
 abbrev pub toldRefused : List ℕ → ℕ
 toldRefused d = getD d 7 0
 
--- ---- checking: the number r, the details d and the buffer, old before and new after, that bolfrega_check gave for J rows and a budget of B joins
+-- ---- checking: the number r, the details d and the buffer, old before and new after, that bolfrega_check gave for J rows and a budget of
+-- B joins
 
 -- the number says whether the sheet accepts every run: it is no refusal, the rows have not run out, and the joins have not
 pub record Decided (r : ℕ) : Type 0 where
@@ -74,11 +89,14 @@ pub record Decided (r : ℕ) : Type 0 where
 module _ (bs : List ℕ) (J B : ℕ) (d old new : List ℕ) (r : ℕ) where
   -- below 100 the call was refused: the file's refusal, or else 8 for the rows
   pub record Refusing : Type 0 where
-    pub refused-exactly : (r < firstAnswerCode) ↔ ((fault bs .number ≡ 0 → ⊥) ⊎ ((J ≡ 0) ⊎ (journalLimit < J)))
-    pub file-refused : (fault bs .number ≡ 0 → ⊥) → (r ≡ fault bs .number) × (toldRecord d ≡ fault bs .place)
-    pub file-numbers : (fault bs .number ≡ 0 → ⊥) → (1 ≤ r) × (r ≤ 7)
-    pub rows-number : fault bs .number ≡ 0 → r < firstAnswerCode → r ≡ 8
-    pub no-record : fault bs .number ≡ 0 → toldRecord d ≡ 0
+    pub refused-exactly : (r < firstAnswerCode) ↔ (FileRefused bs ⊎ RowsRefused J)
+    pub file-refused : FileRefused bs → (r ≡ fault bs .number) × (toldRecord d ≡ fault bs .place)
+    pub file-numbers : FileRefused bs → (1 ≤ r) × (r ≤ 7)
+    -- else it is the rows
+    pub rows-number : FilePasses bs → r < firstAnswerCode → r ≡ 8
+    -- a record is named for 3 to 7 only
+    pub no-record : (r < 3) ⊎ (7 < r) → toldRecord d ≡ 0
+    -- the other details are 0
     pub rest-zero : r < firstAnswerCode → d ≡ toldRecord d ∷ 0 ∷ 0 ∷ 0 ∷ 0 ∷ 0 ∷ 0 ∷ 0 ∷ []
 
   -- the working order stops with this verdict, and the details tell of where it does
@@ -90,6 +108,7 @@ module _ (bs : List ℕ) (J B : ℕ) (d old new : List ℕ) (r : ℕ) where
     pub used-told : toldUsed d ≡ answer .used
     pub pass-told : toldPass d ≡ answer .pass
 
+  -- from 100 on it is a verdict
   pub record Verdicts : Type 0 where
     pub one-of-four : firstAnswerCode ≤ r → (r ≡ holdsCode) ⊎ ((r ≡ brokenCode) ⊎ ((r ≡ fullCode) ⊎ (r ≡ spentCode)))
     -- 100 exactly when the sheet accepts every run of the plan, and 101 exactly when it turns one away
@@ -103,6 +122,7 @@ module _ (bs : List ℕ) (J B : ℕ) (d old new : List ℕ) (r : ℕ) where
     pub spent-joins : r ≡ spentCode → toldJoins d ≡ B
     pub never-spent : length (rulesOf bs) * J * J * (J + 1) ≤ B → r ≡ spentCode → ⊥
 
+  -- the counts and the row
   pub record Details : Type 0 where
     pub eight : length d ≡ 8
     pub used-bound : toldUsed d ≤ J
@@ -111,7 +131,7 @@ module _ (bs : List ℕ) (J B : ℕ) (d old new : List ℕ) (r : ℕ) where
     -- an answer that is not broken has no row and shows no run; a broken one has the last row
     pub no-row : firstAnswerCode ≤ r → (r ≡ brokenCode → ⊥) → toldRow d ≡ absent
     pub no-run : (r ≡ brokenCode → ⊥) → (toldPairs d ≡ 0) × (toldLength d ≡ 0) × (toldRefused d ≡ 0)
-    pub last-row : r ≡ brokenCode → toldUsed d ≡ suc (toldRow d)
+    pub last-row : r ≡ brokenCode → suc (toldRow d) ≡ toldUsed d
     -- only a broken answer changes the buffer
     pub buffer-kept : (r ≡ brokenCode → ⊥) → new ≡ old
 
@@ -140,7 +160,8 @@ module _ (bs : List ℕ) (J B : ℕ) (d old new : List ℕ) (r : ℕ) where
 
   -- a call with more rows or a larger budget, and the same buffer, tells the same once the number is 100 or 101
   pub record Stays : Type 0 where
-    pub larger : (r ≡ holdsCode) ⊎ (r ≡ brokenCode) → (J′ B′ : ℕ) → J ≤ J′ → J′ ≤ journalLimit → B ≤ B′ → (d′ new′ : List ℕ) (r′ : ℕ) → ChecksZeros bs J′ B′ d′ old new′ r′ → (r′ ≡ r) × (d′ ≡ d) × (new′ ≡ new)
+    pub larger : (r ≡ holdsCode) ⊎ (r ≡ brokenCode) → (J′ B′ : ℕ) → J ≤ J′ → J′ ≤ journalLimit → B ≤ B′
+        → (d′ new′ : List ℕ) (r′ : ℕ) → ChecksZeros bs J′ B′ d′ old new′ r′ → (r′ ≡ r) × (d′ ≡ d) × (new′ ≡ new)
 
   pub record CheckTells : Type 0 where
     pub refusing : Refusing
@@ -157,4 +178,5 @@ pub record FileTells (bs : List ℕ) (r i : ℕ) : Type 0 where
   pub no-record : r < 3 → i ≡ 0
   -- where it is not 0, every judging and every check of the file is refused with the same number and the same record
   pub judging-same : (r ≡ 0 → ⊥) → (w : List ℕ) (r′ i′ : ℕ) → Judges bs w r′ i′ → (r′ ≡ r) × (i′ ≡ i)
-  pub checking-same : (r ≡ 0 → ⊥) → (J B : ℕ) (d old new : List ℕ) (r′ : ℕ) → ChecksZeros bs J B d old new r′ → (r′ ≡ r) × (toldRecord d ≡ i)
+  pub checking-same : (r ≡ 0 → ⊥) → (J B : ℕ) (d old new : List ℕ) (r′ : ℕ) → ChecksZeros bs J B d old new r′
+      → (r′ ≡ r) × (toldRecord d ≡ i)

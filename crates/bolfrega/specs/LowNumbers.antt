@@ -1,6 +1,7 @@
 -- The numbers that refuse: a file is refused with 1 to 7, with a record for 3 to 7 only, and every refusal's number is below those of the answers.
 -- Assumes nothing.
-use mathlib.Core.Path.{_≡_, refl}
+use mathlib.Core.Path.{_≡_, refl, _∙_, subst}
+use mathlib.Core.Logic.{_⊎_, inl, inr}
 use mathlib.Core.Bool.{Bool, true, false, not, _||_, cond}
 use mathlib.Core.List.{List}
 use Prim.Native.Nat.{ℕ, zero, suc, _≤_, _<_, _%_}
@@ -58,8 +59,15 @@ either-refusal false x y l m = m
 pub file-refusal : (bs : List ℕ) → FileRefusal (fault bs)
 unfolding fault
 file-refusal bs =
-    either-refusal (not (eqb (length bs % 8) 0)) (refuse 1 0) (cond (ltb recordLimit (recordCount bs)) (refuse 2 0) (faultFrom bs (recordCount bs) 0)) (record { number = omega arith; no-record = λ e. refl })
-    (either-refusal (ltb recordLimit (recordCount bs)) (refuse 2 0) (faultFrom bs (recordCount bs) 0) (record { number = omega arith; no-record = λ e. refl }) (from-refusal bs (recordCount bs) 0))
+    let records = faultFrom bs (recordCount bs) 0 in
+    let many = ltb recordLimit (recordCount bs) in
+    either-refusal (not (eqb (length bs % 8) 0)) (refuse 1 0) (cond many (refuse 2 0) records) (record { number = omega arith; no-record = λ e. refl })
+    (either-refusal many (refuse 2 0) records (record { number = omega arith; no-record = λ e. refl }) (from-refusal bs (recordCount bs) 0))
+
+-- so a call that the file refuses names a record for 3 to 7 only
+pub record-none : (bs : List ℕ) (r i : ℕ) → r ≡ fault bs .number → i ≡ fault bs .place → (r < 3) ⊎ (7 < r) → i ≡ 0
+record-none bs r i e q (inl l) = q ∙ file-refusal bs .no-record (subst (λ (n : ℕ). n < 3) e l)
+record-none bs r i e q (inr l) = absurd (let z : ⊥ = omega (arith, e, l, file-refusal bs .number) in z)
 
 -- ---- a reply
 

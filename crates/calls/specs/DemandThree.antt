@@ -58,6 +58,9 @@ module _ (bs : List ℕ) where
     -- 65,535 unless broken, and then the last used row
     pub no-row : (a .verdict ≡ broken → ⊥) → a .row ≡ absent
     pub last-row : a .verdict ≡ broken → suc (a .row) ≡ a .used
+    -- "full" has used all rows, and "spent" has made all joins of the budget
+    pub all-rows : a .verdict ≡ full → a .used ≡ J
+    pub all-joins : a .verdict ≡ spent → a .joins ≡ B
     pub used-rows : a .used ≡ length (a .journal)
     pub rows-bound : a .used ≤ J
     pub pass-bound : a .pass ≤ J + 1

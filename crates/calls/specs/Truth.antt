@@ -148,6 +148,8 @@ module _ (bs : List ℕ) (v : fault bs .number ≡ 0) (J B : ℕ) where
         record {
           no-row = rowless (orderOn bs J B .verdict) refl;
           last-row = exact broken;
+          all-rows = λ e. exact full e .0;
+          all-joins = λ e. exact spent e .0;
           used-rows = counts .used-is;
           rows-bound = counts .rows-bound;
           pass-bound = omega (arith, counts .pass-bound);

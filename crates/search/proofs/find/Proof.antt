@@ -1,4 +1,4 @@
--- The first row that covers a candidate: the row that covered last is read for `deciding::look_first`, and each turn of the loop reads the row that is looked at and hands it to
+-- A row that covers a candidate, if there is one: the row that covered last is read for `deciding::look_first`, and each turn of the loop reads the row that is looked at and hands it to
 -- `deciding::look_on`. The journal and the table are only read.
 -- The loop's variable is where looking stands.
 -- Assumes nothing.

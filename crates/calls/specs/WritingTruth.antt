@@ -12,7 +12,7 @@ use lib.ListN.{length, getD, drop, length-append, length-drop}
 use lib.Seq.{take-at}
 use borrow.Author.Tests.{eqb-true, leb-true, leb-false, ltb-true, ltb-false, lt-ltb, le-ltb}
 use Rattle.basics.specs.Lists.{getD-in}
-use Rattle.basics.specs.Tests.{and-intro, and-fst, and-snd, or-left, or-right, or-neither, not-fails}
+use Rattle.basics.specs.Tests.{and-intro, and-fst, and-snd, or-neither, not-fails}
 use Rattle.relation.specs.Relation.{states}
 use Rattle.language.specs.Grammar.{Symbol, terminal, nonterminal, Body, empty, one, two, symbols, Rule, noRule}
 use Rattle.language.specs.Rewriting.{Language}

@@ -1,6 +1,6 @@
 -- The reader's step, the stretch and run writing, computed on the files of the P cases. Assumes nothing.
 use mathlib.Core.Path.{_≡_, refl}
-use mathlib.Core.List.{List, [], _∷_}
+use mathlib.Core.List.{List, [], _∷_, map}
 use Prim.Native.Nat.{ℕ}
 use Rattle.relation.specs.Digits.{bit, number, some, subset}
 use Rattle.relation.specs.Relation.{has, table, identity, compose, rejects}
@@ -44,20 +44,110 @@ pub journalB : List (Row ℕ)
 unfolding planB sheetS orderOn rulesOf transitionsOf finalsOf collect check passes onePass walk consider decide added retire larger dropped answer born passCandidates bodyCandidates choices bare sole paired liveRows live liveOf capped letterRelation moves isFinal rejects compose identity table has some number subset bit
 journalB = orderOn (planB sheetS) 1024 1000000 .journal
 
-pub write : List (Row ℕ) → ℕ → ℕ → ℕ → Reply ℕ
-unfolding planB sheetS writeOf wordOf rowFault roomFault journalFault fault faultFrom faultAt faultBy kindKnown aboveRange strayByte risesFrom exceeds overLimit countOf rulesOf transitionsOf collect rowsFit rowFits bodyFits pointerFits symbolLen capped wordBehind wordsOf wordsFrom rowWord bodyWord symbolWord
-write rows used i room = writeOf (planB sheetS) rows used i room
+pub writeOn : List ℕ → List (Row ℕ) → ℕ → ℕ → ℕ → Reply ℕ
+unfolding writeOf wordOf rowFault roomFault journalFault fault faultFrom faultAt faultBy kindKnown aboveRange strayByte risesFrom exceeds overLimit countOf rulesOf transitionsOf collect rowsFit rowFits bodyFits pointerFits symbolLen capped wordBehind wordsOf wordsFrom rowWord bodyWord symbolWord
+writeOn bs rows used i room = writeOf bs rows used i room
 
--- the shown run of plan B; 10 for a short buffer, 9 past the used rows, past the journal and for a row that does not fit, 8 for no row
+pub write : List (Row ℕ) → ℕ → ℕ → ℕ → Reply ℕ
+unfolding writeOn planB sheetS
+write rows used i room = writeOn (planB sheetS) rows used i room
+
+-- the shown run of plan B, also where the buffer has just its bytes; 10 for a shorter one; 9 past the used rows and for more of them than
+-- the journal has; 8 for no row, before 9
 pub writes : (write journalB 7 6 4 ≡ answered 2)
+    × (write journalB 7 6 2 ≡ answered 2)
     × (write journalB 7 6 1 ≡ refused (refuse 10 0))
-    × (write journalB 3 3 4 ≡ refused (refuse 9 0))
+    × (write journalB 6 6 4 ≡ refused (refuse 9 0))
     × (write journalB 8 6 4 ≡ refused (refuse 9 0))
     × (write [] 0 0 4 ≡ refused (refuse 8 0))
 unfolding write journalB
-writes = (refl, refl, refl, refl, refl)
+writes = (refl, refl, refl, refl, refl, refl)
 
 -- the run, and then the old bytes; the old bytes whole on a refusal
 pub buffers : (bufferAfter (planB sheetS) journalB 7 6 (9 ∷ 9 ∷ 9 ∷ []) ≡ 1 ∷ 3 ∷ 9 ∷ []) × (bufferAfter (planB sheetS) journalB 7 6 (9 ∷ []) ≡ 9 ∷ [])
 unfolding bufferAfter write journalB
 buffers = (refl, refl)
+
+-- ---- rows of plan B, without their effects
+
+-- procedure, rule, left, right, length, birth pass, retirement pass
+abbrev pub row : ℕ → ℕ → ℕ → ℕ → ℕ → ℕ → ℕ → Row ℕ
+row x r i j n p q = record { head = x; rule = r; effect = 0; left = i; right = j; len = n; birth = p; retired = q }
+
+abbrev pub bare-row : Row ℕ → Row ℕ
+bare-row r = row (r .head) (r .rule) (r .left) (r .right) (r .len) (r .birth) (r .retired)
+
+-- the runs behind them: nothing; 3; nothing; 2; 1; 1 2; 1 3
+pub rowsB : map bare-row journalB
+    ≡ row 1 1 65535 65535 0 1 3
+    ∷ row 0 0 0 65535 1 2 4
+    ∷ row 2 3 0 65535 0 2 0
+    ∷ row 2 4 65535 0 1 2 0
+    ∷ row 1 2 65535 2 1 3 0
+    ∷ row 1 2 65535 3 2 3 0
+    ∷ row 0 0 4 65535 2 4 0
+    ∷ []
+unfolding journalB
+rowsB = refl
+
+-- ---- 9 for a row that does not fit, whatever its effect and its passes
+
+-- procedure, rule, left, right, length
+abbrev pub entered : ℕ → ℕ → ℕ → ℕ → ℕ → Row ℕ
+entered x r i j n = row x r i j n 0 0
+
+-- 1 gives nothing; 2 gives (procedure 1), by row 0; 1 gives 1 (procedure 2), by row 1; and then a row
+abbrev pub four : Row ℕ → List (Row ℕ)
+four r = entered 1 1 65535 65535 0 ∷ entered 2 3 0 65535 0 ∷ entered 1 2 65535 1 1 ∷ r ∷ []
+
+-- that row fits, and its run has n steps
+abbrev pub fits : Row ℕ → ℕ → Type 0
+fits r n = write (four r) 4 3 9 ≡ answered n
+
+abbrev pub unfit : Row ℕ → Type 0
+unfit r = write (four r) 4 3 9 ≡ refused (refuse 9 0)
+
+-- one row that fits for each rule
+pub fitting-rows : fits (entered 0 0 2 65535 2) 2 × fits (entered 1 1 65535 65535 0) 0 × fits (entered 1 2 65535 1 1) 1 × fits (entered 2 3 2 65535 1) 1 × fits (entered 2 4 65535 2 2) 2
+unfolding write
+fitting-rows = (refl, refl, refl, refl, refl)
+
+-- the rule is another procedure's; it is not in the file
+pub unfit-rules : unfit (entered 1 0 2 65535 2) × unfit (entered 0 5 65535 65535 0)
+unfolding write
+unfit-rules = (refl, refl)
+
+-- pointers that are not 65,535: the first and the second one of an empty body; of a step code that stands first and that stands second; the
+-- second one of a sole symbol
+pub unfit-absent : unfit (entered 1 1 0 65535 0) × unfit (entered 1 1 65535 0 0) × unfit (entered 1 2 0 1 1) × unfit (entered 0 0 2 0 2) × unfit (entered 2 3 2 0 1)
+unfolding write
+unfit-absent = (refl, refl, refl, refl, refl)
+
+-- pointers of a procedure symbol, which stands alone, first and second: to a row of another procedure; 65,535
+pub unfit-pointers : unfit (entered 2 3 1 65535 0) × unfit (entered 0 0 1 65535 1) × unfit (entered 2 4 65535 1 1)
+    × unfit (entered 2 3 65535 65535 0)
+    × unfit (entered 0 0 65535 65535 1)
+    × unfit (entered 2 4 65535 65535 1)
+unfolding write
+unfit-pointers = (refl, refl, refl, refl, refl, refl)
+
+-- a length that is not the sum: one less and one more, of two symbols, of one, and of none
+pub unfit-lengths : unfit (entered 0 0 2 65535 1) × unfit (entered 0 0 2 65535 3)
+    × unfit (entered 2 3 2 65535 0)
+    × unfit (entered 2 3 2 65535 2)
+    × unfit (entered 1 1 65535 65535 1)
+unfolding write
+unfit-lengths = (refl, refl, refl, refl, refl)
+
+-- a pointer to a younger row, and to the row itself, of the file "0 gives (procedure 0)"
+pub unfit-older : (write (entered 1 1 65535 65535 0 ∷ entered 1 2 65535 2 1 ∷ entered 2 3 0 65535 0 ∷ []) 3 1 9 ≡ refused (refuse 9 0))
+    × (writeOn (entry 1 0 1 128 0 []) (entered 0 0 0 65535 0 ∷ []) 1 0 9 ≡ refused (refuse 9 0))
+unfolding write writeOn
+unfit-older = (refl, refl)
+
+-- an older row that does not fit refuses, though nothing points to it; a younger one does not; 9 comes before 10
+pub unfit-others : (write (entered 9 1 65535 65535 0 ∷ entered 1 1 65535 65535 0 ∷ []) 2 1 9 ≡ refused (refuse 9 0))
+    × (write (entered 1 1 65535 65535 0 ∷ entered 9 1 65535 65535 0 ∷ []) 2 0 9 ≡ answered 0)
+    × (write (four (entered 0 0 2 0 2)) 4 3 0 ≡ refused (refuse 9 0))
+unfolding write
+unfit-others = (refl, refl, refl)

@@ -12,3 +12,4 @@ pub mod JournalTruth
 pub mod JudgingTruth
 pub mod Cases
 pub mod Examples
+pub mod Pins

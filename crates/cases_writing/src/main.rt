@@ -218,8 +218,37 @@ fn ask(file: &[u8], place: usize, row: Row, asked: Asked) {
     print_outcome(writing, &buffer);
 }
 
-// The row at the place with one field replaced.
-fn damage(file: &[u8], place: usize, field: u64, x: u64, asked: Asked) {
+// ---- tables of cases
+
+// The journal as the check left it: row 0 is stored where it stood.
+fn sound(file: &[u8], asked: Asked) {
+    ask(file, 0, row_at(file, asked.lent, 0), asked);
+}
+
+// Each case: rows lent, rows used, the row that is named, bytes of the buffer.
+fn sounds(file: &[u8], cases: &[[usize; 4]]) {
+    let mut i: usize = 0;
+    while i < cases.len() {
+        sound(file, asked_in(cases[i]));
+        i += 1;
+    }
+}
+
+fn asked_in(case: [usize; 4]) -> Asked {
+    Asked {
+        lent: case[0],
+        used: case[1],
+        named: case[2],
+        room: case[3],
+    }
+}
+
+// The row at a place with one field replaced.
+fn damage(file: &[u8], case: [u64; 4], lent: usize, used: usize, room: usize) {
+    let place = case[0] as usize;
+    let field = case[1];
+    let x = case[2];
+    let asked = asked_in([lent, used, case[3] as usize, room]);
     print(b"row ");
     print_number(place as u64);
     print(b" with ");
@@ -229,9 +258,31 @@ fn damage(file: &[u8], place: usize, field: u64, x: u64, asked: Asked) {
     ask(
         file,
         place,
-        with(row_at(file, asked.lent, place), field, x),
+        with(row_at(file, lent, place), field, x),
         asked,
     );
+}
+
+// Each case: the place, the field, what is stored there, and the row that is named.
+fn damages(file: &[u8], cases: &[[u64; 4]], lent: usize, used: usize, room: usize) {
+    let mut i: usize = 0;
+    while i < cases.len() {
+        damage(file, cases[i], lent, used, room);
+        i += 1;
+    }
+}
+
+// Another row at place 2: procedure, rule, left, right, length, and the row that is named.
+fn replace(file: &[u8], case: [u64; 6]) {
+    print(b"row 2 as");
+    print_next(case[0]);
+    print_next(case[1]);
+    print_next(case[2]);
+    print_next(case[3]);
+    print_next(case[4]);
+    print(b", ");
+    let row = entered(case[0], case[1], case[2], case[3], case[4]);
+    ask(file, 2, row, asked_in([16, 8, case[5] as usize, 8]));
 }
 
 fn print_next(x: u64) {
@@ -239,148 +290,137 @@ fn print_next(x: u64) {
     print_number(x);
 }
 
-// Another row at the place: procedure, rule, left, right, length.
-fn replace(file: &[u8], place: usize, row: Row, asked: Asked) {
-    print(b"row ");
-    print_number(place as u64);
-    print(b" as");
-    print_next(row.head);
-    print_next(row.rule);
-    print_next(row.left);
-    print_next(row.right);
-    print_next(row.len);
-    print(b", ");
-    ask(file, place, row, asked);
-}
-
-// No row damaged: row 0 is stored where it stood.
-fn sound(file: &[u8], asked: Asked) {
-    ask(file, 0, row_at(file, asked.lent, 0), asked);
+fn replaces(file: &[u8], cases: &[[u64; 6]]) {
+    let mut i: usize = 0;
+    while i < cases.len() {
+        replace(file, cases[i]);
+        i += 1;
+    }
 }
 
 // ---- plan B with sheet S: 7 rows
 
-fn seven(named: usize) -> Asked {
-    Asked {
-        lent: 16,
-        used: 7,
-        named,
-        room: 8,
-    }
-}
-
-fn counts(lent: usize, used: usize, named: usize, room: usize) -> Asked {
-    Asked {
-        lent,
-        used,
-        named,
-        room,
-    }
-}
-
 // Each row, from the journal as the check left it.
 fn plan_b_rows(file: &[u8]) {
     print(b"plan B, rows\n");
-    sound(file, seven(0));
-    sound(file, seven(1));
-    sound(file, seven(2));
-    sound(file, seven(3));
-    sound(file, seven(4));
-    sound(file, seven(5));
-    sound(file, seven(6));
+    let cases = [
+        [16, 7, 0, 8],
+        [16, 7, 1, 8],
+        [16, 7, 2, 8],
+        [16, 7, 3, 8],
+        [16, 7, 4, 8],
+        [16, 7, 5, 8],
+        [16, 7, 6, 8],
+    ];
+    sounds(file, &cases);
 }
 
 // 8; 9 by the counts; rows past those that the check used, which all are as row 0.
 fn plan_b_counts(file: &[u8]) {
     print(b"plan B, counts\n");
-    sound(file, counts(0, 0, 0, 8));
-    sound(file, counts(4097, 7, 6, 8));
-    sound(file, counts(4096, 7, 6, 8));
-    sound(file, counts(7, 7, 6, 8));
-    sound(file, counts(7, 8, 6, 8));
-    sound(file, counts(7, 7, 7, 8));
-    sound(file, counts(7, 6, 6, 8));
-    sound(file, counts(7, 6, 5, 8));
-    sound(file, counts(7, 0, 0, 8));
-    sound(file, counts(16, 16, 6, 8));
-    sound(file, counts(16, 17, 6, 8));
-    sound(file, counts(16, 16, 15, 8));
-    sound(file, counts(16, usize::MAX, 6, 8));
-    sound(file, counts(16, usize::MAX, usize::MAX, 8));
+    let cases = [
+        [0, 0, 0, 8],
+        [4097, 7, 6, 8],
+        [4096, 7, 6, 8],
+        [7, 7, 6, 8],
+        [7, 8, 6, 8],
+        [7, 7, 7, 8],
+        [7, 6, 6, 8],
+        [7, 6, 5, 8],
+        [7, 0, 0, 8],
+        [16, 16, 6, 8],
+        [16, 17, 6, 8],
+        [16, 16, 15, 8],
+        [16, usize::MAX, 6, 8],
+        [16, usize::MAX, usize::MAX, 8],
+    ];
+    sounds(file, &cases);
 }
 
 // 10: buffers that the run just fills, and shorter ones.
 fn plan_b_rooms(file: &[u8]) {
     print(b"plan B, buffers\n");
-    sound(file, counts(16, 7, 6, 2));
-    sound(file, counts(16, 7, 6, 1));
-    sound(file, counts(16, 7, 6, 0));
-    sound(file, counts(16, 7, 4, 1));
-    sound(file, counts(16, 7, 4, 0));
-    sound(file, counts(16, 7, 0, 0));
+    let cases = [
+        [16, 7, 6, 2],
+        [16, 7, 6, 1],
+        [16, 7, 6, 0],
+        [16, 7, 4, 1],
+        [16, 7, 4, 0],
+        [16, 7, 0, 0],
+    ];
+    sounds(file, &cases);
 }
 
 // Row 6: 0 gives (procedure 1) 3, by row 4.
 fn plan_b_last(file: &[u8]) {
     print(b"plan B, row 6 damaged\n");
-    damage(file, 6, PROCEDURE, 1, seven(6));
-    damage(file, 6, PROCEDURE, 256, seven(6));
-    damage(file, 6, RULE, 1, seven(6));
-    damage(file, 6, RULE, 5, seven(6));
-    damage(file, 6, RULE, 256, seven(6));
-    damage(file, 6, RULE, u64::MAX, seven(6));
-    damage(file, 6, LEFT, 0, seven(6));
-    damage(file, 6, LEFT, 3, seven(6));
-    damage(file, 6, LEFT, 5, seven(6));
-    damage(file, 6, LEFT, 6, seven(6));
-    damage(file, 6, LEFT, 7, seven(6));
-    damage(file, 6, LEFT, ABSENT, seven(6));
-    damage(file, 6, RIGHT, 0, seven(6));
-    damage(file, 6, RIGHT, 65534, seven(6));
-    damage(file, 6, RIGHT, 65536, seven(6));
-    damage(file, 6, LENGTH, 1, seven(6));
-    damage(file, 6, LENGTH, 3, seven(6));
-    damage(file, 6, LENGTH, ABSENT, seven(6));
+    let cases = [
+        [6, PROCEDURE, 1, 6],
+        [6, PROCEDURE, 256, 6],
+        [6, RULE, 1, 6],
+        [6, RULE, 5, 6],
+        [6, RULE, 256, 6],
+        [6, RULE, u64::MAX, 6],
+        [6, LEFT, 0, 6],
+        [6, LEFT, 3, 6],
+        [6, LEFT, 5, 6],
+        [6, LEFT, 6, 6],
+        [6, LEFT, 7, 6],
+        [6, LEFT, ABSENT, 6],
+        [6, RIGHT, 0, 6],
+        [6, RIGHT, 65534, 6],
+        [6, RIGHT, 65536, 6],
+        [6, LENGTH, 1, 6],
+        [6, LENGTH, 3, 6],
+        [6, LENGTH, ABSENT, 6],
+    ];
+    damages(file, &cases, 16, 7, 8);
 }
 
 // The other bodies. Row 0: 1 gives nothing. Row 2: 2 gives (procedure 1), by row 0. Row 4: 1 gives 1 (procedure 2), by row 2.
 fn plan_b_bodies(file: &[u8]) {
     print(b"plan B, other bodies damaged\n");
-    damage(file, 0, LEFT, 0, seven(0));
-    damage(file, 0, RIGHT, 0, seven(0));
-    damage(file, 0, LENGTH, 1, seven(0));
-    damage(file, 2, PROCEDURE, 1, seven(2));
-    damage(file, 2, LEFT, 1, seven(2));
-    damage(file, 2, LEFT, 2, seven(2));
-    damage(file, 2, LEFT, 4, seven(2));
-    damage(file, 2, RIGHT, 0, seven(2));
-    damage(file, 2, LENGTH, 1, seven(2));
-    damage(file, 4, LEFT, 0, seven(4));
-    damage(file, 4, LEFT, 2, seven(4));
-    damage(file, 4, RIGHT, 0, seven(4));
-    damage(file, 4, RIGHT, 3, seven(4));
-    damage(file, 4, RIGHT, ABSENT, seven(4));
-    damage(file, 4, LENGTH, 0, seven(4));
+    let cases = [
+        [0, LEFT, 0, 0],
+        [0, RIGHT, 0, 0],
+        [0, LENGTH, 1, 0],
+        [2, PROCEDURE, 1, 2],
+        [2, LEFT, 1, 2],
+        [2, LEFT, 2, 2],
+        [2, LEFT, 4, 2],
+        [2, RIGHT, 0, 2],
+        [2, LENGTH, 1, 2],
+        [4, LEFT, 0, 4],
+        [4, LEFT, 2, 4],
+        [4, RIGHT, 0, 4],
+        [4, RIGHT, 3, 4],
+        [4, RIGHT, ABSENT, 4],
+        [4, LENGTH, 0, 4],
+    ];
+    damages(file, &cases, 16, 7, 8);
 }
 
-// Older rows count, also those to which none points; younger ones, effects and passes do not. 9 comes before 10.
+// Older rows count, also those to which none points; younger ones, effects and passes do not. 8 comes before 9, and 9 before 10.
 fn plan_b_others(file: &[u8]) {
     print(b"plan B, other rows, fields and numbers\n");
-    damage(file, 0, LENGTH, 1, seven(6));
-    damage(file, 3, PROCEDURE, 1, seven(6));
-    damage(file, 3, PROCEDURE, 1, seven(3));
-    damage(file, 3, PROCEDURE, 1, seven(2));
-    damage(file, 6, PROCEDURE, 1, seven(5));
-    damage(file, 9, PROCEDURE, 1, seven(6));
-    damage(file, 16, PROCEDURE, 1, seven(6));
-    damage(file, 6, EFFECT, u64::MAX, seven(6));
-    damage(file, 4, EFFECT, 0, seven(6));
-    damage(file, 6, BIRTH, 0, seven(6));
-    damage(file, 6, RETIRED, 1, seven(6));
-    damage(file, 4, RETIRED, 1, seven(6));
-    damage(file, 6, RIGHT, 0, counts(16, 7, 6, 0));
-    damage(file, 6, LENGTH, 3, counts(16, 7, 6, 2));
-    damage(file, 6, RIGHT, 0, counts(0, 7, 6, 0));
+    let cases = [
+        [0, LENGTH, 1, 6],
+        [3, PROCEDURE, 1, 6],
+        [3, PROCEDURE, 1, 3],
+        [3, PROCEDURE, 1, 2],
+        [6, PROCEDURE, 1, 5],
+        [9, PROCEDURE, 1, 6],
+        [16, PROCEDURE, 1, 6],
+        [6, EFFECT, u64::MAX, 6],
+        [4, EFFECT, 0, 6],
+        [6, BIRTH, 0, 6],
+        [6, RETIRED, 1, 6],
+        [4, RETIRED, 1, 6],
+    ];
+    damages(file, &cases, 16, 7, 8);
+    damage(file, [6, RIGHT, 0, 6], 16, 7, 0);
+    damage(file, [6, LENGTH, 3, 6], 16, 7, 2);
+    damage(file, [6, RIGHT, 0, 6], 0, 7, 0);
 }
 
 fn over_plan_b(file: &[u8; HELD]) {
@@ -400,8 +440,8 @@ fn plan_b() {
 }
 
 // The first n bytes.
-fn sound_front(file: &[u8; HELD], n: usize, asked: Asked) {
-    sound(front(file, n), asked);
+fn sound_front(file: &[u8; HELD], n: usize, case: [usize; 4]) {
+    sound(front(file, n), asked_in(case));
 }
 
 // Refused files: their own number comes first.
@@ -409,10 +449,10 @@ fn refused_files() {
     let mut file = [0u8; HELD];
     sample(&mut file);
     print(b"plan B, refused\n");
-    sound_front(&file, 71, counts(0, 7, 6, 0));
+    sound_front(&file, 71, [0, 7, 6, 0]);
     put(&mut file, 4, [4, 0, 0, 0, 0, 0, 0, 0]);
-    sound_front(&file, SAMPLE, counts(16, 7, 6, 8));
-    sound_front(&file, SAMPLE, counts(0, 7, 7, 0));
+    sound_front(&file, SAMPLE, [16, 7, 6, 8]);
+    sound_front(&file, SAMPLE, [0, 7, 7, 0]);
 }
 
 // ---- rotations: 0 gives nothing, 5, (procedure 0), or (procedure 0) (procedure 0); 5 turns eight stages. The run of row i is i times 5
@@ -438,39 +478,33 @@ fn put_rotations(file: &mut [u8; HELD]) {
     }
 }
 
-fn eight(named: usize) -> Asked {
-    counts(16, 8, named, 8)
-}
-
-// Rows that fit but for one pointer: to the row itself, to a younger row, to one that is not used.
-fn rotated_pointers(file: &[u8]) {
-    print(b"rotations, row 2 replaced\n");
-    replace(file, 2, entered(0, 2, 1, ABSENT, 1), eight(2));
-    replace(file, 2, entered(0, 2, 2, ABSENT, 1), eight(2));
-    replace(file, 2, entered(0, 2, 3, ABSENT, 3), eight(2));
-    replace(file, 2, entered(0, 2, 15, ABSENT, 1), eight(2));
-    replace(file, 2, entered(0, 2, 1, 0, 1), eight(2));
-    replace(file, 2, entered(0, 3, 1, 0, 1), eight(2));
-    replace(file, 2, entered(0, 3, 2, 0, 2), eight(2));
-    replace(file, 2, entered(0, 3, 0, 2, 2), eight(2));
-    replace(file, 2, entered(0, 3, 3, 0, 3), eight(2));
-    replace(file, 2, entered(0, 3, 0, 3, 3), eight(2));
-    replace(file, 2, entered(0, 3, 1, 1, 2), eight(7));
-    replace(file, 2, entered(0, 3, 0, 1, 1), eight(2));
-    replace(file, 2, entered(0, 3, 0, 1, 1), eight(3));
-    replace(file, 2, entered(0, 1, ABSENT, ABSENT, 1), eight(2));
-    replace(file, 2, entered(0, 1, 1, ABSENT, 1), eight(2));
-    replace(file, 2, entered(0, 1, ABSENT, 1, 1), eight(2));
-    replace(file, 2, entered(0, 1, ABSENT, ABSENT, 2), eight(2));
-}
-
+// The last row; and rows that fit, or would but for one pointer: to the row itself, to a younger row, to one that is not used.
 fn over_rotations(file: &[u8; HELD]) {
     let whole = front(file, 160);
     print(b"rotations, rows\n");
-    sound(whole, eight(7));
-    sound(whole, counts(16, 8, 7, 7));
-    sound(whole, counts(16, 8, 7, 6));
-    rotated_pointers(whole);
+    let rows = [[16, 8, 7, 8], [16, 8, 7, 7], [16, 8, 7, 6]];
+    sounds(whole, &rows);
+    print(b"rotations, row 2 replaced\n");
+    let cases = [
+        [0, 2, 1, ABSENT, 1, 2],
+        [0, 2, 2, ABSENT, 1, 2],
+        [0, 2, 3, ABSENT, 3, 2],
+        [0, 2, 15, ABSENT, 1, 2],
+        [0, 2, 1, 0, 1, 2],
+        [0, 3, 1, 0, 1, 2],
+        [0, 3, 2, 0, 2, 2],
+        [0, 3, 0, 2, 2, 2],
+        [0, 3, 3, 0, 3, 2],
+        [0, 3, 0, 3, 3, 2],
+        [0, 3, 1, 1, 2, 7],
+        [0, 3, 0, 1, 1, 2],
+        [0, 3, 0, 1, 1, 3],
+        [0, 1, ABSENT, ABSENT, 1, 2],
+        [0, 1, 1, ABSENT, 1, 2],
+        [0, 1, ABSENT, 1, 1, 2],
+        [0, 1, ABSENT, ABSENT, 2, 2],
+    ];
+    replaces(whole, &cases);
 }
 
 fn rotations() {
@@ -479,7 +513,7 @@ fn rotations() {
     over_rotations(&file);
 }
 
-// ---- long runs: row i is of procedure 31 - i. An even row has twice the steps of the one before it and one more, an odd one twice as many:
+// ---- long runs: row i is of procedure 31 - i. An odd row has twice the steps of the one before it, an even one one step more than that:
 // row 29 has 65,534 steps, row 30 one more, and row 31 131,070, which is capped
 
 // The rule of procedure i.
@@ -503,24 +537,26 @@ fn put_doublings(file: &mut [u8; HELD]) {
     }
 }
 
-fn long(named: usize, room: usize) -> Asked {
-    counts(64, 32, named, room)
-}
-
 fn over_doublings(file: &[u8; HELD]) {
     let whole = front(file, 256);
     print(b"long runs\n");
-    sound(whole, long(4, 8));
-    sound(whole, long(29, 65534));
-    sound(whole, long(29, 65533));
-    sound(whole, long(29, BUFFER));
-    sound(whole, long(30, BUFFER));
-    sound(whole, long(31, BUFFER));
-    damage(whole, 29, LENGTH, 65533, long(29, BUFFER));
-    damage(whole, 30, LENGTH, 65534, long(30, BUFFER));
-    damage(whole, 30, LENGTH, 65536, long(30, BUFFER));
-    damage(whole, 31, LENGTH, 65534, long(31, BUFFER));
-    damage(whole, 31, LENGTH, 131070, long(31, BUFFER));
+    let rows = [
+        [64, 32, 4, 8],
+        [64, 32, 29, 65534],
+        [64, 32, 29, 65533],
+        [64, 32, 29, 65536],
+        [64, 32, 30, 65536],
+        [64, 32, 31, 65536],
+    ];
+    sounds(whole, &rows);
+    let cases = [
+        [29, LENGTH, 65533, 29],
+        [30, LENGTH, 65534, 30],
+        [30, LENGTH, 65536, 30],
+        [31, LENGTH, 65534, 31],
+        [31, LENGTH, 131070, 31],
+    ];
+    damages(whole, &cases, 64, 32, BUFFER);
 }
 
 fn doublings() {

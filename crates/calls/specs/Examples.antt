@@ -52,13 +52,16 @@ pub write : List (Row ℕ) → ℕ → ℕ → ℕ → Reply ℕ
 unfolding writeOn planB sheetS
 write rows used i room = writeOn (planB sheetS) rows used i room
 
--- the shown run of plan B, also where the buffer has just its bytes; 10 for a shorter one; 9 past the used rows and for more of them than
--- the journal has; 8 for no row, before 9
-pub writes : (write journalB 7 6 4 ≡ answered 2)
+pub writes :
+    -- the shown run of plan B, also where the buffer has just its bytes
+    (write journalB 7 6 4 ≡ answered 2)
     × (write journalB 7 6 2 ≡ answered 2)
+    -- 10 for a shorter one
     × (write journalB 7 6 1 ≡ refused (refuse 10 0))
+    -- 9 past the used rows, and for more of them than the journal has
     × (write journalB 6 6 4 ≡ refused (refuse 9 0))
     × (write journalB 8 6 4 ≡ refused (refuse 9 0))
+    -- 8 for no row, before 9
     × (write [] 0 0 4 ≡ refused (refuse 8 0))
 unfolding write journalB
 writes = (refl, refl, refl, refl, refl, refl)
@@ -107,47 +110,83 @@ fits r n = write (four r) 4 3 9 ≡ answered n
 abbrev pub unfit : Row ℕ → Type 0
 unfit r = write (four r) 4 3 9 ≡ refused (refuse 9 0)
 
--- one row that fits for each rule
-pub fitting-rows : fits (entered 0 0 2 65535 2) 2 × fits (entered 1 1 65535 65535 0) 0 × fits (entered 1 2 65535 1 1) 1 × fits (entered 2 3 2 65535 1) 1 × fits (entered 2 4 65535 2 2) 2
+-- one that fits for each rule
+pub fitting-rows :
+    -- 0 gives (procedure 1) 3
+    fits (entered 0 0 2 65535 2) 2
+    -- 1 gives nothing
+    × fits (entered 1 1 65535 65535 0) 0
+    -- 1 gives 1 (procedure 2)
+    × fits (entered 1 2 65535 1 1) 1
+    -- 2 gives (procedure 1)
+    × fits (entered 2 3 2 65535 1) 1
+    -- 2 gives 2 (procedure 1)
+    × fits (entered 2 4 65535 2 2) 2
 unfolding write
 fitting-rows = (refl, refl, refl, refl, refl)
 
--- the rule is another procedure's; it is not in the file
-pub unfit-rules : unfit (entered 1 0 2 65535 2) × unfit (entered 0 5 65535 65535 0)
+pub unfit-rules :
+    -- another procedure's rule
+    unfit (entered 1 0 2 65535 2)
+    -- one that is not in the file
+    × unfit (entered 0 5 65535 65535 0)
 unfolding write
 unfit-rules = (refl, refl)
 
--- pointers that are not 65,535: the first and the second one of an empty body; of a step code that stands first and that stands second; the
--- second one of a sole symbol
-pub unfit-absent : unfit (entered 1 1 0 65535 0) × unfit (entered 1 1 65535 0 0) × unfit (entered 1 2 0 1 1) × unfit (entered 0 0 2 0 2) × unfit (entered 2 3 2 0 1)
+-- a pointer that is to be 65,535, and is not
+pub unfit-absent :
+    -- of an empty body
+    unfit (entered 1 1 0 65535 0)
+    × unfit (entered 1 1 65535 0 0)
+    -- of a step code, first and second
+    × unfit (entered 1 2 0 1 1)
+    × unfit (entered 0 0 2 0 2)
+    -- the second one of a sole symbol
+    × unfit (entered 2 3 2 0 1)
 unfolding write
 unfit-absent = (refl, refl, refl, refl, refl)
 
--- pointers of a procedure symbol, which stands alone, first and second: to a row of another procedure; 65,535
-pub unfit-pointers : unfit (entered 2 3 1 65535 0) × unfit (entered 0 0 1 65535 1) × unfit (entered 2 4 65535 1 1)
+-- the pointer of a procedure symbol that stands alone, first and second
+pub unfit-pointers :
+    -- to a row of another procedure
+    unfit (entered 2 3 1 65535 0)
+    × unfit (entered 0 0 1 65535 1)
+    × unfit (entered 2 4 65535 1 1)
+    -- 65,535
     × unfit (entered 2 3 65535 65535 0)
     × unfit (entered 0 0 65535 65535 1)
     × unfit (entered 2 4 65535 65535 1)
 unfolding write
 unfit-pointers = (refl, refl, refl, refl, refl, refl)
 
--- a length that is not the sum: one less and one more, of two symbols, of one, and of none
-pub unfit-lengths : unfit (entered 0 0 2 65535 1) × unfit (entered 0 0 2 65535 3)
+-- a length that is not the sum
+pub unfit-lengths :
+    -- of two symbols
+    unfit (entered 0 0 2 65535 1)
+    × unfit (entered 0 0 2 65535 3)
+    -- of one
     × unfit (entered 2 3 2 65535 0)
     × unfit (entered 2 3 2 65535 2)
+    -- of none
     × unfit (entered 1 1 65535 65535 1)
 unfolding write
 unfit-lengths = (refl, refl, refl, refl, refl)
 
--- a pointer to a younger row, and to the row itself, of the file "0 gives (procedure 0)"
-pub unfit-older : (write (entered 1 1 65535 65535 0 ∷ entered 1 2 65535 2 1 ∷ entered 2 3 0 65535 0 ∷ []) 3 1 9 ≡ refused (refuse 9 0))
+-- a pointer that is not to a lower row
+pub unfit-older :
+    -- to a younger one of the procedure
+    (write (entered 1 1 65535 65535 0 ∷ entered 1 2 65535 2 1 ∷ entered 2 3 0 65535 0 ∷ []) 3 1 9 ≡ refused (refuse 9 0))
+    -- to the row itself, in the file "0 gives (procedure 0)"
     × (writeOn (entry 1 0 1 128 0 []) (entered 0 0 0 65535 0 ∷ []) 1 0 9 ≡ refused (refuse 9 0))
 unfolding write writeOn
 unfit-older = (refl, refl)
 
--- an older row that does not fit refuses, though nothing points to it; a younger one does not; 9 comes before 10
-pub unfit-others : (write (entered 9 1 65535 65535 0 ∷ entered 1 1 65535 65535 0 ∷ []) 2 1 9 ≡ refused (refuse 9 0))
+pub unfit-others :
+    -- an older row that does not fit refuses, though nothing points to it
+    (write (entered 9 1 65535 65535 0 ∷ entered 1 1 65535 65535 0 ∷ []) 2 1 9 ≡ refused (refuse 9 0))
+    -- a younger one does not
     × (write (entered 1 1 65535 65535 0 ∷ entered 9 1 65535 65535 0 ∷ []) 2 0 9 ≡ answered 0)
+    -- 9 comes before 10
     × (write (four (entered 0 0 2 0 2)) 4 3 0 ≡ refused (refuse 9 0))
 unfolding write
 unfit-others = (refl, refl, refl)

@@ -1,7 +1,7 @@
 -- Numbers 1 to 11 at their edges, computed or stated of every word: limits, the order of the tests, bytes that are used and bytes that are not.
 -- They settle what neither a theorem nor a P case says. Assumes nothing.
-use mathlib.Core.Path.{_≡_, refl, ap}
-use mathlib.Core.Bool.{Bool, true, false, _||_, cond}
+use mathlib.Core.Path.{_≡_, refl}
+use mathlib.Core.Bool.{true, false}
 use mathlib.Core.List.{List, [], _∷_, _++_}
 use Prim.Native.Nat.{ℕ, zero, suc, _%_, _≤_, _<_}
 use native.Mathlib.Omega.{arith}
@@ -13,7 +13,7 @@ use Rattle.basics.specs.Tests.{or-right}
 use Rattle.plan_file.specs.Records.{recordCount, recordAt, countOf, ruleRecord, recordOf}
 use Rattle.plan_file.specs.Refusals.{Refusal, refuse, kindKnown, aboveRange, strayByte, risesFrom, rises, exceeds, overLimit, faultBy, faultAt, faultFrom, fault}
 use Rattle.plan_file.specs.Reading.{Step, gives, refuses, stepBy, stepFrom, stepAt}
-use Rattle.calls.specs.Replies.{Reply, refused, answered}
+use Rattle.calls.specs.Replies.{refused}
 use Rattle.calls.specs.Checking.{journalFault, checkOf}
 use Rattle.calls.specs.Judging.{wordFault, judgeOf}
 use Rattle.calls.specs.Writing.{roomFault}
@@ -29,52 +29,90 @@ faultIn bs = fault bs
 abbrev pub stray : List ℕ → List ℕ
 stray rest = 1 ∷ 0 ∷ 0 ∷ 0 ∷ 0 ∷ 0 ∷ 0 ∷ 1 ∷ rest
 
--- 1 before 2, with 1,289 records and a byte; 2 before 3, with 1,289 records; 3 with 1,288
-pub length-first : (faultIn (replicate 10313 0) ≡ refuse 1 0) × (faultIn (replicate 10312 0) ≡ refuse 2 0) × (faultIn (replicate 10304 0) ≡ refuse 3 0)
+-- 1 and 2
+pub length-first :
+    -- 1,289 records and a byte: 1 before 2
+    (faultIn (replicate 10313 0) ≡ refuse 1 0)
+    -- 1,289 records: 2 before 3
+    × (faultIn (replicate 10312 0) ≡ refuse 2 0)
+    -- 1,288 records
+    × (faultIn (replicate 10304 0) ≡ refuse 3 0)
 unfolding faultIn
 length-first = (refl, refl, refl)
 
--- 4: procedure 64, where 63 passes; body length 3; symbol 192, first and second
-pub above : (faultIn (entry 1 63 0 0 0 []) ≡ refuse 0 0) × (faultIn (entry 1 64 0 0 0 []) ≡ refuse 4 0) × (faultIn (entry 1 0 3 0 0 []) ≡ refuse 4 0)
+-- 4, of a rule
+pub above :
+    -- procedures are 0 to 63
+    (faultIn (entry 1 63 0 0 0 []) ≡ refuse 0 0)
+    × (faultIn (entry 1 64 0 0 0 []) ≡ refuse 4 0)
+    -- body lengths are 0 to 2
+    × (faultIn (entry 1 0 3 0 0 []) ≡ refuse 4 0)
+    -- symbols are 0 to 191
     × (faultIn (entry 1 0 2 191 191 []) ≡ refuse 0 0)
     × (faultIn (entry 1 0 2 192 0 []) ≡ refuse 4 0)
     × (faultIn (entry 1 0 2 0 192 []) ≡ refuse 4 0)
 unfolding faultIn
 above = (refl, refl, refl, refl, refl, refl)
 
--- 4: stage 8 of a move, and of a finishing stage, where 7 passes; step code 128, where 127 passes
-pub above-stages : (faultIn (entry 2 7 127 7 0 []) ≡ refuse 0 0) × (faultIn (entry 2 8 0 0 0 []) ≡ refuse 4 0) × (faultIn (entry 2 0 128 0 0 []) ≡ refuse 4 0)
+-- 4, of the sheet
+pub above-sheet :
+    -- stages of a move are 0 to 7, step codes 0 to 127
+    (faultIn (entry 2 7 127 7 0 []) ≡ refuse 0 0)
+    × (faultIn (entry 2 8 0 0 0 []) ≡ refuse 4 0)
+    × (faultIn (entry 2 0 128 0 0 []) ≡ refuse 4 0)
     × (faultIn (entry 2 0 0 8 0 []) ≡ refuse 4 0)
+    -- and so are finishing stages
     × (faultIn (entry 3 7 0 0 0 []) ≡ refuse 0 0)
     × (faultIn (entry 3 8 0 0 0 []) ≡ refuse 4 0)
 unfolding faultIn
-above-stages = (refl, refl, refl, refl, refl, refl)
+above-sheet = (refl, refl, refl, refl, refl, refl)
 
--- 5: byte 7; byte 3 of an empty body; byte 4 of a body of one symbol, which is unused and so never 4's; byte 4 of a move; byte 2 of a finishing stage
-pub unused : (faultIn (stray []) ≡ refuse 5 0) × (faultIn (entry 1 0 0 5 0 []) ≡ refuse 5 0) × (faultIn (entry 1 0 1 5 192 []) ≡ refuse 5 0)
+-- 5
+pub unused :
+    -- byte 7 is never used
+    (faultIn (stray []) ≡ refuse 5 0)
+    -- byte 3 of an empty body; byte 4 of a body of one symbol, which is not 4's though it is no symbol
+    × (faultIn (entry 1 0 0 5 0 []) ≡ refuse 5 0)
+    × (faultIn (entry 1 0 1 5 192 []) ≡ refuse 5 0)
+    -- byte 4 of a move; byte 2 of a finishing stage
     × (faultIn (entry 2 0 1 1 9 []) ≡ refuse 5 0)
     × (faultIn (entry 3 0 1 0 0 []) ≡ refuse 5 0)
 unfolding faultIn
 unused = (refl, refl, refl, refl, refl)
 
--- the lowest number of a record: 4 before 5, and 5 before 6; the earliest record: 5 of record 1 before 3 of record 2
-pub lowest-first : (faultIn (entry 1 64 0 5 0 []) ≡ refuse 4 0) × (faultIn (entry 1 5 0 0 0 (stray [])) ≡ refuse 5 1)
+-- which number, and of which record
+pub lowest-first :
+    -- 4 before 5
+    (faultIn (entry 1 64 0 5 0 []) ≡ refuse 4 0)
+    -- 5 before 6
+    × (faultIn (entry 1 5 0 0 0 (stray [])) ≡ refuse 5 1)
+    -- 5 of record 1 before 3 of record 2
     × (faultIn (lone (stray (entry 0 0 0 0 0 []))) ≡ refuse 5 1)
 unfolding faultIn lone
 lowest-first = (refl, refl, refl)
 
--- 6 compares all eight bytes: here only byte 7 differs
-pub eight-bytes : (rises (lone []) (stray []) ≡ true) × (rises (stray []) (lone []) ≡ false) × (rises (stray []) (stray []) ≡ false)
+-- 6 compares all eight bytes: these differ in byte 7 only
+pub eight-bytes :
+    (rises (lone []) (stray []) ≡ true)
+    × (rises (stray []) (lone []) ≡ false)
+    × (rises (stray []) (stray []) ≡ false)
 unfolding risesFrom lone
 eight-bytes = (refl, refl, refl)
 
--- 7: the 257th rule and the 1,025th move; finishing stages have no limit
-pub limits : (overLimit (lone []) 255 0 ≡ false) × (overLimit (lone []) 256 0 ≡ true) × (overLimit (entry 2 0 0 0 0 []) 0 1023 ≡ false) × (overLimit (entry 2 0 0 0 0 []) 0 1024 ≡ true)
+-- 7, after so many rules and moves
+pub limits :
+    -- of the 257th rule
+    (overLimit (lone []) 255 0 ≡ false)
+    × (overLimit (lone []) 256 0 ≡ true)
+    -- of the 1,025th move
+    × (overLimit (entry 2 0 0 0 0 []) 0 1023 ≡ false)
+    × (overLimit (entry 2 0 0 0 0 []) 0 1024 ≡ true)
+    -- never of a finishing stage
     × (overLimit (entry 3 0 0 0 0 []) 256 1024 ≡ false)
 unfolding overLimit lone
 limits = (refl, refl, refl, refl, refl)
 
--- ---- a step of the reader counts the records before its place by their kind, and does not check them: these are all alike
+-- ---- a step of the reader counts the records before its place by their kind, and does not check them: here they are all alike
 
 pub copies : ℕ → List ℕ → List ℕ → List ℕ
 copies zero r rest = rest
@@ -84,8 +122,10 @@ pub stepIn : List ℕ → ℕ → Step
 unfolding stepAt stepFrom faultBy kindKnown aboveRange strayByte risesFrom exceeds overLimit countOf
 stepIn bs i = stepAt bs i
 
--- a rule after 255 rules, and after 256
-pub counted-rules : (stepIn (copies 255 (lone []) (entry 1 1 0 0 0 [])) 255 ≡ gives (ruleRecord 1 0 0 0) 256)
+pub counted-rules :
+    -- a rule after 255 rules
+    (stepIn (copies 255 (lone []) (entry 1 1 0 0 0 [])) 255 ≡ gives (ruleRecord 1 0 0 0) 256)
+    -- and after 256
     × (stepIn (copies 256 (lone []) (entry 1 1 0 0 0 [])) 256 ≡ refuses (refuse 7 256))
 unfolding stepIn copies lone
 counted-rules = (refl, refl)
@@ -97,28 +137,39 @@ step-checks bs i whole few l = rw (eq-eqb (length bs % 8) 0 whole, le-ltb 1288 (
 
 -- ---- 8, 10 and 11
 
--- 8: a journal of no row and of 4,097
+-- 8: a journal has 1 to 4,096 rows
 pub journals : (journalFault 0 ≡ 8) × (journalFault 1 ≡ 0) × (journalFault 4096 ≡ 0) × (journalFault 4097 ≡ 8)
 unfolding journalFault
 journals = (refl, refl, refl, refl)
 
--- 10, of every word: 65,535 steps or more; more than the buffer has bytes; and else not
+-- 10, of every word
 pub rooms : (w : List ℕ) (room : ℕ)
-    → (65535 ≤ length w → roomFault w room ≡ 10) × (room < length w → roomFault w room ≡ 10) × (length w ≤ 65534 → length w ≤ room → roomFault w room ≡ 0)
+    -- it has 65,535 steps or more
+    → (65535 ≤ length w → roomFault w room ≡ 10)
+    -- or more than the buffer has bytes
+    × (room < length w → roomFault w room ≡ 10)
+    -- and else it is written
+    × (length w ≤ 65534 → length w ≤ room → roomFault w room ≡ 0)
 unfolding roomFault
-rooms w room = (λ l. rw (le-leb 65535 (length w) l), λ l. rw (or-right (leb 65535 (length w)) (ltb room (length w)) (lt-ltb room (length w) l)), λ l m. rw (lt-leb 65535 (length w) (omega arith), le-ltb room (length w) m))
+rooms w room =
+    let long = leb 65535 (length w) in
+    (λ l. rw (le-leb 65535 (length w) l), λ l. rw (or-right long (ltb room (length w)) (lt-ltb room (length w) l)), λ l m. rw (lt-leb 65535 (length w) (omega arith), le-ltb room (length w) m))
 
--- 11, of every word: more than 65,534 steps; and else not, where its letters are step codes
-pub words : (w : List ℕ) → (65535 ≤ length w → wordFault w ≡ 11) × (length w ≤ 65534 → any (λ c. leb 128 c) w ≡ false → wordFault w ≡ 0)
+-- 11, of every word
+pub words : (w : List ℕ)
+    -- it has more than 65,534 steps
+    → (65535 ≤ length w → wordFault w ≡ 11)
+    -- and else it is judged, where its letters are step codes
+    × (length w ≤ 65534 → any (λ c. leb 128 c) w ≡ false → wordFault w ≡ 0)
 unfolding wordFault
 words w = (λ l. rw (lt-ltb 65534 (length w) l), λ l e. rw (le-ltb 65534 (length w) l, e))
 
--- 11: code 128, wherever it stands
+-- 11: step codes are 0 to 127, wherever they stand
 pub letters : (wordFault (127 ∷ []) ≡ 0) × (wordFault (128 ∷ []) ≡ 11) × (wordFault (0 ∷ 128 ∷ []) ≡ 11)
 unfolding wordFault
 letters = (refl, refl, refl)
 
--- the file is tested first
+-- the file is tested before 8 and 11
 pub file-first : (checkOf (1 ∷ []) 0 0 ≡ refused (refuse 1 0)) × (judgeOf (1 ∷ []) (128 ∷ []) ≡ refused (refuse 1 0))
 unfolding checkOf judgeOf journalFault wordFault faultIn fault
 file-first = (refl, refl)

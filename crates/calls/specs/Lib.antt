@@ -14,3 +14,4 @@ pub mod JudgingTruth
 pub mod WritingTruth
 pub mod Cases
 pub mod Examples
+pub mod Pins

@@ -7,6 +7,7 @@ pub mod Behind
 pub mod Fitting
 pub mod Derivation
 pub mod Example
+pub mod Pins
 pub mod Carrying
 pub mod Coverage
 pub mod Walking

@@ -1,0 +1,175 @@
+-- Numbers 1 to 11 at their edges, computed or stated of every word: limits, the order of the tests, bytes that are used and bytes that are not.
+-- They settle what neither a theorem nor a P case says. Assumes nothing.
+use mathlib.Core.Path.{_≡_, refl}
+use mathlib.Core.Bool.{true, false}
+use mathlib.Core.List.{List, [], _∷_, _++_}
+use Prim.Native.Nat.{ℕ, zero, suc, _%_, _≤_, _<_}
+use native.Mathlib.Omega.{arith}
+use lib.Dec.{leb, ltb}
+use lib.ListN.{length, replicate}
+use borrow.Author.Tests.{eq-eqb, lt-ltb, le-ltb, le-leb, lt-leb}
+use Rattle.basics.specs.Lists.{any}
+use Rattle.basics.specs.Tests.{or-right}
+use Rattle.plan_file.specs.Records.{recordCount, recordAt, countOf, ruleRecord, recordOf}
+use Rattle.plan_file.specs.Refusals.{Refusal, refuse, kindKnown, aboveRange, strayByte, risesFrom, rises, exceeds, overLimit, faultBy, faultAt, faultFrom, fault}
+use Rattle.plan_file.specs.Reading.{Step, gives, refuses, stepBy, stepFrom, stepAt}
+use Rattle.calls.specs.Replies.{refused}
+use Rattle.calls.specs.Checking.{journalFault, checkOf}
+use Rattle.calls.specs.Judging.{wordFault, judgeOf}
+use Rattle.calls.specs.Writing.{roomFault}
+use Rattle.calls.specs.Cases.{entry, lone}
+
+-- ---- 1 to 7, of a file
+
+pub faultIn : List ℕ → Refusal
+unfolding fault faultFrom faultAt faultBy kindKnown aboveRange strayByte risesFrom exceeds overLimit countOf
+faultIn bs = fault bs
+
+-- the rule "0 gives nothing" with its byte 7 set
+abbrev pub stray : List ℕ → List ℕ
+stray rest = 1 ∷ 0 ∷ 0 ∷ 0 ∷ 0 ∷ 0 ∷ 0 ∷ 1 ∷ rest
+
+-- 1 and 2
+pub length-first :
+    -- 1,289 records and a byte: 1 before 2
+    (faultIn (replicate 10313 0) ≡ refuse 1 0)
+    -- 1,289 records: 2 before 3
+    × (faultIn (replicate 10312 0) ≡ refuse 2 0)
+    -- 1,288 records
+    × (faultIn (replicate 10304 0) ≡ refuse 3 0)
+unfolding faultIn
+length-first = (refl, refl, refl)
+
+-- 4, of a rule
+pub above :
+    -- procedures are 0 to 63
+    (faultIn (entry 1 63 0 0 0 []) ≡ refuse 0 0)
+    × (faultIn (entry 1 64 0 0 0 []) ≡ refuse 4 0)
+    -- body lengths are 0 to 2
+    × (faultIn (entry 1 0 3 0 0 []) ≡ refuse 4 0)
+    -- symbols are 0 to 191
+    × (faultIn (entry 1 0 2 191 191 []) ≡ refuse 0 0)
+    × (faultIn (entry 1 0 2 192 0 []) ≡ refuse 4 0)
+    × (faultIn (entry 1 0 2 0 192 []) ≡ refuse 4 0)
+unfolding faultIn
+above = (refl, refl, refl, refl, refl, refl)
+
+-- 4, of the sheet
+pub above-sheet :
+    -- stages of a move are 0 to 7, step codes 0 to 127
+    (faultIn (entry 2 7 127 7 0 []) ≡ refuse 0 0)
+    × (faultIn (entry 2 8 0 0 0 []) ≡ refuse 4 0)
+    × (faultIn (entry 2 0 128 0 0 []) ≡ refuse 4 0)
+    × (faultIn (entry 2 0 0 8 0 []) ≡ refuse 4 0)
+    -- and so are finishing stages
+    × (faultIn (entry 3 7 0 0 0 []) ≡ refuse 0 0)
+    × (faultIn (entry 3 8 0 0 0 []) ≡ refuse 4 0)
+unfolding faultIn
+above-sheet = (refl, refl, refl, refl, refl, refl)
+
+-- 5
+pub unused :
+    -- byte 7 is never used
+    (faultIn (stray []) ≡ refuse 5 0)
+    -- byte 3 of an empty body; byte 4 of a body of one symbol, which is not 4's though it is no symbol
+    × (faultIn (entry 1 0 0 5 0 []) ≡ refuse 5 0)
+    × (faultIn (entry 1 0 1 5 192 []) ≡ refuse 5 0)
+    -- byte 4 of a move; byte 2 of a finishing stage
+    × (faultIn (entry 2 0 1 1 9 []) ≡ refuse 5 0)
+    × (faultIn (entry 3 0 1 0 0 []) ≡ refuse 5 0)
+unfolding faultIn
+unused = (refl, refl, refl, refl, refl)
+
+-- which number, and of which record
+pub lowest-first :
+    -- 4 before 5
+    (faultIn (entry 1 64 0 5 0 []) ≡ refuse 4 0)
+    -- 5 before 6
+    × (faultIn (entry 1 5 0 0 0 (stray [])) ≡ refuse 5 1)
+    -- 5 of record 1 before 3 of record 2
+    × (faultIn (lone (stray (entry 0 0 0 0 0 []))) ≡ refuse 5 1)
+unfolding faultIn lone
+lowest-first = (refl, refl, refl)
+
+-- 6 compares all eight bytes: these differ in byte 7 only
+pub eight-bytes :
+    (rises (lone []) (stray []) ≡ true)
+    × (rises (stray []) (lone []) ≡ false)
+    × (rises (stray []) (stray []) ≡ false)
+unfolding risesFrom lone
+eight-bytes = (refl, refl, refl)
+
+-- 7, after so many rules and moves
+pub limits :
+    -- of the 257th rule
+    (overLimit (lone []) 255 0 ≡ false)
+    × (overLimit (lone []) 256 0 ≡ true)
+    -- of the 1,025th move
+    × (overLimit (entry 2 0 0 0 0 []) 0 1023 ≡ false)
+    × (overLimit (entry 2 0 0 0 0 []) 0 1024 ≡ true)
+    -- never of a finishing stage
+    × (overLimit (entry 3 0 0 0 0 []) 256 1024 ≡ false)
+unfolding overLimit lone
+limits = (refl, refl, refl, refl, refl)
+
+-- ---- a step of the reader counts the records before its place by their kind, and does not check them: here they are all alike
+
+pub copies : ℕ → List ℕ → List ℕ → List ℕ
+copies zero r rest = rest
+copies (suc n) r rest = r ++ copies n r rest
+
+pub stepIn : List ℕ → ℕ → Step
+unfolding stepAt stepFrom faultBy kindKnown aboveRange strayByte risesFrom exceeds overLimit countOf
+stepIn bs i = stepAt bs i
+
+pub counted-rules :
+    -- a rule after 255 rules
+    (stepIn (copies 255 (lone []) (entry 1 1 0 0 0 [])) 255 ≡ gives (ruleRecord 1 0 0 0) 256)
+    -- and after 256
+    × (stepIn (copies 256 (lone []) (entry 1 1 0 0 0 [])) 256 ≡ refuses (refuse 7 256))
+unfolding stepIn copies lone
+counted-rules = (refl, refl)
+
+-- and at any record its number is the one that the whole file's walk has for that record, moves before it counted as well
+pub step-checks : (bs : List ℕ) (i : ℕ) → length bs % 8 ≡ 0 → recordCount bs ≤ 1288 → i < recordCount bs → stepAt bs i ≡ stepBy (faultAt bs i) i (recordOf (recordAt bs i))
+unfolding stepAt stepFrom faultAt
+step-checks bs i whole few l = rw (eq-eqb (length bs % 8) 0 whole, le-ltb 1288 (recordCount bs) few, lt-leb (recordCount bs) i l)
+
+-- ---- 8, 10 and 11
+
+-- 8: a journal has 1 to 4,096 rows
+pub journals : (journalFault 0 ≡ 8) × (journalFault 1 ≡ 0) × (journalFault 4096 ≡ 0) × (journalFault 4097 ≡ 8)
+unfolding journalFault
+journals = (refl, refl, refl, refl)
+
+-- 10, of every word
+pub rooms : (w : List ℕ) (room : ℕ)
+    -- it has 65,535 steps or more
+    → (65535 ≤ length w → roomFault w room ≡ 10)
+    -- or more than the buffer has bytes
+    × (room < length w → roomFault w room ≡ 10)
+    -- and else it is written
+    × (length w ≤ 65534 → length w ≤ room → roomFault w room ≡ 0)
+unfolding roomFault
+rooms w room =
+    let long = leb 65535 (length w) in
+    (λ l. rw (le-leb 65535 (length w) l), λ l. rw (or-right long (ltb room (length w)) (lt-ltb room (length w) l)), λ l m. rw (lt-leb 65535 (length w) (omega arith), le-ltb room (length w) m))
+
+-- 11, of every word
+pub words : (w : List ℕ)
+    -- it has more than 65,534 steps
+    → (65535 ≤ length w → wordFault w ≡ 11)
+    -- and else it is judged, where its letters are step codes
+    × (length w ≤ 65534 → any (λ c. leb 128 c) w ≡ false → wordFault w ≡ 0)
+unfolding wordFault
+words w = (λ l. rw (lt-ltb 65534 (length w) l), λ l e. rw (le-ltb 65534 (length w) l, e))
+
+-- 11: step codes are 0 to 127, wherever they stand
+pub letters : (wordFault (127 ∷ []) ≡ 0) × (wordFault (128 ∷ []) ≡ 11) × (wordFault (0 ∷ 128 ∷ []) ≡ 11)
+unfolding wordFault
+letters = (refl, refl, refl)
+
+-- the file is tested before 8 and 11
+pub file-first : (checkOf (1 ∷ []) 0 0 ≡ refused (refuse 1 0)) × (judgeOf (1 ∷ []) (128 ∷ []) ≡ refused (refuse 1 0))
+unfolding checkOf judgeOf journalFault wordFault faultIn fault
+file-first = (refl, refl)

@@ -1,0 +1,14 @@
+-- The index stays within the sheet's records. Assumes nothing.
+use Prim.Native.Nat.{_≤_, _-_}
+use borrow.Author.Needs.{needs}
+use Rattle.cases_writing.proofs.put_rotations.Statement.{statement}
+use Rattle.cases_writing.proofs.put_rotations.Tie as tie
+
+abbrev Inv-loop : tie.InvT-loop
+Inv-loop file₀ i₀ file i = i ≤ 16
+
+abbrev μ-loop : tie.MeasureT-loop
+μ-loop file₀ i₀ file i = 16 - i
+
+pub put-rotations-spec : {M : Type 1} → statement M
+put-rotations-spec = tie.close (tie.spec Inv-loop μ-loop (λ c κs. search needs) (λ c κs. search needs) (λ c κs. search needs) (λ c κs. search needs) (λ c. search needs) (λ c. search needs) (λ c κs. search needs) (λ c κs. search needs) (λ c. search needs) (λ c. search needs) (λ c. search needs) (λ c. search needs))

@@ -1,0 +1,44 @@
+-- The array as the walk has it in hand is the journal of the contract. Assumes nothing.
+use mathlib.Core.Path.{_≡_, refl, sym, ap, _∙_, subst}
+use mathlib.Core.List.{List, [], _∷_, _++_, map}
+use Prim.Native.Nat.{ℕ, zero, suc, _≤_}
+use lib.ListN.{length, set, take, drop, replicate}
+use lib.Seq.{take-append-seam}
+use Rattle.working_order.specs.Journal.{Row}
+use Rattle.calls.specs.Checking.{journalLimit, journalAfter}
+use Rattle.calls.specs.Rows.{rowOf}
+use Rattle.calls.specs.declared.Row.{Row as LentRow}
+use Rattle.covers.specs.Rows.{Journal}
+use Rattle.checker.specs.declared.Checked.{Checked}
+use Rattle.checker.specs.Contracts.{Checks}
+use Rattle.telling.specs.Fronts.{frontOf, journalOf, placeOf}
+use Rattle.writer.specs.Contracts.{Writes}
+use Rattle.writer.specs.declared.Writing.{Writing}
+use Rattle.damaged.specs.Contracts.{damagedRows, WritesDamaged}
+
+-- an element that is replaced, among the first n ones
+take-set : {X : Type 0} (n : ℕ) (xs : List X) (i : ℕ) (x : X) → take n (set xs i x) ≡ set (take n xs) i x
+take-set zero xs i x = refl
+take-set (suc n) [] i x = refl
+take-set (suc n) (y ∷ ys) zero x = refl
+take-set (suc n) (y ∷ ys) (suc i) x = ap (λ (zs : List _). y ∷ zs) (take-set n ys i x)
+
+-- and in the rows as the working order has them
+map-set : (xs : Journal) (i : ℕ) (x : LentRow) → map rowOf (set xs i x) ≡ set (map rowOf xs) i (rowOf x)
+map-set [] i x = refl
+map-set (y ∷ ys) zero x = refl
+map-set (y ∷ ys) (suc i) x = ap (λ (zs : List (Row ℕ)). rowOf y ∷ zs) (map-set ys i x)
+
+-- of the array xs, all x, the first m rows were lent, and were zs then; x was stored as row j, and from the first m rows w was written
+pub written-damaged : (bs : List ℕ) (n B i : ℕ) (x : LentRow) (u k : ℕ) (old new : List ℕ)
+    → (xs : Journal) → xs ≡ replicate journalLimit x → (m : ℕ) → (m ≡ frontOf n) × (m ≤ journalLimit) → (zs : Journal) → length zs ≡ m → (c : Checked) → Checks bs B (take m xs) zs c
+    → (j : ℕ) → j ≡ placeOf i → (w : Writing) → Writes bs (map rowOf (take m (set (zs ++ drop m xs) j x))) u k old new w → WritesDamaged bs n B i x u k old new w
+unfolding journalOf
+written-damaged bs n B i x u k old new xs e m em zs l c h j ej w v =
+    let before : take m xs ≡ journalOf n x = ap (take m) e ∙ ap (λ (t : ℕ). take t (replicate journalLimit x)) (em .0) in
+    let front : take m (zs ++ drop m xs) ≡ zs = ap (λ (t : ℕ). take t (zs ++ drop m xs)) (sym l) ∙ take-append-seam zs (drop m xs) in
+    let rows : map rowOf (take m (set (zs ++ drop m xs) j x)) ≡ damagedRows bs n B i x =
+    ap (map rowOf) (take-set m (zs ++ drop m xs) j x ∙ ap (λ (ys : Journal). set ys j x) front) ∙ map-set zs j x
+    ∙ ap (λ (rs : List (Row ℕ)). set rs j (rowOf x)) (h .journal ∙ ap (λ (ys : Journal). journalAfter bs (map rowOf ys) B) before)
+    ∙ ap (λ (t : ℕ). set (journalAfter bs (map rowOf (journalOf n x)) B) t (rowOf x)) ej in
+    subst (λ (rs : List (Row ℕ)). Writes bs rs u k old new w) rows v

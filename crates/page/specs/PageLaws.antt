@@ -1,11 +1,11 @@
 -- What stands in the buffer when all of a text has been put into it. Assumes nothing.
 use mathlib.Core.Path.{_≡_, refl, sym, ap, _∙_, subst}
-use mathlib.Core.List.{List, [], _∷_, _++_}
+use mathlib.Core.List.{List, [], _∷_, _++_, append-assoc, append-nil}
 use Prim.Native.Nat.{ℕ, zero, suc, _+_, _≤_, _<_}
 use native.Mathlib.Numerals.{add-one}
 use native.Mathlib.Omega.{arith}
-use lib.Seq.{drop-cons}
-use lib.ListN.{length, getD, take, drop, set, length-set}
+use lib.ListN.{length, getD, drop, set, length-append}
+use lib.Seq.{drop-cons, set-append-seam}
 use borrow.Author.Tests.{lt-ltb}
 use Rattle.page.specs.Page.{Page, page, put, puts}
 
@@ -35,6 +35,29 @@ pub puts-next : (bs : List ℕ) (i : ℕ) (p : Page) → i < length bs → puts 
 unfolding puts
 puts-next bs i p h = ap (λ (k : ℕ). puts (drop k bs) (put (getD bs i 0) p)) (add-one i) ∙ ap (λ (xs : List ℕ). puts xs p) (sym (drop-cons bs i 0 h))
 
+-- ---- all of a text
+
 put-fits : (b n : ℕ) (bs : List ℕ) → n < length bs → put b (page n bs) ≡ page (n + 1) (set bs n b)
 unfolding put
 put-fits b n bs h = rw (lt-ltb n (length bs) h)
+
+-- a byte after what is done
+put-after : (x : ℕ) (done : List ℕ) (y : ℕ) (rest : List ℕ) → put x (page (length done) (done ++ (y ∷ rest))) ≡ page (length (done ++ (x ∷ []))) ((done ++ (x ∷ [])) ++ rest)
+put-after x done y rest =
+    put-fits x (length done) (done ++ (y ∷ rest)) (omega (arith, length-append done (y ∷ rest)))
+    ∙ ap (λ (bs : List ℕ). page (length done + 1) bs) (set-append-seam done y rest x ∙ sym (append-assoc done (x ∷ []) rest))
+    ∙ ap (λ (n : ℕ). page n ((done ++ (x ∷ [])) ++ rest)) (sym (length-append done (x ∷ [])))
+
+-- a text that fits stands after what is done, and what comes after it is as it was
+puts-after : (xs done rest : List ℕ) → length xs ≤ length rest
+    → puts xs (page (length done) (done ++ rest)) ≡ page (length (done ++ xs)) ((done ++ xs) ++ drop (length xs) rest)
+unfolding puts
+puts-after [] done rest h = ap (λ (bs : List ℕ). page (length bs) (bs ++ rest)) (sym (append-nil done))
+puts-after (x ∷ xs) done [] h = absurd (omega arith)
+puts-after (x ∷ xs) done (y ∷ rest) h =
+    ap (puts xs) (put-after x done y rest) ∙ puts-after xs (done ++ (x ∷ [])) rest (omega arith)
+    ∙ ap (λ (bs : List ℕ). page (length bs) (bs ++ drop (length xs) rest)) (append-assoc done (x ∷ []) xs)
+
+-- from the start of the buffer
+pub puts-all : (xs bs : List ℕ) → length xs ≤ length bs → puts xs (page 0 bs) ≡ page (length xs) (xs ++ drop (length xs) bs)
+puts-all xs bs h = puts-after xs [] bs h

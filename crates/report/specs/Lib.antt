@@ -1,4 +1,6 @@
 pub mod Lines
+pub mod Contracts
 pub mod LineLaws
 pub mod RunLaws
 pub mod TextLaws
+pub mod LengthLaws

@@ -126,8 +126,9 @@ module _ (bs : List ℕ) (J B : ℕ) (few : J ≤ journalLimit) (a : Answer ℕ)
   pub writes-own : (room : ℕ) → writeOf bs (a .journal) (a .used) (a .row) room ≡ replyTo (shown bs a) room
   unfolding writeOf
   writes-own room =
-      rw
-      (from-order bs J B a e .0,
-      size-journal (length (a .journal)) (omega (arith, row-in)) (omega (arith, few, used-is, promises bs J B a e .counts .rows-bound)),
-      row-fits,
-      word-own)
+      rw (
+        from-order bs J B a e .0,
+        size-journal (length (a .journal)) (omega (arith, row-in)) (omega (arith, few, used-is, promises bs J B a e .counts .rows-bound)),
+        row-fits,
+        word-own,
+      )

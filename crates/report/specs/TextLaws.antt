@@ -5,7 +5,7 @@ use mathlib.Core.List.{List, [], _∷_, _++_, map}
 use Prim.Native.Nat.{ℕ, zero, suc, min, _≤_, _<_}
 use native.Mathlib.Omega.{arith}
 use lib.Dec.{leb}
-use lib.ListN.{length, getD, take, drop, replicate, length-replicate, length-take, List·getD-append}
+use lib.ListN.{length, getD, take, drop, replicate, length-replicate, length-take, length-map, List·getD-append}
 use lib.Seq.{length-take-le}
 use borrow.Author.Tests.{lt-ltb, ne-eqb, leb-true, leb-false}
 use Rattle.relation.specs.Relation.{states, pairs}
@@ -75,10 +75,6 @@ getD-any d d′ [] i h = absurd (omega arith)
 getD-any d d′ (x ∷ xs) zero h = refl
 getD-any d d′ (x ∷ xs) (suc i) h = getD-any d d′ xs i (omega arith)
 
-length-mapped : {A B : Type 0} (f : A → B) (xs : List A) → length (map f xs) ≡ length xs
-length-mapped f [] = refl
-length-mapped f (x ∷ xs) = ap suc (length-mapped f xs)
-
 -- ---- the lines
 
 module _ (bs : List ℕ) (n : ℕ) (x : LentRow) (B p : ℕ) (old new : List ℕ) (room : ℕ) (l : length old ≡ room) (t : Told) (h : ChecksAlone bs n x B p old new t) where
@@ -98,7 +94,7 @@ module _ (bs : List ℕ) (n : ℕ) (x : LentRow) (B p : ℕ) (old new : List ℕ
 
     module _ (v : a .verdict ≡ broken) where
       lent-check : checkOf bs (length before) B ≡ answered a
-      lent-check = ap (λ (m : ℕ). checkOf bs m B) (length-mapped rowOf (journalOf n x)) ∙ e
+      lent-check = ap (λ (m : ℕ). checkOf bs m B) (length-map (journalOf n x) rowOf) ∙ e
 
       below : a .row < length (a .journal)
       below = row-in bs J B (few-rows n x) a e v

@@ -3,14 +3,22 @@ use calls::Row;
 use telling::Told;
 ghost use mathlib.Core.Path.{_≡_};
 ghost use mathlib.Core.List.{[], _∷_, _++_};
-ghost use Prim.Native.Nat.{_≤_, min};
-ghost use lib.ListN.{take};
-ghost use Rattle.calls.specs.Printing.{lineFeed, blanked, numbersLine, refusedLine};
+ghost use Prim.Native.Nat.{_+_, _*_, _≤_, min};
+ghost use lib.ListN.{length, take};
+ghost use Rattle.calls.specs.Printing.{lineFeed, blanked, numbersLine, refusedLine, textOf, programText};
 ghost use Rattle.page.specs.Page.{page, puts};
+ghost use Rattle.report.specs.Contracts.{Stands};
 ghost use Rattle.report.specs.Lines.{totalsLine, rowLine, runLine, brokenText, toldText};
 
-// The run buffer of the check program.
+// The check program's journal, budget and run buffer (document 01).
+const ROWS: usize = 1024;
+
+const BUDGET: u64 = 1000000;
+
 const RUN: usize = 4096;
+
+// A buffer that every text fits into: 4 bytes for each step of a run, and some for what stands before them.
+pub const TEXT: usize = 16640;
 
 // Three numbers, each after a blank, and the end of the line.
 fn put_three(text: &mut [u8], at: usize, a: u64, b: u64, c: u64) -> usize
@@ -78,7 +86,8 @@ fn put_broken(text: &mut [u8], at: usize, told: Told, buffer: &[u8]) -> usize
 
 // All lines, from the buffer's start.
 fn put_told(text: &mut [u8], told: Told, buffer: &[u8]) -> usize
-    ensures { λ r. ⌜ page r (now (text .exit)) ≡ puts (toldText told (now (buffer .entry))) (page 0 (now (text .entry))) ⌝ }
+    ensures put { λ r. ⌜ page r (now (text .exit)) ≡ puts (toldText told (now (buffer .entry))) (page 0 (now (text .entry))) ⌝ }
+    ensures long { λ r. ⌜ length (toldText told (now (buffer .entry))) ≤ 163 + length (now (buffer .entry)) * 4 ⌝ }
 {
     if told.code == telling::HOLDS {
         return put_totals(text, 0, b"holds", told);
@@ -102,4 +111,28 @@ fn least(a: usize, b: usize) -> usize
         return a;
     }
     b
+}
+
+// Every text fits.
+fn put_whole(text: &mut [u8; TEXT], told: Told, buffer: &[u8; RUN]) -> usize
+    ensures { λ r. ⌜ Stands (toldText told (now (buffer .entry))) (now (text .entry)) (now (text .exit)) r ⌝ }
+{
+    put_told(text, told, buffer)
+}
+
+// Checks the file over a journal of so many rows, each old before, with the budget, and puts what is to be printed at the front of the
+// text. Gives how many bytes that are.
+pub fn render(file: &[u8], rows: usize, old: Row, budget: u64, text: &mut [u8; TEXT]) -> usize
+    ensures { λ r. ⌜ Stands (textOf (now (file .entry)) rows budget 4096) (now (text .entry)) (now (text .exit)) r ⌝ }
+{
+    let mut buffer = [0u8; RUN];
+    let told = standalone::checked(file, rows, old, budget, 0, &mut buffer);
+    put_whole(text, told, &buffer)
+}
+
+// What the check program prints of a file.
+pub fn answer(file: &[u8], text: &mut [u8; TEXT]) -> usize
+    ensures { λ r. ⌜ Stands (programText (now (file .entry))) (now (text .entry)) (now (text .exit)) r ⌝ }
+{
+    render(file, ROWS, telling::blank_row(), BUDGET, text)
 }

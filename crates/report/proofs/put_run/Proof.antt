@@ -9,12 +9,12 @@ use Rattle.report.proofs.put_run.Statement.{statement}
 use Rattle.report.proofs.put_run.Tie as tie
 
 returns : tie.Need-returns
-returns c = 
+returns c =
     let a = c .before .before .before .before .before .before .before .before .args in
     c .before .before .put-refused .ensures ∙ ap (λ (xs : List ℕ). puts xs (page (a .at) (a .text .now))) (run-refused (a .told) (a .buffer .now) (c .before .before .before .before .if1 .taken))
 
 returns-2 : tie.Need-returns-2
-returns-2 c = 
+returns-2 c =
     let a = c .before .before .before .before .before .before .before .before .args in
     c .before .before .put-steps .ensures ∙ ap (λ (xs : List ℕ). puts xs (page (a .at) (a .text .now))) (run-written (a .told) (a .buffer .now) (c .before .before .before .before .if1 .left))
 

@@ -15,7 +15,7 @@ slice-aggregate-put-separated : tie.Need-slice-aggregate-put-separated
 slice-aggregate-put-separated c = sym (length-take-le _ _ (c .before .before .least .ensures .1))
 
 returns : tie.Need-returns
-returns c = 
+returns c =
     let a = c .before .before .before .before .before .before .before .before .before .before .before .before .args in
     let p = page (a .at) (a .text .now) in
     let few = take-least (a .n) _ (a .buffer .now) (c .before .before .before .before .before .before .before .before .before .least .ensures .0) in

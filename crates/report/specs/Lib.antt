@@ -4,3 +4,4 @@ pub mod LineLaws
 pub mod RunLaws
 pub mod TextLaws
 pub mod LengthLaws
+pub mod StandsLaws

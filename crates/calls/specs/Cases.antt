@@ -2,6 +2,7 @@
 use mathlib.Core.Path.{_≡_, refl}
 use mathlib.Core.List.{List, [], _∷_, map}
 use Prim.Native.Nat.{ℕ}
+use Prim.Native.String.{String}
 use lib.ListN.{getD}
 use Rattle.relation.specs.Digits.{bit, number, some, count, subset}
 use Rattle.relation.specs.Relation.{states, has, table, identity, compose, pairs, rejects}
@@ -9,13 +10,15 @@ use Rattle.language.specs.WordRelation.{moves, letterRelation, wordRelation, is
 use Rattle.plan_file.specs.Records.{countOf}
 use Rattle.plan_file.specs.Refusals.{kindKnown, aboveRange, strayByte, risesFrom, exceeds, overLimit, faultBy, faultAt, faultFrom, fault}
 use Rattle.plan_file.specs.Views.{collect, rulesOf, transitionsOf, finalsOf, automatonOf}
-use Rattle.working_order.specs.Journal.{noRow, capped, live, liveOf}
+use Rattle.working_order.specs.Journal.{capped, live, liveOf}
 use Rattle.working_order.specs.Candidates.{liveRows, sole, paired, bare, choices, bodyCandidates, passCandidates}
-use Rattle.working_order.specs.Order.{Verdict, holds, broken, full, spent, Answer, born, answer, dropped, larger, retire, added, decide, consider, walk, onePass, passes, check}
+use Rattle.working_order.specs.Order.{Answer, born, answer, dropped, larger, retire, added, decide, consider, walk, onePass, passes, check}
 use Rattle.working_order.specs.Behind.{symbolWord, bodyWord, rowWord, wordsFrom, wordsOf, wordBehind}
-use Rattle.calls.specs.Base.{base}
+use Rattle.working_order.specs.Fitting.{pointerFits, symbolLen, bodyFits, rowFits, rowsFit}
 use Rattle.calls.specs.Replies.{Reply, refused, answered}
-use Rattle.calls.specs.Checking.{journalFault, orderOn, checkOf, shown}
+use Rattle.calls.specs.Checking.{journalFault, orderOn, checkOf}
+use Rattle.calls.specs.Writing.{rowFault, roomFault, wordOf, writeOf, bufferAfter}
+use Rattle.calls.specs.Printing.{bytes, decimal, blanked, separated, numbersLine, wordLine, refusedLine, lineOne, lineTwo, lineThree, brokenLines, textOf, programRoom, programText}
 use Rattle.calls.specs.Judging.{Judgement, accepted, turnedAway, wordFault, judgeOf}
 
 -- a record of kind k with the bytes 1 to 4
@@ -38,32 +41,41 @@ planB rest = entry 1 0 2 129 3 (entry 1 1 0 0 0 (entry 1 1 2 1 130 (entry 1 2 1 
 unfoldable pub lone : List ℕ → List ℕ
 lone rest = entry 1 0 0 0 0 rest
 
--- what the check program prints
+-- what is printed, what judging a run answers, or what refuses a call: the number and the place
 pub data Output : Type 0 where
-  -- verdict, joins, used rows, pass
-  line : Verdict → ℕ → ℕ → ℕ → Output
-  -- and of a broken answer row, pairs, length, and the word
-  lines : ℕ → ℕ → ℕ → ℕ → ℕ → ℕ → List ℕ → Output
-  refusal : ℕ → ℕ → Output
+  printed : List ℕ → Output
   judged : Judgement → Output
+  refusal : ℕ → ℕ → Output
 
-outputBy : Verdict → List ℕ → Answer ℕ → Output
-unfolding pairs count bit shown wordBehind wordsOf wordsFrom rowWord bodyWord symbolWord rulesOf collect
-outputBy holds bs a = line holds (a .joins) (a .used) (a .pass)
-outputBy full bs a = line full (a .joins) (a .used) (a .pass)
-outputBy spent bs a = line spent (a .joins) (a .used) (a .pass)
-outputBy broken bs a =
-    let r = getD (a .journal) (a .row) (noRow (base states (automatonOf bs) .forms)) in
-    lines (a .joins) (a .used) (a .pass) (a .row) (pairs states (r .effect)) (r .len) (shown bs a)
+abbrev says : String → Output
+says text = printed (bytes text)
 
-outputOf : List ℕ → Reply (Answer ℕ) → Output
-unfolding outputBy
-outputOf bs (refused r) = refusal (r .number) (r .place)
-outputOf bs (answered a) = outputBy (a .verdict) bs a
+-- with a run buffer of so many bytes
+checkedIn : ℕ → List ℕ → ℕ → ℕ → Output
+unfolding textOf brokenLines lineOne lineTwo lineThree refusedLine wordLine numbersLine separated blanked decimal writeOf bufferAfter wordOf rowFault roomFault rowsFit rowFits bodyFits pointerFits symbolLen wordBehind wordsOf wordsFrom rowWord bodyWord symbolWord pairs count checkOf orderOn journalFault fault faultFrom faultAt faultBy kindKnown aboveRange strayByte risesFrom exceeds overLimit countOf rulesOf transitionsOf finalsOf collect check passes onePass walk consider decide added retire larger dropped answer born passCandidates bodyCandidates choices bare sole paired liveRows live liveOf capped letterRelation moves isFinal rejects compose identity table has some number subset bit
+checkedIn room bs J B = printed (textOf bs J B room)
 
+-- with the check program's
 checked : List ℕ → ℕ → ℕ → Output
-unfolding outputOf checkOf orderOn journalFault fault faultFrom faultAt faultBy kindKnown aboveRange strayByte risesFrom exceeds overLimit countOf rulesOf transitionsOf finalsOf collect check passes onePass walk consider decide added retire larger dropped answer born passCandidates bodyCandidates choices bare sole paired liveRows live liveOf capped letterRelation moves isFinal rejects compose identity table has some number subset bit
-checked bs J B = outputOf bs (checkOf bs J B)
+unfolding checkedIn
+checked bs J B = checkedIn programRoom bs J B
+
+program : List ℕ → Output
+unfolding checkedIn programText
+program bs = printed (programText bs)
+
+numbers : List ℕ → Output
+unfolding separated blanked decimal
+numbers ns = printed (separated ns)
+
+-- what refuses the check
+refusedBy : Reply (Answer ℕ) → Output
+refusedBy (refused r) = refusal (r .number) (r .place)
+refusedBy (answered a) = refusal 0 0
+
+refusing : List ℕ → ℕ → ℕ → Output
+unfolding refusedBy checkedIn
+refusing bs J B = refusedBy (checkOf bs J B)
 
 judgedBy : Reply Judgement → Output
 judgedBy (refused r) = refusal (r .number) (r .place)
@@ -81,22 +93,29 @@ abbrev case : Output → Output → Case
 case a b = record { got = a; want = b }
 
 pub table-P : List Case
-unfolding planA planB lone sheetS checked judging
+unfolding planA planB lone sheetS checkedIn checked program numbers refusing judging
 table-P =
-    case (checked (planA sheetS) 1024 1000000) (line holds 12 4 4)
-    ∷ case (checked (planB sheetS) 1024 1000000) (lines 12 7 4 6 0 2 (1 ∷ 3 ∷ []))
-    ∷ case (checked (planA sheetS) 1024 11) (line spent 11 4 4)
-    ∷ case (checked (planA sheetS) 1024 12) (line holds 12 4 4)
-    ∷ case (checked (planA sheetS) 3 1000000) (line full 7 3 3)
-    ∷ case (checked (planA sheetS) 4 1000000) (line holds 12 4 4)
-    ∷ case (checked [] 1024 0) (line holds 0 0 1)
-    ∷ case (checked (lone []) 1024 1000000) (lines 1 1 1 0 8 0 [])
-    ∷ case (checked (lone (entry 3 0 0 0 0 [])) 1024 1000000) (line holds 2 1 2)
+    case (checked (planA sheetS) 1024 1000000) (says "holds 12 4 4\n")
+    ∷ case (checked (planB sheetS) 1024 1000000) (says "broken 12 7 4\n6 0 2\n1 3\n")
+    ∷ case (checked (planA sheetS) 1024 11) (says "spent 11 4 4\n")
+    ∷ case (checked (planA sheetS) 1024 12) (says "holds 12 4 4\n")
+    ∷ case (checked (planA sheetS) 3 1000000) (says "full 7 3 3\n")
+    ∷ case (checked (planA sheetS) 4 1000000) (says "holds 12 4 4\n")
+    ∷ case (checked [] 1024 0) (says "holds 0 0 1\n")
+    ∷ case (checked (lone []) 1024 1000000) (says "broken 1 1 1\n0 8 0\n\n")
+    ∷ case (checked (lone (entry 3 0 0 0 0 [])) 1024 1000000) (says "holds 2 1 2\n")
     ∷ case (judging sheetS (1 ∷ 3 ∷ [])) (judged turnedAway)
     ∷ case (judging sheetS (1 ∷ 2 ∷ 3 ∷ [])) (judged accepted)
-    ∷ case (checked (entry 1 0 1 191 0 []) 1024 1000000) (line holds 0 0 1)
-    ∷ case (checked (entry 1 0 1 192 0 []) 1024 1000000) (refusal 4 0)
-    ∷ case (checked (lone (lone [])) 1024 1000000) (refusal 6 1)
+    ∷ case (checked (entry 1 0 1 191 0 []) 1024 1000000) (says "holds 0 0 1\n")
+    ∷ case (checked (entry 1 0 1 192 0 []) 1024 1000000) (says "refused 4\n")
+    ∷ case (refusing (entry 1 0 1 192 0 []) 1024 1000000) (refusal 4 0)
+    ∷ case (checked (lone (lone [])) 1024 1000000) (says "refused 6\n")
+    ∷ case (refusing (lone (lone [])) 1024 1000000) (refusal 6 1)
+    ∷ case (checked (planA sheetS) 0 1000000) (says "refused 8\n")
+    ∷ case (program (planB sheetS)) (says "broken 12 7 4\n6 0 2\n1 3\n")
+    ∷ case (checkedIn 2 (planB sheetS) 1024 1000000) (says "broken 12 7 4\n6 0 2\n1 3\n")
+    ∷ case (checkedIn 1 (planB sheetS) 1024 1000000) (says "broken 12 7 4\n6 0 2\nrefused 10\n")
+    ∷ case (numbers (0 ∷ 9 ∷ 10 ∷ 191 ∷ 1000000 ∷ 18446744073709551615 ∷ [])) (says "0 9 10 191 1000000 18446744073709551615")
     ∷ []
 
 pub cases : map (λ (c : Case). c .got) table-P ≡ map (λ (c : Case). c .want) table-P

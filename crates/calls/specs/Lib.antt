@@ -5,6 +5,7 @@ pub mod Rows
 pub mod Checking
 pub mod Judging
 pub mod Writing
+pub mod Printing
 pub mod BaseLaws
 pub mod DemandThree
 pub mod Truth

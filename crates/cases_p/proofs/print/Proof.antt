@@ -1,0 +1,14 @@
+-- So many bytes of the buffer are the text. Assumes nothing.
+use borrow.Author.Needs.{needs}
+use Rattle.report.specs.StandsLaws.{text-count, text-within}
+use Rattle.cases_p.proofs.print.Statement.{statement}
+use Rattle.cases_p.proofs.print.Tie as tie
+
+array-share-prefix-text : tie.Need-array-share-prefix-text
+array-share-prefix-text c = text-within _ _ _ _ (c .render .ensures)
+
+slice-aggregate-write-all : tie.Need-slice-aggregate-write-all
+slice-aggregate-write-all c = text-count _ _ _ _ (c .before .render .ensures)
+
+pub print-spec : {M : Type 1} → statement M
+print-spec = tie.close (tie.spec (λ c κs. search needs) array-share-prefix-text slice-aggregate-write-all (λ c κs. search needs) (λ c. search needs))

@@ -1,0 +1,88 @@
+// Text in a lent buffer: bytes, numbers and lines put one after the other, from a place on. What does not fit is left out, so nothing is
+// asked of a caller; that all of an answer fits is proved where the whole answer is known.
+ghost use mathlib.Core.Path.{_≡_};
+ghost use mathlib.Core.List.{[], _∷_, _++_};
+ghost use Prim.Native.Nat.{_+_, _<_};
+ghost use Rattle.calls.specs.Printing.{blank, decimal, blanked, separated};
+ghost use Rattle.page.specs.Page.{page, put as putByte, puts};
+
+// A byte at the place, if the buffer has one there; and the next place.
+pub fn put(text: &mut [u8], at: usize, byte: u8) -> usize
+    ensures { λ r. ⌜ page r (now (text .exit)) ≡ putByte byte (page at (now (text .entry))) ⌝ }
+{
+    if at < text.len() {
+        text[at] = byte;
+        return at + 1;
+    }
+    at
+}
+
+// The bytes, one after the other. The loop keeps: the bytes from i on, put where it stands, are all of them put where it began.
+pub fn put_all(text: &mut [u8], at: usize, bytes: &[u8]) -> usize
+    ensures { λ r. ⌜ page r (now (text .exit)) ≡ puts (now (bytes .entry)) (page at (now (text .entry))) ⌝ }
+{
+    let mut place = at;
+    let mut i: usize = 0;
+    while i < bytes.len() {
+        place = put(text, place, bytes[i]);
+        i += 1;
+    }
+    place
+}
+
+// The digit for a number below 10.
+fn digit(n: u64) -> u8
+    requires { ⌜ n < 10 ⌝ }
+    ensures { λ r. ⌜ r ≡ 48 + n ⌝ }
+{
+    48 + n as u8
+}
+
+// The number in decimal: the digits in front of the last one, and then that one.
+pub fn put_decimal(text: &mut [u8], at: usize, n: u64) -> usize
+    ensures { λ r. ⌜ page r (now (text .exit)) ≡ puts (decimal n) (page at (now (text .entry))) ⌝ }
+{
+    if n < 10 {
+        return put(text, at, digit(n));
+    }
+    let last = put_decimal(text, at, n / 10);
+    put(text, last, digit(n % 10))
+}
+
+// A blank and the number.
+pub fn put_blanked(text: &mut [u8], at: usize, n: u64) -> usize
+    ensures { λ r. ⌜ page r (now (text .exit)) ≡ puts (blank ∷ decimal n) (page at (now (text .entry))) ⌝ }
+{
+    let next = put(text, at, b' ');
+    put_decimal(text, next, n)
+}
+
+fn wide(byte: u8) -> u64
+    ensures { λ r. ⌜ r ≡ byte ⌝ }
+{
+    byte as u64
+}
+
+// The bytes as numbers, each after a blank. The loop keeps: those from i on, put where it stands, are all of them put where it began.
+fn put_all_blanked(text: &mut [u8], at: usize, numbers: &[u8]) -> usize
+    ensures { λ r. ⌜ page r (now (text .exit)) ≡ puts (blanked (now (numbers .entry))) (page at (now (text .entry))) ⌝ }
+{
+    let mut place = at;
+    let mut i: usize = 0;
+    while i < numbers.len() {
+        place = put_blanked(text, place, wide(numbers[i]));
+        i += 1;
+    }
+    place
+}
+
+// The bytes as numbers, separated by one blank.
+pub fn put_separated(text: &mut [u8], at: usize, numbers: &[u8]) -> usize
+    ensures { λ r. ⌜ page r (now (text .exit)) ≡ puts (separated (now (numbers .entry))) (page at (now (text .entry))) ⌝ }
+{
+    if numbers.len() == 0 {
+        return at;
+    }
+    let next = put_decimal(text, at, wide(numbers[0]));
+    put_all_blanked(text, next, &numbers[1..])
+}

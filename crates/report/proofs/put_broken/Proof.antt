@@ -1,0 +1,21 @@
+-- The three lines. Assumes nothing.
+use Rattle.page.specs.PageLaws.{puts-then}
+use Rattle.report.specs.Lines.{brokenText}
+use borrow.Author.Needs.{needs}
+use Rattle.report.proofs.put_broken.Statement.{statement}
+use Rattle.report.proofs.put_broken.Tie as tie
+
+returns : tie.Need-returns
+unfolding brokenText
+returns c = puts-then _ _ _ _ _ (c .before .before .before .before .before .before .before .before .before .before .put-totals .ensures) (puts-then _ _ _ _ _ (c .before .before .before .before .before .before .put-row .ensures) (c .before .before .put-run .ensures))
+
+pub put-broken-spec : {M : Type 1} → statement M
+put-broken-spec =
+    tie.close
+    (tie.spec
+    (λ c. search needs)
+    (λ c κs. search needs)
+    (λ c κs. search needs)
+    (λ c κs. search needs)
+    (λ c. search needs)
+    returns)

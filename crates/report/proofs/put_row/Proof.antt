@@ -1,0 +1,21 @@
+-- The three numbers, and the end of the line. Assumes nothing.
+use Rattle.report.specs.Lines.{rowLine}
+use Rattle.report.specs.LineLaws.{puts-end, puts-blank, puts-first}
+use borrow.Author.Needs.{needs}
+use Rattle.report.proofs.put_row.Statement.{statement}
+use Rattle.report.proofs.put_row.Tie as tie
+
+returns : tie.Need-returns
+unfolding rowLine
+returns c = puts-first _ _ _ _ _ (c .before .before .before .before .before .before .before .before .before .before .before .before .before .before .put-decimal .ensures) (puts-blank _ _ _ _ _ _ (c .before .before .before .before .before .before .before .before .before .before .put-blanked .ensures) (puts-blank _ _ _ _ _ _ (c .before .before .before .before .before .before .put-blanked2 .ensures) (puts-end _ _ (c .before .before .put .ensures))))
+
+pub put-row-spec : {M : Type 1} → statement M
+put-row-spec =
+    tie.close
+    (tie.spec
+    (λ c κs. search needs)
+    (λ c κs. search needs)
+    (λ c κs. search needs)
+    (λ c κs. search needs)
+    (λ c. search needs)
+    returns)

@@ -1,0 +1,33 @@
+-- No more steps than the buffer has, and the end of the line. Assumes nothing.
+use mathlib.Core.Path.{sym, ap, _∙_}
+use mathlib.Core.List.{List}
+use Prim.Native.Nat.{ℕ}
+use lib.ListN.{take}
+use lib.Seq.{length-take-le}
+use Rattle.calls.specs.Printing.{numbersLine, separated}
+use Rattle.page.specs.Page.{page, puts}
+use Rattle.report.specs.LineLaws.{puts-line, take-least}
+use borrow.Author.Needs.{needs}
+use Rattle.report.proofs.put_steps.Statement.{statement}
+use Rattle.report.proofs.put_steps.Tie as tie
+
+slice-aggregate-put-separated : tie.Need-slice-aggregate-put-separated
+slice-aggregate-put-separated c = sym (length-take-le _ _ (c .before .before .least .ensures .1))
+
+returns : tie.Need-returns
+returns c =
+    let a = c .before .before .before .before .before .before .before .before .before .before .before .before .args in
+    let p = page (a .at) (a .text .now) in
+    let few = take-least (a .n) _ (a .buffer .now) (c .before .before .before .before .before .before .before .before .before .least .ensures .0) in
+    puts-line _ _ _ _ (c .before .before .before .before .before .before .put-separated .ensures) (c .before .before .put .ensures) ∙ ap (λ (xs : List ℕ). puts (numbersLine xs) p) few
+
+pub put-steps-spec : {M : Type 1} → statement M
+put-steps-spec =
+    tie.close
+    (tie.spec
+    (λ c κs. search needs)
+    slice-aggregate-put-separated
+    (λ c κs. search needs)
+    (λ c κs. search needs)
+    (λ c. search needs)
+    returns)

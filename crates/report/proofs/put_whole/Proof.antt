@@ -1,0 +1,29 @@
+-- Every text fits, so all of it stands. Assumes nothing.
+use mathlib.Core.Path.{ap, _∙_}
+use Prim.Native.Nat.{_≤_}
+use native.Mathlib.Omega.{arith}
+use lib.ListN.{length}
+use Rattle.page.specs.Page.{Page}
+use Rattle.page.specs.PageLaws.{puts-all}
+use Rattle.report.specs.Lines.{toldText}
+use borrow.Author.Needs.{needs}
+use Rattle.report.proofs.put_whole.Statement.{statement}
+use Rattle.report.proofs.put_whole.Tie as tie
+use Rattle.report.proofs.put_whole.Reads as reads
+use Rattle.report.proofs.put_whole.Lts as lts
+use Rattle.report.proofs.put_told.Reads as put-told-reads
+
+put-told-requires : tie.Need-put-told-requires
+put-told-requires c κs = search needs
+
+returns : tie.Need-returns
+returns c =
+    let a = c .before .before .before .args in
+    let t = toldText (a .told) (a .buffer .now) in
+    let e = c .put-told .ensures in
+    let l : length t ≤ length (a .text .now) = omega (arith, e .1, c .before .before .before .good) in
+    let all = e .0 ∙ puts-all t (a .text .now) l in
+    record { count = ap (λ (p : Page). p .place) all; bytes = ap (λ (p : Page). p .held) all; room = l }
+
+pub put-whole-spec : {M : Type 1} → statement M
+put-whole-spec = tie.close (tie.spec put-told-requires returns)

@@ -1,0 +1,42 @@
+-- The lines of an answer, from what is told of it and the run buffer, as the code has them. Definitions only. Assumes nothing.
+use mathlib.Core.Bool.{Bool, true, false}
+use mathlib.Core.List.{List, [], _∷_, _++_}
+use Prim.Native.Nat.{ℕ, zero, suc}
+use lib.Dec.{eqb}
+use lib.ListN.{take}
+use Rattle.working_order.specs.Order.{Verdict, holds, broken, full, spent}
+use Rattle.calls.specs.Printing.{verdictWord, numbersLine, wordLine, refusedLine}
+use Rattle.telling.specs.Codes.{holdsCode, brokenCode, fullCode, spentCode}
+use Rattle.telling.specs.declared.Told.{Told}
+
+-- line 1
+unfoldable pub totalsLine : List ℕ → Told → List ℕ
+totalsLine word t = wordLine word (t .joins ∷ t .used ∷ t .pass ∷ [])
+
+-- line 2
+unfoldable pub rowLine : Told → List ℕ
+rowLine t = numbersLine (t .row ∷ t .pairs ∷ t .length ∷ [])
+
+-- line 3: what refused to write the run, f, where it is not 0, or the n steps at the front of the buffer
+abbrev pub runBy : ℕ → ℕ → List ℕ → List ℕ
+runBy zero n buffer = numbersLine (take n buffer)
+runBy (suc f) n buffer = refusedLine (suc f)
+
+unfoldable pub runLine : Told → List ℕ → List ℕ
+runLine t buffer = runBy (t .refused) (t .length) buffer
+
+unfoldable pub brokenText : Told → List ℕ → List ℕ
+brokenText t buffer = totalsLine (verdictWord broken) t ++ (rowLine t ++ runLine t buffer)
+
+abbrev pub pick : Bool → List ℕ → List ℕ → List ℕ
+pick true x y = x
+pick false x y = y
+
+-- by the number that is told
+unfoldable pub toldText : Told → List ℕ → List ℕ
+toldText t buffer =
+    pick (eqb (t .code) holdsCode) (totalsLine (verdictWord holds) t)
+    (pick (eqb (t .code) fullCode) (totalsLine (verdictWord full) t)
+    (pick (eqb (t .code) spentCode) (totalsLine (verdictWord spent) t)
+    (pick (eqb (t .code) brokenCode) (brokenText t buffer)
+    (refusedLine (t .code)))))

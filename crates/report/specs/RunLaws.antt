@@ -1,0 +1,134 @@
+-- Line 3 of a broken answer is its shown run, or number 10, whether the run is written from the journal of the answer or from the lent
+-- one, which held other rows before. Assumes nothing.
+use mathlib.Core.Path.{_≡_, refl, sym, ap, _∙_, subst}
+use mathlib.Core.Bool.{Bool, true, false, _||_, cond}
+use mathlib.Core.List.{List, _++_}
+use Prim.Native.Nat.{ℕ, zero, suc, _+_, min, _≤_, _<_}
+use native.Mathlib.Nat.{suc-ne-zero}
+use native.Mathlib.Omega.{arith}
+use lib.Dec.{leb, ltb}
+use lib.ListN.{length, take, drop, replicate, length-replicate}
+use lib.Seq.{take-at}
+use borrow.Author.Tests.{lt-ltb, le-ltb, ne-eqb, leb-false}
+use Rattle.basics.specs.Tests.{and-intro, or-neither}
+use Rattle.relation.specs.Relation.{states}
+use Rattle.language.specs.Grammar.{Rule}
+use Rattle.plan_file.specs.Refusals.{refuse, fault}
+use Rattle.plan_file.specs.Views.{rulesOf, automatonOf}
+use Rattle.working_order.specs.Algebra.{Forms}
+use Rattle.working_order.specs.Journal.{Row, capped}
+use Rattle.working_order.specs.Fitting.{rowFits, rowsFit}
+use Rattle.working_order.specs.Order.{Answer, broken}
+use Rattle.calls.specs.Base.{base}
+use Rattle.calls.specs.Checking.{journalLimit, journalFault, orderOn, checkOf, shown}
+use Rattle.calls.specs.JournalTruth.{row-true}
+use Rattle.calls.specs.Printing.{numbersLine, refusedLine, lineThree}
+use Rattle.calls.specs.Promising.{from-order, promises}
+use Rattle.calls.specs.Replies.{Reply, refused, answered, unless, unlessBy}
+use Rattle.calls.specs.Writing.{longWord, rowFault, roomFault, wordOf, writeOf, writtenBy, bufferAfter}
+use Rattle.telling.specs.Telling.{refusedBy}
+use Rattle.report.specs.Lines.{runBy}
+
+-- ---- a run w, where the room decides
+
+-- f, where it is not 0, or the steps
+abbrev pub threeBy : ℕ → List ℕ → List ℕ
+threeBy zero w = numbersLine w
+threeBy (suc f) w = refusedLine (suc f)
+
+-- what writing it answers
+abbrev pub replyTo : List ℕ → ℕ → Reply ℕ
+replyTo w room = unless (refuse (roomFault w room) 0) (answered (length w))
+
+-- a run that 10 does not refuse has the length that its row says
+short : (w : List ℕ) (room : ℕ) → roomFault w room ≡ 0 → capped (length w) ≡ length w
+unfolding roomFault capped
+short w room e = by (leb longWord (length w) || ltb room (length w)) refl e
+  where
+    by : (b : Bool) → (leb longWord (length w) || ltb room (length w)) ≡ b → _≡_ {A = ℕ} (cond b 10 0) 0 → min (length w) 65535 ≡ length w
+    by true p q = absurd (suc-ne-zero 9 q)
+    by false p q = let l = leb-false longWord (length w) (or-neither (leb longWord (length w)) (ltb room (length w)) p .0) in omega arith
+
+module _ (w old : List ℕ) where
+  -- line 3 of the definition
+  defined : (f : ℕ) → lineThree (writtenBy w old (unlessBy f (refuse f 0) (answered (length w)))) (unlessBy f (refuse f 0) (answered (length w))) ≡ threeBy f w
+  unfolding lineThree
+  defined zero = ap numbersLine (take-at w (drop (length w) old) (length w) refl)
+  defined (suc f) = refl
+
+  -- and of the code, from what is told
+  told : (f len : ℕ) → (f ≡ 0 → len ≡ length w)
+      → runBy (refusedBy (unlessBy f (refuse f 0) (answered (length w)))) len (writtenBy w old (unlessBy f (refuse f 0) (answered (length w)))) ≡ threeBy f w
+  told zero len h = ap numbersLine (take-at w (drop (length w) old) len (sym (h refl)))
+  told (suc f) len h = refl
+
+module _ (bs : List ℕ) (rows : List (Row ℕ)) (used i : ℕ) (w : List ℕ) (same : wordOf bs rows i ≡ w) (room : ℕ) (e : writeOf bs rows used i room ≡ replyTo w room) where
+  buffer-is : (old : List ℕ) → length old ≡ room → bufferAfter bs rows used i old ≡ writtenBy w old (replyTo w room)
+  unfolding bufferAfter
+  buffer-is old l = ap (λ (u : List ℕ). writtenBy u old (writeOf bs rows used i (length old))) same ∙ ap (λ (n : ℕ). writtenBy w old (writeOf bs rows used i n)) l ∙ ap (writtenBy w old) e
+
+  pub line-defined : lineThree (bufferAfter bs rows used i (replicate room 0)) (writeOf bs rows used i room) ≡ threeBy (roomFault w room) w
+  line-defined =
+      ap (λ (b : List ℕ). lineThree b (writeOf bs rows used i room)) (buffer-is (replicate room 0) (length-replicate room 0))
+      ∙ ap (lineThree (writtenBy w (replicate room 0) (replyTo w room))) e
+      ∙ defined w (replicate room 0) (roomFault w room)
+
+  pub line-told : (old : List ℕ) → length old ≡ room → (len : ℕ) → len ≡ capped (length w)
+      → runBy (refusedBy (writeOf bs rows used i room)) len (bufferAfter bs rows used i old) ≡ threeBy (roomFault w room) w
+  line-told old l len c =
+      ap (runBy (refusedBy (writeOf bs rows used i room)) len) (buffer-is old l)
+      ∙ ap (λ (x : Reply ℕ). runBy (refusedBy x) len (writtenBy w old (replyTo w room))) e
+      ∙ told w old (roomFault w room) len (λ z. c ∙ short w room z)
+
+-- ---- from the journal of the answer
+
+-- the first m rows fit, where each of them does
+all-fit : (M : Forms ℕ) (rows : List (Row ℕ)) (rules : List Rule) (m : ℕ) → ((i : ℕ) → i < m → rowFits M rows rules i ≡ true) → rowsFit M rows rules m ≡ true
+unfolding rowsFit
+all-fit M rows rules zero f = refl
+all-fit M rows rules (suc m) f = and-intro (rowsFit M rows rules m) (rowFits M rows rules m) (all-fit M rows rules m (λ i l. f i (omega arith))) (f m (omega arith))
+
+size-journal : (n : ℕ) → 1 ≤ n → n ≤ journalLimit → journalFault n ≡ 0
+unfolding journalFault
+size-journal n l m = rw (ne-eqb n 0 (λ e. omega arith), le-ltb journalLimit n m)
+
+module _ (bs : List ℕ) (J B : ℕ) (few : J ≤ journalLimit) (a : Answer ℕ) (e : checkOf bs J B ≡ answered a) (v : a .verdict ≡ broken) where
+  abbrev M : Forms ℕ
+  M = base states (automatonOf bs) .forms
+
+  order : a ≡ orderOn bs J B
+  order = from-order bs J B a e .2
+
+  last : suc (a .row) ≡ a .used
+  last = promises bs J B a e .counts .last-row v
+
+  used-is : a .used ≡ length (a .journal)
+  used-is = promises bs J B a e .counts .used-rows
+
+  pub row-in : a .row < length (a .journal)
+  row-in = omega (arith, last, used-is)
+
+  fit : rowsFit M (a .journal) (rulesOf bs) (a .row + 1) ≡ true
+  fit =
+      all-fit M (a .journal) (rulesOf bs) (a .row + 1) (λ i l.
+      let here : i < length (a .journal) = omega (arith, l, row-in) in
+      subst (λ (x : Answer ℕ). rowFits M (x .journal) (rulesOf bs) i ≡ true) (sym order)
+      (row-true bs J B i (subst (λ (x : Answer ℕ). i < length (x .journal)) order here) .fits))
+
+  row-fits : rowFault M (rulesOf bs) (a .journal) (a .used) (a .row) ≡ 0
+  unfolding rowFault
+  row-fits = rw (lt-ltb (a .row) (a .used) (omega (arith, last)), le-ltb (length (a .journal)) (a .used) (omega (arith, used-is)), fit)
+
+  pub word-own : wordOf bs (a .journal) (a .row) ≡ shown bs a
+  unfolding wordOf shown
+  word-own = refl
+
+  pub writes-own : (room : ℕ) → writeOf bs (a .journal) (a .used) (a .row) room ≡ replyTo (shown bs a) room
+  unfolding writeOf
+  writes-own room =
+      rw (
+        from-order bs J B a e .0,
+        size-journal (length (a .journal)) (omega (arith, row-in)) (omega (arith, few, used-is, promises bs J B a e .counts .rows-bound)),
+        row-fits,
+        word-own,
+      )

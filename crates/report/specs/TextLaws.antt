@@ -1,0 +1,163 @@
+-- The lines of what is told of a check are the text of the check. Assumes nothing.
+use mathlib.Core.Path.{_≡_, refl, sym, ap, _∙_, subst}
+use mathlib.Core.Bool.{Bool, true, false, cond}
+use mathlib.Core.List.{List, [], _∷_, _++_, map}
+use Prim.Native.Nat.{ℕ, zero, suc, min, _≤_, _<_}
+use native.Mathlib.Omega.{arith}
+use lib.Dec.{leb}
+use lib.ListN.{length, getD, take, drop, replicate, length-replicate, length-take, length-map, List·getD-append}
+use lib.Seq.{length-take-le}
+use borrow.Author.Tests.{lt-ltb, ne-eqb, leb-true, leb-false}
+use Rattle.relation.specs.Relation.{states, pairs}
+use Rattle.plan_file.specs.Refusals.{refuse, fault}
+use Rattle.plan_file.specs.Views.{rulesOf, automatonOf}
+use Rattle.working_order.specs.Journal.{Row, noRow, capped}
+use Rattle.working_order.specs.Order.{Answer, Verdict, holds, broken, full, spent}
+use Rattle.calls.specs.Base.{base}
+use Rattle.calls.specs.Checking.{journalLimit, journalFault, orderOn, checkOf, keptBy, journalAfter, shown}
+use Rattle.calls.specs.Printing.{verdictWord, numbersLine, wordLine, refusedLine, lineOne, lineTwo, lineThree, brokenLines, linesBy, textBy, textOf}
+use Rattle.calls.specs.Promising.{promises}
+use Rattle.calls.specs.Replies.{Reply, refused, answered, unless, unlessBy}
+use Rattle.calls.specs.Rows.{rowOf}
+use Rattle.calls.specs.Writing.{roomFault, writeOf, bufferAfter}
+use Rattle.calls.specs.declared.Row.{Row as LentRow}
+use Rattle.covers.specs.Rows.{Journal}
+use Rattle.witness.specs.Shown.{word-shown, writes-shown}
+use Rattle.telling.specs.Codes.{holdsCode, brokenCode, fullCode, spentCode, verdictCode}
+use Rattle.telling.specs.Fronts.{journalOf}
+use Rattle.telling.specs.Telling.{refusedBy, numbersIn}
+use Rattle.telling.specs.declared.Told.{Told}
+use Rattle.standalone.specs.Told.{zeroRow, rowIn, lastThree, shownBy}
+use Rattle.standalone.specs.Contracts.{Tells, ChecksAlone}
+use Rattle.bolfrega.specs.LowNumbers.{LowIn, check-low}
+use Rattle.report.specs.Lines.{totalsLine, rowLine, runBy, runLine, brokenText, toldText}
+use Rattle.report.specs.LineLaws.{told-holds, told-full, told-spent, told-broken, told-refused}
+use Rattle.report.specs.RunLaws.{threeBy, line-defined, line-told, row-in, word-own, writes-own}
+
+-- ---- the lent rows
+
+module _ (n : ℕ) (x : LentRow) where
+  pub few-rows : length (journalOf n x) ≤ journalLimit
+  unfolding journalOf
+  few-rows = omega (arith, length-take (cond (leb n journalLimit) n 0) (replicate journalLimit x), length-replicate journalLimit x)
+
+  all-rows : n ≤ journalLimit → length (take n (replicate journalLimit x)) ≡ n
+  all-rows l = length-take-le n (replicate journalLimit x) (omega (arith, length-replicate journalLimit x))
+
+-- 8, for any number of rows that it refuses
+refused-rows : (bs : List ℕ) (J B : ℕ) → journalFault J ≡ 8 → checkOf bs J B ≡ unless (fault bs) (refused (refuse 8 0))
+unfolding checkOf
+refused-rows bs J B e = rw e
+
+too-many : (J : ℕ) → journalLimit < J → journalFault J ≡ 8
+unfolding journalFault
+too-many J h = rw (ne-eqb J 0 (λ e. omega arith), lt-ltb journalLimit J h)
+
+none : journalFault 0 ≡ 8
+unfolding journalFault
+none = refl
+
+-- so many rows, or none where a journal may not have them: the check answers the same
+pub same-check : (bs : List ℕ) (n : ℕ) (x : LentRow) (B : ℕ) → checkOf bs (length (journalOf n x)) B ≡ checkOf bs n B
+unfolding journalOf
+same-check bs n x B = by (leb n journalLimit) refl
+  where
+    by : (b : Bool) → leb n journalLimit ≡ b → checkOf bs (length (take (cond (leb n journalLimit) n 0) (replicate journalLimit x))) B ≡ checkOf bs n B
+    by true p = ap (λ (c : Bool). checkOf bs (length (take (cond c n 0) (replicate journalLimit x))) B) p ∙ ap (λ (J : ℕ). checkOf bs J B) (all-rows n x (leb-true n journalLimit p))
+    by false p =
+        ap (λ (c : Bool). checkOf bs (length (take (cond c n 0) (replicate journalLimit x))) B) p
+        ∙ refused-rows bs 0 B none ∙ sym (refused-rows bs n B (too-many n (leb-false n journalLimit p)))
+
+-- ---- a row
+
+getD-any : {A : Type 0} (d d′ : A) (xs : List A) (i : ℕ) → i < length xs → getD xs i d ≡ getD xs i d′
+getD-any d d′ [] i h = absurd (omega arith)
+getD-any d d′ (x ∷ xs) zero h = refl
+getD-any d d′ (x ∷ xs) (suc i) h = getD-any d d′ xs i (omega arith)
+
+-- ---- the lines
+
+module _ (bs : List ℕ) (n : ℕ) (x : LentRow) (B p : ℕ) (old new : List ℕ) (room : ℕ) (l : length old ≡ room) (t : Told) (h : ChecksAlone bs n x B p old new t) where
+  abbrev J : ℕ
+  J = length (journalOf n x)
+
+  abbrev before : List (Row ℕ)
+  before = map rowOf (journalOf n x)
+
+  abbrev rows : List (Row ℕ)
+  rows = journalAfter bs before B
+
+  module _ (a : Answer ℕ) (e : checkOf bs J B ≡ answered a) (k : Tells bs rows (answered a) (numbersIn t) old new (t .code)) where
+    totals-are : (word : List ℕ) → totalsLine word t ≡ wordLine word (a .joins ∷ a .used ∷ a .pass ∷ [])
+    unfolding totalsLine
+    totals-are word = ap (λ (d : List ℕ). wordLine word (getD d 1 0 ∷ getD d 2 0 ∷ getD d 3 0 ∷ [])) (k .details)
+
+    module _ (v : a .verdict ≡ broken) where
+      lent-check : checkOf bs (length before) B ≡ answered a
+      lent-check = ap (λ (m : ℕ). checkOf bs m B) (length-map (journalOf n x) rowOf) ∙ e
+
+      below : a .row < length (a .journal)
+      below = row-in bs J B (few-rows n x) a e v
+
+      row-is : rowIn rows (a .row) ≡ getD (a .journal) (a .row) (noRow (base states (automatonOf bs) .forms))
+      unfolding journalAfter
+      row-is =
+          ap (λ (r : List (Row ℕ)). rowIn r (a .row)) (ap (keptBy before) lent-check)
+          ∙ List·getD-append (a .journal) (drop (a .used) before) zeroRow (a .row) below
+          ∙ getD-any zeroRow (noRow (base states (automatonOf bs) .forms)) (a .journal) (a .row) below
+
+      length-is : rowIn rows (a .row) .len ≡ capped (length (shown bs a))
+      unfolding shown
+      length-is =
+          ap (λ (r : Row ℕ). r .len) (row-is ∙ getD-any _ _ (a .journal) (a .row) below)
+          ∙ promises bs J B a e .rows-mean (a .row) (omega (arith, below, promises bs J B a e .counts .used-rows)) .length-is
+
+      details : numbersIn t ≡ 0 ∷ a .joins ∷ a .used ∷ a .pass ∷ a .row ∷ lastThree broken (rowIn rows (a .row)) (writeOf bs rows (a .used) (a .row) room)
+      details =
+          k .details
+          ∙ ap (λ (u : Verdict). 0 ∷ a .joins ∷ a .used ∷ a .pass ∷ a .row ∷ lastThree u (rowIn rows (a .row)) (writeOf bs rows (a .used) (a .row) (length old))) v
+          ∙ ap (λ (m : ℕ). 0 ∷ a .joins ∷ a .used ∷ a .pass ∷ a .row ∷ lastThree broken (rowIn rows (a .row)) (writeOf bs rows (a .used) (a .row) m)) l
+
+      buffer : new ≡ bufferAfter bs rows (a .used) (a .row) old
+      buffer = k .buffer ∙ ap (λ (u : Verdict). shownBy u (bufferAfter bs rows (a .used) (a .row) old) old) v
+
+      row-line : rowLine t ≡ lineTwo (a .row) (getD (a .journal) (a .row) (noRow (base states (automatonOf bs) .forms)))
+      unfolding rowLine lineTwo
+      row-line = ap (λ (d : List ℕ). numbersLine (getD d 4 0 ∷ getD d 5 0 ∷ getD d 6 0 ∷ [])) details ∙ ap (lineTwo (a .row)) row-is
+
+      run-line : runLine t new ≡ lineThree (bufferAfter bs (a .journal) (a .used) (a .row) (replicate room 0)) (writeOf bs (a .journal) (a .used) (a .row) room)
+      unfolding runLine
+      run-line =
+          ap (λ (d : List ℕ). runBy (getD d 7 0) (getD d 6 0) new) details
+          ∙ ap (runBy (refusedBy (writeOf bs rows (a .used) (a .row) room)) (rowIn rows (a .row) .len)) buffer
+          ∙ line-told bs rows (a .used) (a .row) (shown bs a) (word-shown bs before B a lent-check v) room (writes-shown bs before B a lent-check v room) old l (rowIn rows (a .row) .len) length-is
+          ∙ sym (line-defined bs (a .journal) (a .used) (a .row) (shown bs a) (word-own bs J B (few-rows n x) a e v) room (writes-own bs J B (few-rows n x) a e v room))
+
+      broken-text : brokenText t new ≡ lineOne broken a ++ brokenLines bs room a
+      unfolding brokenText lineOne brokenLines
+      broken-text =
+          ap (λ (xs : List ℕ). xs ++ (rowLine t ++ runLine t new)) (totals-are (verdictWord broken))
+          ∙ ap (λ (xs : List ℕ). lineOne broken a ++ (xs ++ runLine t new)) row-line
+          ∙ ap (λ (xs : List ℕ). lineOne broken a ++ (lineTwo (a .row) (getD (a .journal) (a .row) (noRow (base states (automatonOf bs) .forms))) ++ xs)) run-line
+
+    code : (v : Verdict) → a .verdict ≡ v → t .code ≡ verdictCode v
+    code v e = k .code ∙ ap verdictCode e
+
+    answered-text : (v : Verdict) → a .verdict ≡ v → toldText t new ≡ linesBy v bs room a
+    unfolding lineOne
+    answered-text holds v = sym (told-holds t new (code holds v)) ∙ totals-are (verdictWord holds)
+    answered-text full v = let c = code full v in sym (told-full t new (λ z. omega arith) c) ∙ totals-are (verdictWord full)
+    answered-text spent v = let c = code spent v in sym (told-spent t new (λ z. omega arith) (λ z. omega arith) c) ∙ totals-are (verdictWord spent)
+    answered-text broken v =
+        let c = code broken v in
+        sym (told-broken t new (λ z. omega arith) (λ z. omega arith) (λ z. omega arith) c) ∙ broken-text v
+
+  replied-text : (y : Reply (Answer ℕ)) → checkOf bs J B ≡ y → LowIn y → Tells bs rows y (numbersIn t) old new (t .code) → toldText t new ≡ textBy bs room y
+  replied-text (refused r) e low k =
+      let c = k .code in
+      sym (told-refused t new (λ z. omega arith) (λ z. omega arith) (λ z. omega arith) (λ z. omega arith)) ∙ ap refusedLine c
+  replied-text (answered a) e low k = answered-text a e k (a .verdict) refl
+
+  pub told-text : toldText t new ≡ textOf bs n B room
+  unfolding textOf
+  told-text = replied-text (checkOf bs J B) refl (check-low bs J B) (h .over .told) ∙ ap (textBy bs room) (same-check bs n x B)

@@ -14,11 +14,9 @@ use Rattle.plan_file.specs.Refusals.{Refusal, refuse, fault}
 use Rattle.working_order.specs.Journal.{Row}
 use Rattle.working_order.specs.Order.{Answer, Verdict, holds, broken, full, spent}
 use Rattle.calls.specs.Checking.{journalLimit, journalFault, orderOn, checkOf, keptBy, journalAfter, shown}
-use Rattle.calls.specs.Promising.{promises}
+use Rattle.calls.specs.Promising.{promises, broken-word, broken-writes}
 use Rattle.calls.specs.Replies.{Reply, refused, answered, unless, unlessBy}
-use Rattle.calls.specs.DemandThree.{WritesShown}
-use Rattle.calls.specs.Writing.{longWord, roomFault, writeOf, writtenBy, bufferAfter}
-use Rattle.calls.specs.WritingTruth.{room-cases}
+use Rattle.calls.specs.Writing.{roomFault, writeOf, writtenBy, bufferAfter}
 use Rattle.telling.specs.Codes.{firstAnswerCode, holdsCode, brokenCode, fullCode, verdictCode, codeBy}
 use Rattle.standalone.specs.Told.{zeroRow, answerCode, rowIn, lastThree, detailsOf, shownBy, shownOf}
 use Rattle.bolfrega.specs.Contracts.{zeroRows, ChecksZeros}
@@ -78,21 +76,9 @@ module _ (bs old : List ℕ) (rows : List (Row ℕ)) (B : ℕ) (a : Answer ℕ) 
       ap (λ (xs : List (Row ℕ)). rowIn xs (a .row)) (ap (keptBy rows) e)
       ∙ List·getD-append (a .journal) (drop (a .used) rows) zeroRow (a .row) (omega (arith, c .last-row v, c .used-rows))
 
-  -- the shown word is written, or 10 refuses it
-  shown-written : a .verdict ≡ broken → (wrote ≡ writing bs old a) × (bufferAfter bs after (a .used) (a .row) old ≡ writtenBy (shown bs a) old (writing bs old a))
-  shown-written v = by (promises bs (length rows) B a e .writes-shown v rows refl old) (room-cases (shown bs a) (length old))
-    where
-      w : List ℕ
-      w = shown bs a
-
-      by : WritesShown bs B a rows old → ((roomFault w (length old) ≡ 0) × (length w < longWord) × (length w ≤ length old)) ⊎ ((roomFault w (length old) ≡ 10) × ((longWord ≤ length w) ⊎ (length old < length w)))
-          → (wrote ≡ writing bs old a) × (bufferAfter bs after (a .used) (a .row) old ≡ writtenBy w old (writing bs old a))
-      by s (inl (f, l, r)) = (rw f (s .length-told l r), rw f (s .written l r))
-      by s (inr (f, o)) = (rw f (s .too-long o), rw f (s .untouched o))
-
   three-same : (v : Verdict) → a .verdict ≡ v → lastThree v (rowIn after (a .row)) wrote ≡ lastThree v (brokenRow a) (writing bs old a)
   three-same holds q = refl
-  three-same broken q = ap₂ (λ (x : Row ℕ) (w : Reply ℕ). lastThree broken x w) (row-same q) (shown-written q .0)
+  three-same broken q = ap₂ (λ (x : Row ℕ) (w : Reply ℕ). lastThree broken x w) (row-same q) (broken-writes bs rows B a e q (length old))
   three-same full q = refl
   three-same spent q = refl
 
@@ -101,8 +87,9 @@ module _ (bs old : List ℕ) (rows : List (Row ℕ)) (B : ℕ) (a : Answer ℕ) 
 
   by-verdict : (v : Verdict) → a .verdict ≡ v
       → shownBy v (bufferAfter bs after (a .used) (a .row) old) old ≡ shownBy v (writtenBy (shown bs a) old (writing bs old a)) old
+  unfolding bufferAfter
   by-verdict holds q = refl
-  by-verdict broken q = shown-written q .1
+  by-verdict broken q = ap₂ (λ (w : List ℕ) (x : Reply ℕ). writtenBy w old x) (broken-word bs rows B a e q) (broken-writes bs rows B a e q (length old))
   by-verdict full q = refl
   by-verdict spent q = refl
 

@@ -8,7 +8,7 @@ use native.Mathlib.Omega.{arith}
 use lib.Dec.{leb, ltb}
 use lib.ListN.{length, replicate}
 use borrow.Author.Tests.{eq-eqb, lt-ltb, le-ltb, le-leb, lt-leb}
-use Rattle.basics.specs.Lists.{any}
+use Rattle.basics.specs.Elements.{any}
 use Rattle.basics.specs.Tests.{or-right}
 use Rattle.plan_file.specs.Records.{recordCount, recordAt, countOf, ruleRecord, recordOf}
 use Rattle.plan_file.specs.Refusals.{Refusal, refuse, kindKnown, aboveRange, strayByte, risesFrom, rises, exceeds, overLimit, faultBy, faultAt, faultFrom, fault}

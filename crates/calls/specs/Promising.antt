@@ -12,12 +12,13 @@ use Rattle.basics.specs.Tests.{or-neither}
 use Rattle.plan_file.specs.Refusals.{refuse, fault}
 use Rattle.working_order.specs.Journal.{Row}
 use Rattle.working_order.specs.Order.{Answer, broken}
-use Rattle.calls.specs.Replies.{answered, unlessBy}
+use Rattle.calls.specs.Replies.{answered, unless, unlessBy}
 use Rattle.calls.specs.ReplyLaws.{unless-answers, answered-same}
-use Rattle.calls.specs.Checking.{journalLimit, journalFault, orderOn, checkOf}
-use Rattle.calls.specs.DemandThree.{WritesShown, Promises}
+use Rattle.calls.specs.Checking.{journalLimit, journalFault, orderOn, checkOf, journalAfter, shown}
+use Rattle.calls.specs.DemandThree.{Counts, WritesShown, Promises}
 use Rattle.calls.specs.Truth.{one-verdict, counted, least-height, rows-mean, antichain, stable}
-use Rattle.calls.specs.WritingTruth.{writes-shown}
+use Rattle.calls.specs.Writing.{roomFault, wordOf, writeOf}
+use Rattle.calls.specs.WritingTruth.{word-shown, ten-left, writes-shown}
 
 -- a journal that 8 does not refuse
 journal-size : (J : ℕ) → journalFault J ≡ 0 → (1 ≤ J) × (J ≤ journalLimit)
@@ -70,3 +71,25 @@ module _ (bs : List ℕ) (J B : ℕ) (a : Answer ℕ) (e : checkOf bs J B ≡ an
           let counts = counted bs v (length rows) B (subst (λ (k : ℕ). 1 ≤ k) (sym n) l) in
           subst (λ (x : Answer ℕ). WritesShown bs B x rows old) (sym same)
           (writes-shown bs v rows (ap journalFault n ∙ eight) B counts (sym (ap (λ (x : Answer ℕ). x .verdict) same) ∙ b) old)
+
+-- ---- the word of a broken check, over a journal that held these rows before
+
+module _ (bs : List ℕ) (rows : List (Row ℕ)) (B : ℕ) (a : Answer ℕ) (e : checkOf bs (length rows) B ≡ answered a) (b : a .verdict ≡ broken) where
+  abbrev order : Answer ℕ
+  order = orderOn bs (length rows) B
+
+  -- what holds of the working order's answer, over the journal after the check, holds of a
+  of-order : (P : Answer ℕ → Type 0) → ((v : fault bs .number ≡ 0) (eight : journalFault (length rows) ≡ 0) → Counts bs (length rows) B order → order .verdict ≡ broken → P order) → P a
+  of-order P f =
+      let o = from-order bs (length rows) B a e in
+      subst P (sym (o .2)) (f (o .0) (o .1) (counted bs (o .0) (length rows) B (journal-size (length rows) (o .1) .0)) (sym (ap (λ (x : Answer ℕ). x .verdict) (o .2)) ∙ b))
+
+  -- the word behind its row is the shown one
+  pub broken-word : wordOf bs (journalAfter bs rows B) (a .row) ≡ shown bs a
+  broken-word = of-order (λ x. wordOf bs (journalAfter bs rows B) (x .row) ≡ shown bs x) (λ v eight c w. word-shown bs v rows eight B c w)
+
+  -- and only 10 refuses to write it
+  pub broken-writes : (room : ℕ) → writeOf bs (journalAfter bs rows B) (a .used) (a .row) room ≡ unless (refuse (roomFault (shown bs a) room) 0) (answered (length (shown bs a)))
+  broken-writes room =
+      of-order (λ x. writeOf bs (journalAfter bs rows B) (x .used) (x .row) room ≡ unless (refuse (roomFault (shown bs x) room) 0) (answered (length (shown bs x))))
+      (λ v eight c w. ten-left bs v rows eight B c w room)

@@ -168,7 +168,7 @@ module _ (bs : List ℕ) (v : fault bs .number ≡ 0) (rows : List (Row ℕ)) (e
       ∙ (let z : length (a .journal) + length (drop (a .used) rows) ≡ length rows = omega (arith, counts .used-rows, counts .rows-bound, length-drop (a .used) rows) in z)
 
   -- the word behind the named row
-  word-shown : wordOf bs after (a .row) ≡ shown bs a
+  pub word-shown : wordOf bs after (a .row) ≡ shown bs a
   unfolding wordOf shown
   word-shown =
       ap (λ (xs : List (Row ℕ)). wordBehind words (rulesOf bs) xs (a .row)) after-is
@@ -188,7 +188,7 @@ module _ (bs : List ℕ) (v : fault bs .number ≡ 0) (rows : List (Row ℕ)) (e
   nine = rw (lt-ltb (a .row) (a .used) (omega (arith, counts .last-row e)), le-ltb (length after) (a .used) (omega (arith, as-long, counts .rows-bound)), rows-fit)
 
   -- 10 is left
-  ten-left : (room : ℕ) → writeOf bs after (a .used) (a .row) room ≡ unless (refuse (roomFault (shown bs a) room) 0) (answered (length (shown bs a)))
+  pub ten-left : (room : ℕ) → writeOf bs after (a .used) (a .row) room ≡ unless (refuse (roomFault (shown bs a) room) 0) (answered (length (shown bs a)))
   unfolding writeOf
   ten-left room = rw (v, as-long, eight, nine, word-shown)
 

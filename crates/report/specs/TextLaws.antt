@@ -16,13 +16,12 @@ use Rattle.working_order.specs.Order.{Answer, Verdict, holds, broken, full, spe
 use Rattle.calls.specs.Base.{base}
 use Rattle.calls.specs.Checking.{journalLimit, journalFault, orderOn, checkOf, keptBy, journalAfter, shown}
 use Rattle.calls.specs.Printing.{verdictWord, numbersLine, wordLine, refusedLine, lineOne, lineTwo, lineThree, brokenLines, linesBy, textBy, textOf}
-use Rattle.calls.specs.Promising.{promises}
+use Rattle.calls.specs.Promising.{promises, broken-word, broken-writes}
 use Rattle.calls.specs.Replies.{Reply, refused, answered, unless, unlessBy}
 use Rattle.calls.specs.Rows.{rowOf}
 use Rattle.calls.specs.Writing.{roomFault, writeOf, bufferAfter}
 use Rattle.calls.specs.declared.Row.{Row as LentRow}
 use Rattle.covers.specs.Rows.{Journal}
-use Rattle.witness.specs.Shown.{word-shown, writes-shown}
 use Rattle.telling.specs.Codes.{holdsCode, brokenCode, fullCode, spentCode, verdictCode}
 use Rattle.telling.specs.Fronts.{journalOf}
 use Rattle.telling.specs.Telling.{refusedBy, numbersIn}
@@ -130,7 +129,7 @@ module _ (bs : List ℕ) (n : ℕ) (x : LentRow) (B p : ℕ) (old new : List ℕ
       run-line =
           ap (λ (d : List ℕ). runBy (getD d 7 0) (getD d 6 0) new) details
           ∙ ap (runBy (refusedBy (writeOf bs rows (a .used) (a .row) room)) (rowIn rows (a .row) .len)) buffer
-          ∙ line-told bs rows (a .used) (a .row) (shown bs a) (word-shown bs before B a lent-check v) room (writes-shown bs before B a lent-check v room) old l (rowIn rows (a .row) .len) length-is
+          ∙ line-told bs rows (a .used) (a .row) (shown bs a) (broken-word bs before B a lent-check v) room (broken-writes bs before B a lent-check v room) old l (rowIn rows (a .row) .len) length-is
           ∙ sym (line-defined bs (a .journal) (a .used) (a .row) (shown bs a) (word-own bs J B (few-rows n x) a e v) room (writes-own bs J B (few-rows n x) a e v room))
 
       broken-text : brokenText t new ≡ lineOne broken a ++ brokenLines bs room a

@@ -27,7 +27,7 @@ use Rattle.calls.specs.Promising.{from-order, promises}
 use Rattle.calls.specs.Replies.{Reply, refused, answered, unless, unlessBy}
 use Rattle.calls.specs.Writing.{longWord, rowFault, roomFault, wordOf, writeOf, writtenBy, bufferAfter}
 use Rattle.telling.specs.Telling.{refusedBy}
-use Rattle.report.specs.Lines.{runBy}
+use Rattle.lines.specs.Lines.{runBy}
 
 -- ---- a run w, where the room decides
 

@@ -29,8 +29,8 @@ use Rattle.telling.specs.declared.Told.{Told}
 use Rattle.standalone.specs.Told.{zeroRow, rowIn, lastThree, shownBy}
 use Rattle.standalone.specs.Contracts.{Tells, ChecksAlone}
 use Rattle.bolfrega.specs.LowNumbers.{LowIn, check-low}
-use Rattle.report.specs.Lines.{totalsLine, rowLine, runBy, runLine, brokenText, toldText}
-use Rattle.report.specs.LineLaws.{told-holds, told-full, told-spent, told-broken, told-refused}
+use Rattle.lines.specs.Lines.{totalsLine, rowLine, runBy, runLine, brokenText, toldText}
+use Rattle.lines.specs.LineLaws.{told-holds, told-full, told-spent, told-broken, told-refused}
 use Rattle.report.specs.RunLaws.{threeBy, line-defined, line-told, row-in, word-own, writes-own}
 
 -- ---- the lent rows

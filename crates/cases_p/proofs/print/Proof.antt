@@ -1,6 +1,6 @@
 -- So many bytes of the buffer are the text. Assumes nothing.
 use borrow.Author.Needs.{needs}
-use Rattle.report.specs.StandsLaws.{text-count, text-within}
+use Rattle.page.specs.StandsLaws.{text-count, text-within}
 use Rattle.cases_p.proofs.print.Statement.{statement}
 use Rattle.cases_p.proofs.print.Tie as tie
 

@@ -3,18 +3,12 @@ use mathlib.Core.Path.{ap, _∙_}
 use Prim.Native.Nat.{_≤_}
 use native.Mathlib.Omega.{arith}
 use lib.ListN.{length}
+use borrow.Author.Needs.{needs}
 use Rattle.page.specs.Page.{Page}
 use Rattle.page.specs.PageLaws.{puts-all}
-use Rattle.report.specs.Lines.{toldText}
-use borrow.Author.Needs.{needs}
+use Rattle.lines.specs.Lines.{toldText}
 use Rattle.report.proofs.put_whole.Statement.{statement}
 use Rattle.report.proofs.put_whole.Tie as tie
-use Rattle.report.proofs.put_whole.Reads as reads
-use Rattle.report.proofs.put_whole.Lts as lts
-use Rattle.report.proofs.put_told.Reads as put-told-reads
-
-put-told-requires : tie.Need-put-told-requires
-put-told-requires c κs = search needs
 
 returns : tie.Need-returns
 returns c =
@@ -26,4 +20,4 @@ returns c =
     record { count = ap (λ (p : Page). p .place) all; bytes = ap (λ (p : Page). p .held) all; room = l }
 
 pub put-whole-spec : {M : Type 1} → statement M
-put-whole-spec = tie.close (tie.spec put-told-requires returns)
+put-whole-spec = tie.close (tie.spec (λ c κs. search needs) returns)

@@ -3,7 +3,7 @@ use mathlib.Core.Path.{refl, subst}
 use mathlib.Core.List.{List}
 use Prim.Native.Nat.{ℕ}
 use borrow.Author.Needs.{needs}
-use Rattle.report.specs.Contracts.{Stands}
+use Rattle.page.specs.Contracts.{Stands}
 use Rattle.report.specs.TextLaws.{told-text}
 use Rattle.report.proofs.render.Statement.{statement}
 use Rattle.report.proofs.render.Tie as tie

@@ -1,9 +1,9 @@
 -- The three lines. Assumes nothing.
 use Rattle.page.specs.PageLaws.{puts-then}
-use Rattle.report.specs.Lines.{brokenText}
+use Rattle.lines.specs.Lines.{brokenText}
 use borrow.Author.Needs.{needs}
-use Rattle.report.proofs.put_broken.Statement.{statement}
-use Rattle.report.proofs.put_broken.Tie as tie
+use Rattle.lines.proofs.put_broken.Statement.{statement}
+use Rattle.lines.proofs.put_broken.Tie as tie
 
 returns : tie.Need-returns
 unfolding brokenText

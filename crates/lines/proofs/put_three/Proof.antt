@@ -1,8 +1,8 @@
 -- The numbers one after the other, and the end of the line. Assumes nothing.
-use Rattle.report.specs.LineLaws.{puts-end, puts-blank}
+use Rattle.lines.specs.LineLaws.{puts-end, puts-blank}
 use borrow.Author.Needs.{needs}
-use Rattle.report.proofs.put_three.Statement.{statement}
-use Rattle.report.proofs.put_three.Tie as tie
+use Rattle.lines.proofs.put_three.Statement.{statement}
+use Rattle.lines.proofs.put_three.Tie as tie
 
 returns : tie.Need-returns
 returns c = puts-blank _ _ _ _ _ _ (c .before .before .before .before .before .before .before .before .before .before .before .before .before .before .put-blanked .ensures) (puts-blank _ _ _ _ _ _ (c .before .before .before .before .before .before .before .before .before .before .put-blanked2 .ensures) (puts-blank _ _ _ _ _ _ (c .before .before .before .before .before .before .put-blanked3 .ensures) (puts-end _ _ (c .before .before .put .ensures))))

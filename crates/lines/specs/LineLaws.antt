@@ -14,7 +14,7 @@ use Rattle.page.specs.Page.{Page, put, puts}
 use Rattle.page.specs.PageLaws.{puts-one, puts-then}
 use Rattle.telling.specs.Codes.{holdsCode, brokenCode, fullCode, spentCode}
 use Rattle.telling.specs.declared.Told.{Told}
-use Rattle.report.specs.Lines.{totalsLine, runBy, runLine, brokenText, toldText}
+use Rattle.lines.specs.Lines.{totalsLine, runBy, runLine, brokenText, toldText}
 
 -- the end of a line
 pub puts-end : (p q : Page) → q ≡ put lineFeed p → q ≡ puts (blanked [] ++ (lineFeed ∷ [])) p

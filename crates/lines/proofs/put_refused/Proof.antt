@@ -1,9 +1,9 @@
 -- The word, the number, and the end of the line. Assumes nothing.
 use Rattle.calls.specs.Printing.{refusedLine}
-use Rattle.report.specs.LineLaws.{puts-end, puts-blank, puts-word}
+use Rattle.lines.specs.LineLaws.{puts-end, puts-blank, puts-word}
 use borrow.Author.Needs.{needs}
-use Rattle.report.proofs.put_refused.Statement.{statement}
-use Rattle.report.proofs.put_refused.Tie as tie
+use Rattle.lines.proofs.put_refused.Statement.{statement}
+use Rattle.lines.proofs.put_refused.Tie as tie
 
 returns : tie.Need-returns
 unfolding refusedLine

@@ -3,10 +3,10 @@ use mathlib.Core.Path.{ap, _∙_}
 use mathlib.Core.List.{List}
 use Prim.Native.Nat.{ℕ}
 use Rattle.page.specs.Page.{page, puts}
-use Rattle.report.specs.LineLaws.{run-refused, run-written}
+use Rattle.lines.specs.LineLaws.{run-refused, run-written}
 use borrow.Author.Needs.{needs}
-use Rattle.report.proofs.put_run.Statement.{statement}
-use Rattle.report.proofs.put_run.Tie as tie
+use Rattle.lines.proofs.put_run.Statement.{statement}
+use Rattle.lines.proofs.put_run.Tie as tie
 
 returns : tie.Need-returns
 returns c =

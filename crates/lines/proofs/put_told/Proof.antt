@@ -4,11 +4,11 @@ use mathlib.Core.List.{List}
 use Prim.Native.Nat.{ℕ}
 use native.Mathlib.Omega.{arith}
 use Rattle.page.specs.Page.{page, puts}
-use Rattle.report.specs.LengthLaws.{Machine, told-long}
-use Rattle.report.specs.LineLaws.{told-holds, told-full, told-spent, told-broken, told-refused}
+use Rattle.lines.specs.LengthLaws.{Machine, told-long}
+use Rattle.lines.specs.LineLaws.{told-holds, told-full, told-spent, told-broken, told-refused}
 use borrow.Author.Needs.{needs}
-use Rattle.report.proofs.put_told.Statement.{statement}
-use Rattle.report.proofs.put_told.Tie as tie
+use Rattle.lines.proofs.put_told.Statement.{statement}
+use Rattle.lines.proofs.put_told.Tie as tie
 
 machine : (c : tie.After-struct-known) → Machine (c .before .before .before .args .told) (c .before .before .before .args .buffer .now)
 machine c =

@@ -1,9 +1,9 @@
 -- The word, and the three numbers after it. Assumes nothing.
-use Rattle.report.specs.Lines.{totalsLine}
-use Rattle.report.specs.LineLaws.{puts-word}
+use Rattle.lines.specs.Lines.{totalsLine}
+use Rattle.lines.specs.LineLaws.{puts-word}
 use borrow.Author.Needs.{needs}
-use Rattle.report.proofs.put_totals.Statement.{statement}
-use Rattle.report.proofs.put_totals.Tie as tie
+use Rattle.lines.proofs.put_totals.Statement.{statement}
+use Rattle.lines.proofs.put_totals.Tie as tie
 
 returns : tie.Need-returns
 unfolding totalsLine

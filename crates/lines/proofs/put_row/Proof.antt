@@ -1,9 +1,9 @@
 -- The three numbers, and the end of the line. Assumes nothing.
-use Rattle.report.specs.Lines.{rowLine}
-use Rattle.report.specs.LineLaws.{puts-end, puts-blank, puts-first}
+use Rattle.lines.specs.Lines.{rowLine}
+use Rattle.lines.specs.LineLaws.{puts-end, puts-blank, puts-first}
 use borrow.Author.Needs.{needs}
-use Rattle.report.proofs.put_row.Statement.{statement}
-use Rattle.report.proofs.put_row.Tie as tie
+use Rattle.lines.proofs.put_row.Statement.{statement}
+use Rattle.lines.proofs.put_row.Tie as tie
 
 returns : tie.Need-returns
 unfolding rowLine

@@ -5,7 +5,7 @@ use Prim.Native.Nat.{ℕ, _≤_}
 use native.Mathlib.Omega.{arith}
 use lib.ListN.{length, take, drop, length-append}
 use lib.Seq.{take-at}
-use Rattle.report.specs.Contracts.{Stands}
+use Rattle.page.specs.Contracts.{Stands}
 
 module _ (text old new : List ℕ) (r : ℕ) (h : Stands text old new r) where
   pub text-stands : take r new ≡ text

@@ -12,7 +12,7 @@ use Rattle.calls.specs.Printing.{bytes, lineFeed, blank, decimal, blanked, sepa
 use Rattle.page.specs.DecimalLaws.{decimal-length}
 use Rattle.telling.specs.Codes.{holdsCode, brokenCode, fullCode, spentCode}
 use Rattle.telling.specs.declared.Told.{Told}
-use Rattle.report.specs.Lines.{totalsLine, rowLine, runBy, runLine, brokenText, pick, toldText}
+use Rattle.lines.specs.Lines.{totalsLine, rowLine, runBy, runLine, brokenText, pick, toldText}
 
 -- each number is below a power of 10
 abbrev pub Below : ℕ → List ℕ → Type 0

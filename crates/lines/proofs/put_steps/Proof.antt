@@ -6,10 +6,10 @@ use lib.ListN.{take}
 use lib.Seq.{length-take-le}
 use Rattle.calls.specs.Printing.{numbersLine, separated}
 use Rattle.page.specs.Page.{page, puts}
-use Rattle.report.specs.LineLaws.{puts-line, take-least}
+use Rattle.lines.specs.LineLaws.{puts-line, take-least}
 use borrow.Author.Needs.{needs}
-use Rattle.report.proofs.put_steps.Statement.{statement}
-use Rattle.report.proofs.put_steps.Tie as tie
+use Rattle.lines.proofs.put_steps.Statement.{statement}
+use Rattle.lines.proofs.put_steps.Tie as tie
 
 slice-aggregate-put-separated : tie.Need-slice-aggregate-put-separated
 slice-aggregate-put-separated c = sym (length-take-le _ _ (c .before .before .least .ensures .1))

@@ -1,0 +1,102 @@
+// The lines of an answer as document 01, "The check program", has them, put into a lent buffer from what is told of a check.
+use telling::Told;
+ghost use mathlib.Core.Path.{_≡_};
+ghost use mathlib.Core.List.{[], _∷_, _++_};
+ghost use Prim.Native.Nat.{_+_, _*_, _≤_, min};
+ghost use lib.ListN.{length, take};
+ghost use Rattle.calls.specs.Printing.{lineFeed, blanked, numbersLine, refusedLine};
+ghost use Rattle.page.specs.Page.{page, puts};
+ghost use Rattle.lines.specs.Lines.{totalsLine, rowLine, runLine, brokenText, toldText};
+
+// Three numbers, each after a blank, and the end of the line.
+fn put_three(text: &mut [u8], at: usize, a: u64, b: u64, c: u64) -> usize
+    ensures { λ r. ⌜ page r (now (text .exit)) ≡ puts (blanked (a ∷ b ∷ c ∷ []) ++ (lineFeed ∷ [])) (page at (now (text .entry))) ⌝ }
+{
+    let first = page::put_blanked(text, at, a);
+    let second = page::put_blanked(text, first, b);
+    let third = page::put_blanked(text, second, c);
+    page::put(text, third, b'\n')
+}
+
+// `refused` and the number.
+fn put_refused(text: &mut [u8], at: usize, number: u64) -> usize
+    ensures { λ r. ⌜ page r (now (text .exit)) ≡ puts (refusedLine number) (page at (now (text .entry))) ⌝ }
+{
+    let word = page::put_all(text, at, b"refused");
+    let end = page::put_blanked(text, word, number);
+    page::put(text, end, b'\n')
+}
+
+// Line 1: the verdict's word, joins, used rows, pass.
+fn put_totals(text: &mut [u8], at: usize, word: &[u8], told: Told) -> usize
+    ensures { λ r. ⌜ page r (now (text .exit)) ≡ puts (totalsLine (now (word .entry)) told) (page at (now (text .entry))) ⌝ }
+{
+    let end = page::put_all(text, at, word);
+    put_three(text, end, told.joins, told.used, told.pass)
+}
+
+// Line 2 of a broken answer: the row, its pairs and its length.
+fn put_row(text: &mut [u8], at: usize, told: Told) -> usize
+    ensures { λ r. ⌜ page r (now (text .exit)) ≡ puts (rowLine told) (page at (now (text .entry))) ⌝ }
+{
+    let row = page::put_decimal(text, at, told.row);
+    let pairs = page::put_blanked(text, row, told.pairs);
+    let length = page::put_blanked(text, pairs, told.length);
+    page::put(text, length, b'\n')
+}
+
+// The n step codes at the front of the buffer, separated by one blank, and the end of the line.
+fn put_steps(text: &mut [u8], at: usize, buffer: &[u8], n: usize) -> usize
+    ensures { λ r. ⌜ page r (now (text .exit)) ≡ puts (numbersLine (take n (now (buffer .entry)))) (page at (now (text .entry))) ⌝ }
+{
+    let m = least(n, buffer.len());
+    let end = page::put_separated(text, at, &buffer[..m]);
+    page::put(text, end, b'\n')
+}
+
+// Line 3 of a broken answer: what refuses to write the run, or its steps.
+fn put_run(text: &mut [u8], at: usize, told: Told, buffer: &[u8]) -> usize
+    ensures { λ r. ⌜ page r (now (text .exit)) ≡ puts (runLine told (now (buffer .entry))) (page at (now (text .entry))) ⌝ }
+{
+    if told.refused != 0 {
+        return put_refused(text, at, told.refused);
+    }
+    put_steps(text, at, buffer, told.length as usize)
+}
+
+fn put_broken(text: &mut [u8], at: usize, told: Told, buffer: &[u8]) -> usize
+    ensures { λ r. ⌜ page r (now (text .exit)) ≡ puts (brokenText told (now (buffer .entry))) (page at (now (text .entry))) ⌝ }
+{
+    let second = put_totals(text, at, b"broken", told);
+    let third = put_row(text, second, told);
+    put_run(text, third, told, buffer)
+}
+
+// All lines, from the buffer's start.
+pub fn put_told(text: &mut [u8], told: Told, buffer: &[u8]) -> usize
+    ensures put { λ r. ⌜ page r (now (text .exit)) ≡ puts (toldText told (now (buffer .entry))) (page 0 (now (text .entry))) ⌝ }
+    ensures long { λ r. ⌜ length (toldText told (now (buffer .entry))) ≤ 163 + length (now (buffer .entry)) * 4 ⌝ }
+{
+    if told.code == telling::HOLDS {
+        return put_totals(text, 0, b"holds", told);
+    }
+    if told.code == telling::FULL {
+        return put_totals(text, 0, b"full", told);
+    }
+    if told.code == telling::SPENT {
+        return put_totals(text, 0, b"spent", told);
+    }
+    if told.code == telling::BROKEN {
+        return put_broken(text, 0, told, buffer);
+    }
+    put_refused(text, 0, told.code)
+}
+
+fn least(a: usize, b: usize) -> usize
+    ensures { λ r. ⌜ (r ≡ min a b) × (r ≤ b) ⌝ }
+{
+    if a < b {
+        return a;
+    }
+    b
+}

@@ -22,7 +22,7 @@ use Rattle.bolfrega.specs.Codes.{acceptedCode, turnedAwayCode, judgement
 use Rattle.bolfrega.specs.Contracts.{Judges}
 use Rattle.bolfrega.specs.Hosts.{JudgeTells}
 use Rattle.bolfrega.specs.HostReplies.{Why, why, why-not}
-use Rattle.bolfrega.specs.LowNumbers.{record-none, low-high, LowIn, judge-low}
+use Rattle.telling.specs.LowNumbers.{record-none, low-high, LowIn, judge-low}
 
 word-refused : (w : List ℕ) → (wordFault w ≡ 0 → ⊥) → wordFault w ≡ 11
 unfolding wordFault

@@ -21,7 +21,7 @@ use Rattle.telling.specs.Codes.{firstAnswerCode, holdsCode, brokenCode, fullCod
 use Rattle.standalone.specs.Told.{zeroRow, answerCode, rowIn, lastThree, detailsOf, shownBy, shownOf}
 use Rattle.bolfrega.specs.Contracts.{zeroRows, ChecksZeros}
 use Rattle.bolfrega.specs.Hosts.{RowsRefused}
-use Rattle.bolfrega.specs.LowNumbers.{LowIn, check-low}
+use Rattle.telling.specs.LowNumbers.{LowIn, check-low}
 
 -- ---- the numbers of the verdicts
 

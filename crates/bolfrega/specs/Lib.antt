@@ -2,7 +2,6 @@ pub mod Codes
 pub mod Contracts
 pub mod Telling
 pub mod ZeroRows
-pub mod LowNumbers
 pub mod Hosts
 pub mod HostReplies
 pub mod HostJudging

@@ -19,7 +19,7 @@ use Rattle.calls.specs.Printing.{verdictWord, numbersLine, wordLine, refusedLin
 use Rattle.calls.specs.Promising.{promises, broken-word, broken-writes}
 use Rattle.calls.specs.Replies.{Reply, refused, answered, unless, unlessBy}
 use Rattle.calls.specs.Rows.{rowOf}
-use Rattle.calls.specs.Writing.{roomFault, writeOf, bufferAfter}
+use Rattle.calls.specs.Writing.{roomFault, wordOf, writeOf, bufferAfter}
 use Rattle.calls.specs.declared.Row.{Row as LentRow}
 use Rattle.covers.specs.Rows.{Journal}
 use Rattle.telling.specs.Codes.{holdsCode, brokenCode, fullCode, spentCode, verdictCode}
@@ -28,7 +28,7 @@ use Rattle.telling.specs.Telling.{refusedBy, numbersIn}
 use Rattle.telling.specs.declared.Told.{Told}
 use Rattle.standalone.specs.Told.{zeroRow, rowIn, lastThree, shownBy}
 use Rattle.standalone.specs.Contracts.{Tells, ChecksAlone}
-use Rattle.bolfrega.specs.LowNumbers.{LowIn, check-low}
+use Rattle.telling.specs.LowNumbers.{LowIn, check-low}
 use Rattle.lines.specs.Lines.{totalsLine, rowLine, runBy, runLine, brokenText, toldText}
 use Rattle.lines.specs.LineLaws.{told-holds, told-full, told-spent, told-broken, told-refused}
 use Rattle.report.specs.RunLaws.{threeBy, line-defined, line-told, row-in, word-own, writes-own}
@@ -106,7 +106,7 @@ module _ (bs : List ℕ) (n : ℕ) (x : LentRow) (B p : ℕ) (old new : List ℕ
           ∙ getD-any zeroRow (noRow (base states (automatonOf bs) .forms)) (a .journal) (a .row) below
 
       length-is : rowIn rows (a .row) .len ≡ capped (length (shown bs a))
-      unfolding shown
+      unfolding shown wordOf
       length-is =
           ap (λ (r : Row ℕ). r .len) (row-is ∙ getD-any _ _ (a .journal) (a .row) below)
           ∙ promises bs J B a e .rows-mean (a .row) (omega (arith, below, promises bs J B a e .counts .used-rows)) .length-is

@@ -1,3 +1,4 @@
 pub mod Codes
 pub mod Fronts
 pub mod Telling
+pub mod LowNumbers

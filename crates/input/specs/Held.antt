@@ -1,13 +1,26 @@
--- How much of an input the check program hands over as the file. Definitions only. Assumes nothing.
+-- What a read says, and how much of an input the check program hands over as the file. Definitions only. Assumes nothing.
 use mathlib.Core.Path.{_≡_}
 use mathlib.Core.Bool.{cond}
 use mathlib.Core.List.{List}
-use Prim.Native.Nat.{ℕ, _+_, _*_, _-_, _%_, _≤_}
+use Prim.Native.Nat.{ℕ, zero, suc, min, _+_, _*_, _-_, _%_, _≤_}
 use lib.Dec.{ltb}
+use lib.IntN.{ℤ, pos, negsuc}
 use lib.ListN.{length, take}
 use Rattle.plan_file.specs.Limits.{recordLimit}
+use Rattle.input.specs.declared.Chunk.{Chunk}
+use Rattle.input.specs.declared.Chunk.the-variants as chunk
 use Rattle.input.specs.declared.Input.{Input}
 use Rattle.input.specs.declared.Input.the-variants as input
+
+-- ---- a read
+
+-- what a read into so many bytes says: it failed, the input has ended, or so many bytes have come
+abbrev pub saidBy : ℤ → ℕ → Chunk
+saidBy (negsuc k) room = chunk.Failed
+saidBy (pos zero) room = chunk.Ended
+saidBy (pos (suc k)) room = chunk.Bytes (min (suc k) room)
+
+-- ---- the file
 
 -- the bytes of one record more than a file may have: with so many number 2 refuses, unless 1 does
 abbrev pub most : ℕ

@@ -4,7 +4,7 @@ use libc::STDIN_FILENO;
 ghost use mathlib.Core.Path.{_≡_};
 ghost use Prim.Native.Nat.{ℕ, _+_, _≤_};
 ghost use lib.ListN.{length};
-ghost use Rattle.input.specs.Held.{heldOf, Within};
+ghost use Rattle.input.specs.Held.{saidBy, heldOf, Within};
 
 // One record more than a file may have: with so many bytes number 2 refuses, unless 1 does.
 const HELD: usize = 10312;
@@ -38,9 +38,10 @@ fn held(at: usize, got: usize) -> usize
     HELD + (at % 8 + got % 8) % 8
 }
 
-// One read.
-fn read_into(buffer: &mut [u8]) -> Chunk {
-    let got = libc::read(STDIN_FILENO, buffer);
+// What a read that answered got says: more than 0 are so many bytes of the buffer, 0 is the end of the input, and below 0 it failed.
+fn said(got: isize, buffer: &[u8]) -> Chunk
+    ensures { λ r. ⌜ r ≡ saidBy got (length (now (buffer .entry))) ⌝ }
+{
     if got < 0 {
         return Chunk::Failed;
     }
@@ -48,6 +49,12 @@ fn read_into(buffer: &mut [u8]) -> Chunk {
         return Chunk::Ended;
     }
     Chunk::Bytes(io::count(got, buffer))
+}
+
+// One read.
+fn read_into(buffer: &mut [u8]) -> Chunk {
+    let got = libc::read(STDIN_FILENO, buffer);
+    said(got, buffer)
 }
 
 // One read of what is not held any more.

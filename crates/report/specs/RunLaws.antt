@@ -67,7 +67,7 @@ module _ (bs : List ℕ) (rows : List (Row ℕ)) (used i : ℕ) (w : List ℕ) (
   unfolding bufferAfter
   buffer-is old l = ap (λ (u : List ℕ). writtenBy u old (writeOf bs rows used i (length old))) same ∙ ap (λ (n : ℕ). writtenBy w old (writeOf bs rows used i n)) l ∙ ap (writtenBy w old) e
 
-  pub line-defined : lineThree (bufferAfter bs rows used i (replicate room 0)) (writeOf bs rows used i room) ≡ threeBy (roomFault w room) w
+  line-defined : lineThree (bufferAfter bs rows used i (replicate room 0)) (writeOf bs rows used i room) ≡ threeBy (roomFault w room) w
   line-defined =
       ap (λ (b : List ℕ). lineThree b (writeOf bs rows used i room)) (buffer-is (replicate room 0) (length-replicate room 0))
       ∙ ap (lineThree (writtenBy w (replicate room 0) (replyTo w room))) e
@@ -119,11 +119,11 @@ module _ (bs : List ℕ) (J B : ℕ) (few : J ≤ journalLimit) (a : Answer ℕ)
   unfolding rowFault
   row-fits = rw (lt-ltb (a .row) (a .used) (omega (arith, last)), le-ltb (length (a .journal)) (a .used) (omega (arith, used-is)), fit)
 
-  pub word-own : wordOf bs (a .journal) (a .row) ≡ shown bs a
+  word-own : wordOf bs (a .journal) (a .row) ≡ shown bs a
   unfolding wordOf shown
   word-own = refl
 
-  pub writes-own : (room : ℕ) → writeOf bs (a .journal) (a .used) (a .row) room ≡ replyTo (shown bs a) room
+  writes-own : (room : ℕ) → writeOf bs (a .journal) (a .used) (a .row) room ≡ replyTo (shown bs a) room
   unfolding writeOf
   writes-own room =
       rw (
@@ -132,3 +132,8 @@ module _ (bs : List ℕ) (J B : ℕ) (few : J ≤ journalLimit) (a : Answer ℕ)
         row-fits,
         word-own,
       )
+
+  -- line 3 of the text: the step codes of the shown word, or 10
+  pub shows-run : (room : ℕ)
+      → lineThree (bufferAfter bs (a .journal) (a .used) (a .row) (replicate room 0)) (writeOf bs (a .journal) (a .used) (a .row) room) ≡ threeBy (roomFault (shown bs a) room) (shown bs a)
+  shows-run room = line-defined bs (a .journal) (a .used) (a .row) (shown bs a) word-own room (writes-own room)

@@ -31,7 +31,7 @@ use Rattle.standalone.specs.Contracts.{Tells, ChecksAlone}
 use Rattle.telling.specs.LowNumbers.{LowIn, check-low}
 use Rattle.lines.specs.Lines.{totalsLine, rowLine, runBy, runLine, brokenText, toldText}
 use Rattle.lines.specs.LineLaws.{told-holds, told-full, told-spent, told-broken, told-refused}
-use Rattle.report.specs.RunLaws.{threeBy, line-defined, line-told, row-in, word-own, writes-own}
+use Rattle.report.specs.RunLaws.{line-told, row-in, shows-run}
 
 -- ---- the lent rows
 
@@ -130,7 +130,7 @@ module _ (bs : List ℕ) (n : ℕ) (x : LentRow) (B p : ℕ) (old new : List ℕ
           ap (λ (d : List ℕ). runBy (getD d 7 0) (getD d 6 0) new) details
           ∙ ap (runBy (refusedBy (writeOf bs rows (a .used) (a .row) room)) (rowIn rows (a .row) .len)) buffer
           ∙ line-told bs rows (a .used) (a .row) (shown bs a) (broken-word bs before B a lent-check v) room (broken-writes bs before B a lent-check v room) old l (rowIn rows (a .row) .len) length-is
-          ∙ sym (line-defined bs (a .journal) (a .used) (a .row) (shown bs a) (word-own bs J B (few-rows n x) a e v) room (writes-own bs J B (few-rows n x) a e v room))
+          ∙ sym (shows-run bs J B (few-rows n x) a e v room)
 
       broken-text : brokenText t new ≡ lineOne broken a ++ brokenLines bs room a
       unfolding brokenText lineOne brokenLines

@@ -2,18 +2,18 @@
 -- one, which held other rows before. Assumes nothing.
 use mathlib.Core.Path.{_≡_, refl, sym, ap, _∙_, subst}
 use mathlib.Core.Bool.{Bool, true, false, _||_, cond}
-use mathlib.Core.List.{List, _++_}
+use mathlib.Core.List.{List}
 use Prim.Native.Nat.{ℕ, zero, suc, _+_, min, _≤_, _<_}
 use native.Mathlib.Nat.{suc-ne-zero}
 use native.Mathlib.Omega.{arith}
 use lib.Dec.{leb, ltb}
-use lib.ListN.{length, take, drop, replicate, length-replicate}
+use lib.ListN.{length, drop, replicate, length-replicate}
 use lib.Seq.{take-at}
 use borrow.Author.Tests.{lt-ltb, le-ltb, ne-eqb, leb-false}
 use Rattle.basics.specs.Tests.{and-intro, or-neither}
 use Rattle.relation.specs.Relation.{states}
 use Rattle.language.specs.Grammar.{Rule}
-use Rattle.plan_file.specs.Refusals.{refuse, fault}
+use Rattle.plan_file.specs.Refusals.{refuse}
 use Rattle.plan_file.specs.Views.{rulesOf, automatonOf}
 use Rattle.working_order.specs.Algebra.{Forms}
 use Rattle.working_order.specs.Journal.{Row, capped}
@@ -24,7 +24,7 @@ use Rattle.calls.specs.Checking.{journalLimit, journalFault, orderOn, checkOf, 
 use Rattle.calls.specs.JournalTruth.{row-true}
 use Rattle.calls.specs.Printing.{numbersLine, refusedLine, lineThree}
 use Rattle.calls.specs.Promising.{from-order, promises}
-use Rattle.calls.specs.Replies.{Reply, refused, answered, unless, unlessBy}
+use Rattle.calls.specs.Replies.{Reply, answered, unless, unlessBy}
 use Rattle.calls.specs.Writing.{longWord, rowFault, roomFault, wordOf, writeOf, writtenBy, bufferAfter}
 use Rattle.telling.specs.Telling.{refusedBy}
 use Rattle.lines.specs.Lines.{runBy}

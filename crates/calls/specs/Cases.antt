@@ -3,13 +3,12 @@ use mathlib.Core.Path.{_≡_, refl}
 use mathlib.Core.List.{List, [], _∷_, map}
 use Prim.Native.Nat.{ℕ}
 use Prim.Native.String.{String}
-use lib.ListN.{getD}
 use Rattle.relation.specs.Digits.{bit, number, some, count, subset}
-use Rattle.relation.specs.Relation.{states, has, table, identity, compose, pairs, rejects}
+use Rattle.relation.specs.Relation.{has, table, identity, compose, pairs, rejects}
 use Rattle.language.specs.WordRelation.{moves, letterRelation, wordRelation, isFinal, rejected}
 use Rattle.plan_file.specs.Records.{countOf}
 use Rattle.plan_file.specs.Refusals.{kindKnown, aboveRange, strayByte, risesFrom, exceeds, overLimit, faultBy, faultAt, faultFrom, fault}
-use Rattle.plan_file.specs.Views.{collect, rulesOf, transitionsOf, finalsOf, automatonOf}
+use Rattle.plan_file.specs.Views.{collect, rulesOf, transitionsOf, finalsOf}
 use Rattle.working_order.specs.Journal.{capped, live, liveOf}
 use Rattle.working_order.specs.Candidates.{liveRows, sole, paired, bare, choices, bodyCandidates, passCandidates}
 use Rattle.working_order.specs.Order.{Answer, born, answer, dropped, larger, retire, added, decide, consider, walk, onePass, passes, check}

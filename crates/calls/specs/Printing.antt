@@ -22,8 +22,8 @@ abbrev pub bytes : String → List ℕ
 bytes nothing = []
 bytes (_then_ c s) = code c ∷ bytes s
 
-abbrev pub blank : ℕ
-blank = 32
+abbrev pub blankByte : ℕ
+blankByte = 32
 
 abbrev pub lineFeed : ℕ
 lineFeed = 10
@@ -51,7 +51,7 @@ decimal n = decimalIn n n
 -- each number after a blank
 unfoldable pub blanked : List ℕ → List ℕ
 blanked [] = []
-blanked (n ∷ ns) = blank ∷ (decimal n ++ blanked ns)
+blanked (n ∷ ns) = blankByte ∷ (decimal n ++ blanked ns)
 
 -- numbers separated by one blank
 unfoldable pub separated : List ℕ → List ℕ

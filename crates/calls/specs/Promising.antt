@@ -32,7 +32,7 @@ journal-size J e = by (eqb J 0 || ltb journalLimit J) refl e
         let ne : J ≡ 0 → ⊥ = eqb-false J 0 (o .0) in
         (omega arith, ltb-false journalLimit J (o .1))
 
-size-journal : (J : ℕ) → 1 ≤ J → J ≤ journalLimit → journalFault J ≡ 0
+pub size-journal : (J : ℕ) → 1 ≤ J → J ≤ journalLimit → journalFault J ≡ 0
 unfolding journalFault
 size-journal J l m = rw (ne-eqb J 0 (λ e. omega arith), le-ltb journalLimit J m)
 

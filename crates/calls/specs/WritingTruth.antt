@@ -125,7 +125,7 @@ write-means bs rows used i old = by (writeOf bs rows used i (length old)) refl
 -- ---- after a broken check
 
 -- the first m rows fit, where each of them does
-all-fit : (M : Forms ℕ) (rows : List (Row ℕ)) (rules : List Rule) (m : ℕ) → ((i : ℕ) → i < m → rowFits M rows rules i ≡ true) → rowsFit M rows rules m ≡ true
+pub all-fit : (M : Forms ℕ) (rows : List (Row ℕ)) (rules : List Rule) (m : ℕ) → ((i : ℕ) → i < m → rowFits M rows rules i ≡ true) → rowsFit M rows rules m ≡ true
 unfolding rowsFit
 all-fit M rows rules zero f = refl
 all-fit M rows rules (suc m) f = and-intro (rowsFit M rows rules m) (rowFits M rows rules m) (all-fit M rows rules m (λ i l. f i (omega arith))) (f m (omega arith))

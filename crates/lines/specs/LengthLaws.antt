@@ -1,14 +1,13 @@
 -- No text is longer than the buffer that it is put into: 4 bytes for each step of a run, and few for the rest. Assumes nothing.
-use mathlib.Core.Path.{_≡_, refl, sym, ap, _∙_, subst}
 use mathlib.Core.Bool.{Bool, true, false}
 use mathlib.Core.List.{List, [], _∷_, _++_}
-use Prim.Native.Nat.{ℕ, zero, suc, _+_, _*_, _^_, min, _≤_, _<_}
+use Prim.Native.Nat.{ℕ, zero, suc, _+_, _*_, _^_, _≤_, _<_}
 use native.Mathlib.Nat.{suc-mul}
 use native.Mathlib.Omega.{arith}
 use lib.Dec.{eqb}
 use lib.ListN.{length, getD, take, length-append, length-take}
 use Rattle.working_order.specs.Order.{Verdict, holds, broken, full, spent}
-use Rattle.calls.specs.Printing.{bytes, lineFeed, blank, decimal, blanked, separated, verdictWord, numbersLine, wordLine, refusedLine}
+use Rattle.calls.specs.Printing.{bytes, lineFeed, decimal, blanked, separated, verdictWord, numbersLine, wordLine, refusedLine}
 use Rattle.page.specs.DecimalLaws.{decimal-length}
 use Rattle.telling.specs.Codes.{holdsCode, brokenCode, fullCode, spentCode}
 use Rattle.telling.specs.declared.Told.{Told}

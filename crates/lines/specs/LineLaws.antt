@@ -1,5 +1,5 @@
 -- Lines put on a page piece by piece. Assumes nothing.
-use mathlib.Core.Path.{_≡_, refl, sym, ap, _∙_, subst}
+use mathlib.Core.Path.{_≡_, refl, sym, ap, _∙_}
 use mathlib.Core.List.{List, [], _∷_, _++_, append-assoc}
 use mathlib.Core.Bool.{Bool, true, false}
 use Prim.Native.Nat.{ℕ, zero, suc, min, _≤_}
@@ -8,8 +8,8 @@ use lib.Dec.{leb}
 use lib.ListN.{length, take}
 use lib.Seq.{take-all}
 use borrow.Author.Tests.{eq-eqb, ne-eqb, leb-true, leb-false}
-use Rattle.working_order.specs.Order.{holds, broken, full, spent}
-use Rattle.calls.specs.Printing.{blank, lineFeed, decimal, blanked, separated, verdictWord, numbersLine, wordLine, refusedLine}
+use Rattle.working_order.specs.Order.{holds, full, spent}
+use Rattle.calls.specs.Printing.{blankByte, lineFeed, decimal, blanked, separated, verdictWord, numbersLine, wordLine, refusedLine}
 use Rattle.page.specs.Page.{Page, put, puts}
 use Rattle.page.specs.PageLaws.{puts-one, puts-then}
 use Rattle.telling.specs.Codes.{holdsCode, brokenCode, fullCode, spentCode}
@@ -22,10 +22,10 @@ unfolding blanked
 puts-end p q e = puts-one lineFeed p q e
 
 -- a number after a blank, and the rest of the line
-pub puts-blank : (n : ℕ) (ns rest : List ℕ) (p q r : Page) → q ≡ puts (blank ∷ decimal n) p → r ≡ puts (blanked ns ++ rest) q → r ≡ puts (blanked (n ∷ ns) ++ rest) p
+pub puts-blank : (n : ℕ) (ns rest : List ℕ) (p q r : Page) → q ≡ puts (blankByte ∷ decimal n) p → r ≡ puts (blanked ns ++ rest) q → r ≡ puts (blanked (n ∷ ns) ++ rest) p
 unfolding blanked
 puts-blank n ns rest p q r e f =
-    puts-then (blank ∷ decimal n) (blanked ns ++ rest) p q r e f ∙ ap (λ (xs : List ℕ). puts (blank ∷ xs) p) (sym (append-assoc (decimal n) (blanked ns) rest))
+    puts-then (blankByte ∷ decimal n) (blanked ns ++ rest) p q r e f ∙ ap (λ (xs : List ℕ). puts (blankByte ∷ xs) p) (sym (append-assoc (decimal n) (blanked ns) rest))
 
 -- a word, and the numbers after it
 pub puts-word : (word ns : List ℕ) (p q r : Page) → q ≡ puts word p → r ≡ puts (blanked ns ++ (lineFeed ∷ [])) q → r ≡ puts (wordLine word ns) p

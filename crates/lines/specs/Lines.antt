@@ -4,7 +4,7 @@ use mathlib.Core.List.{List, [], _∷_, _++_}
 use Prim.Native.Nat.{ℕ, zero, suc}
 use lib.Dec.{eqb}
 use lib.ListN.{take}
-use Rattle.working_order.specs.Order.{Verdict, holds, broken, full, spent}
+use Rattle.working_order.specs.Order.{holds, broken, full, spent}
 use Rattle.calls.specs.Printing.{verdictWord, numbersLine, wordLine, refusedLine}
 use Rattle.telling.specs.Codes.{holdsCode, brokenCode, fullCode, spentCode}
 use Rattle.telling.specs.declared.Told.{Told}

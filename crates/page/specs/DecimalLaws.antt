@@ -1,16 +1,15 @@
 -- Decimal numbers, digit by digit, and how long they are. Assumes nothing.
-use mathlib.Core.Path.{_≡_, refl, sym, ap, _∙_, subst}
+use mathlib.Core.Path.{_≡_, refl, sym, ap, _∙_}
 use mathlib.Core.Bool.{Bool, true, false}
 use mathlib.Core.List.{List, [], _∷_, _++_}
-use Prim.Native.Nat.{ℕ, zero, suc, _+_, _*_, _/_, _%_, _^_, _≤_, _<_}
-use native.Mathlib.Nat.{div-add-mod'}
+use Prim.Native.Nat.{ℕ, zero, suc, _+_, _/_, _%_, _^_, _≤_, _<_}
 use native.Mathlib.Numerals.{add-one}
 use native.Mathlib.Omega.{arith}
 use lib.Dec.{ltb}
 use lib.ListN.{length, getD, drop, length-append}
 use lib.Seq.{drop-cons}
 use borrow.Author.Tests.{lt-ltb, le-ltb, ltb-true, ltb-false}
-use Rattle.calls.specs.Printing.{blank, digit, decimalBy, decimalIn, decimal, blanked, separated}
+use Rattle.calls.specs.Printing.{blankByte, digit, decimalBy, decimalIn, decimal, blanked, separated}
 use Rattle.page.specs.Page.{Page, put, puts}
 use Rattle.page.specs.PageLaws.{puts-none, puts-one, puts-then}
 
@@ -64,11 +63,11 @@ puts-digits n b p q r h f d e =
     ∙ ap (λ (ds : List ℕ). puts ds p) (sym (decimal-more n h))
 
 -- the number at i after a blank, and then those after it
-pub puts-blanked : (ns : List ℕ) (i : ℕ) (p q : Page) → i < length ns → q ≡ puts (blank ∷ decimal (getD ns i 0)) p → puts (blanked (drop (i + 1) ns)) q ≡ puts (blanked (drop i ns)) p
+pub puts-blanked : (ns : List ℕ) (i : ℕ) (p q : Page) → i < length ns → q ≡ puts (blankByte ∷ decimal (getD ns i 0)) p → puts (blanked (drop (i + 1) ns)) q ≡ puts (blanked (drop i ns)) p
 unfolding blanked
 puts-blanked ns i p q h e =
-    puts-then (blank ∷ decimal (getD ns i 0)) (blanked (drop (i + 1) ns)) p q (puts (blanked (drop (i + 1) ns)) q) e refl
-    ∙ ap (λ (k : ℕ). puts (blank ∷ (decimal (getD ns i 0) ++ blanked (drop k ns))) p) (add-one i)
+    puts-then (blankByte ∷ decimal (getD ns i 0)) (blanked (drop (i + 1) ns)) p q (puts (blanked (drop (i + 1) ns)) q) e refl
+    ∙ ap (λ (k : ℕ). puts (blankByte ∷ (decimal (getD ns i 0) ++ blanked (drop k ns))) p) (add-one i)
     ∙ ap (λ (xs : List ℕ). puts (blanked xs) p) (sym (drop-cons ns i 0 h))
 
 -- no number, and the first one with those after it

@@ -3,3 +3,4 @@ pub mod Contracts
 pub mod PageLaws
 pub mod DecimalLaws
 pub mod StandsLaws
+pub mod DecimalTruth

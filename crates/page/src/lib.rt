@@ -1,9 +1,9 @@
 // Text in a lent buffer: bytes, numbers and lines put one after the other, from a place on. What does not fit is left out, so nothing is
 // asked of a caller; that all of an answer fits is proved where the whole answer is known.
 ghost use mathlib.Core.Path.{_≡_};
-ghost use mathlib.Core.List.{[], _∷_, _++_};
+ghost use mathlib.Core.List.{_∷_};
 ghost use Prim.Native.Nat.{_+_, _<_};
-ghost use Rattle.calls.specs.Printing.{blank, decimal, blanked, separated};
+ghost use Rattle.calls.specs.Printing.{blankByte, decimal, blanked, separated};
 ghost use Rattle.page.specs.Page.{page, put as putByte, puts};
 
 // A byte at the place, if the buffer has one there; and the next place.
@@ -51,7 +51,7 @@ pub fn put_decimal(text: &mut [u8], at: usize, n: u64) -> usize
 
 // A blank and the number.
 pub fn put_blanked(text: &mut [u8], at: usize, n: u64) -> usize
-    ensures { λ r. ⌜ page r (now (text .exit)) ≡ puts (blank ∷ decimal n) (page at (now (text .entry))) ⌝ }
+    ensures { λ r. ⌜ page r (now (text .exit)) ≡ puts (blankByte ∷ decimal n) (page at (now (text .entry))) ⌝ }
 {
     let next = put(text, at, b' ');
     put_decimal(text, next, n)

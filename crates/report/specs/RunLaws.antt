@@ -1,30 +1,29 @@
 -- Line 3 of a broken answer is its shown run, or number 10, whether the run is written from the journal of the answer or from the lent
 -- one, which held other rows before. Assumes nothing.
-use mathlib.Core.Path.{_≡_, refl, sym, ap, _∙_, subst}
+use mathlib.Core.Path.{_≡_, refl, sym, ap, _∙_}
 use mathlib.Core.Bool.{Bool, true, false, _||_, cond}
-use mathlib.Core.List.{List, _++_}
+use mathlib.Core.List.{List}
 use Prim.Native.Nat.{ℕ, zero, suc, _+_, min, _≤_, _<_}
 use native.Mathlib.Nat.{suc-ne-zero}
 use native.Mathlib.Omega.{arith}
 use lib.Dec.{leb, ltb}
-use lib.ListN.{length, take, drop, replicate, length-replicate}
+use lib.ListN.{length, drop, replicate, length-replicate}
 use lib.Seq.{take-at}
-use borrow.Author.Tests.{lt-ltb, le-ltb, ne-eqb, leb-false}
-use Rattle.basics.specs.Tests.{and-intro, or-neither}
+use borrow.Author.Tests.{lt-ltb, le-ltb, leb-false}
+use Rattle.basics.specs.Tests.{or-neither}
 use Rattle.relation.specs.Relation.{states}
-use Rattle.language.specs.Grammar.{Rule}
-use Rattle.plan_file.specs.Refusals.{refuse, fault}
+use Rattle.plan_file.specs.Refusals.{refuse}
 use Rattle.plan_file.specs.Views.{rulesOf, automatonOf}
 use Rattle.working_order.specs.Algebra.{Forms}
 use Rattle.working_order.specs.Journal.{Row, capped}
-use Rattle.working_order.specs.Fitting.{rowFits, rowsFit}
+use Rattle.working_order.specs.Fitting.{rowsFit}
 use Rattle.working_order.specs.Order.{Answer, broken}
 use Rattle.calls.specs.Base.{base}
-use Rattle.calls.specs.Checking.{journalLimit, journalFault, orderOn, checkOf, shown}
-use Rattle.calls.specs.JournalTruth.{row-true}
+use Rattle.calls.specs.Checking.{journalLimit, checkOf, shown}
 use Rattle.calls.specs.Printing.{numbersLine, refusedLine, lineThree}
-use Rattle.calls.specs.Promising.{from-order, promises}
-use Rattle.calls.specs.Replies.{Reply, refused, answered, unless, unlessBy}
+use Rattle.calls.specs.Promising.{size-journal, from-order, promises}
+use Rattle.calls.specs.WritingTruth.{all-fit}
+use Rattle.calls.specs.Replies.{Reply, answered, unless, unlessBy}
 use Rattle.calls.specs.Writing.{longWord, rowFault, roomFault, wordOf, writeOf, writtenBy, bufferAfter}
 use Rattle.telling.specs.Telling.{refusedBy}
 use Rattle.lines.specs.Lines.{runBy}
@@ -82,22 +81,9 @@ module _ (bs : List ℕ) (rows : List (Row ℕ)) (used i : ℕ) (w : List ℕ) (
 
 -- ---- from the journal of the answer
 
--- the first m rows fit, where each of them does
-all-fit : (M : Forms ℕ) (rows : List (Row ℕ)) (rules : List Rule) (m : ℕ) → ((i : ℕ) → i < m → rowFits M rows rules i ≡ true) → rowsFit M rows rules m ≡ true
-unfolding rowsFit
-all-fit M rows rules zero f = refl
-all-fit M rows rules (suc m) f = and-intro (rowsFit M rows rules m) (rowFits M rows rules m) (all-fit M rows rules m (λ i l. f i (omega arith))) (f m (omega arith))
-
-size-journal : (n : ℕ) → 1 ≤ n → n ≤ journalLimit → journalFault n ≡ 0
-unfolding journalFault
-size-journal n l m = rw (ne-eqb n 0 (λ e. omega arith), le-ltb journalLimit n m)
-
 module _ (bs : List ℕ) (J B : ℕ) (few : J ≤ journalLimit) (a : Answer ℕ) (e : checkOf bs J B ≡ answered a) (v : a .verdict ≡ broken) where
   abbrev M : Forms ℕ
   M = base states (automatonOf bs) .forms
-
-  order : a ≡ orderOn bs J B
-  order = from-order bs J B a e .2
 
   last : suc (a .row) ≡ a .used
   last = promises bs J B a e .counts .last-row v
@@ -109,11 +95,7 @@ module _ (bs : List ℕ) (J B : ℕ) (few : J ≤ journalLimit) (a : Answer ℕ)
   row-in = omega (arith, last, used-is)
 
   fit : rowsFit M (a .journal) (rulesOf bs) (a .row + 1) ≡ true
-  fit =
-      all-fit M (a .journal) (rulesOf bs) (a .row + 1) (λ i l.
-      let here : i < length (a .journal) = omega (arith, l, row-in) in
-      subst (λ (x : Answer ℕ). rowFits M (x .journal) (rulesOf bs) i ≡ true) (sym order)
-      (row-true bs J B i (subst (λ (x : Answer ℕ). i < length (x .journal)) order here) .fits))
+  fit = all-fit M (a .journal) (rulesOf bs) (a .row + 1) (λ i l. promises bs J B a e .rows-mean i (omega (arith, last)) .fits)
 
   row-fits : rowFault M (rulesOf bs) (a .journal) (a .used) (a .row) ≡ 0
   unfolding rowFault

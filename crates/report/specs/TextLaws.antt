@@ -1,28 +1,27 @@
 -- The lines of what is told of a check are the text of the check. Assumes nothing.
-use mathlib.Core.Path.{_≡_, refl, sym, ap, _∙_, subst}
+use mathlib.Core.Path.{_≡_, refl, sym, ap, _∙_}
 use mathlib.Core.Bool.{Bool, true, false, cond}
 use mathlib.Core.List.{List, [], _∷_, _++_, map}
-use Prim.Native.Nat.{ℕ, zero, suc, min, _≤_, _<_}
+use Prim.Native.Nat.{ℕ, zero, suc, _≤_, _<_}
 use native.Mathlib.Omega.{arith}
 use lib.Dec.{leb}
 use lib.ListN.{length, getD, take, drop, replicate, length-replicate, length-take, length-map, List·getD-append}
 use lib.Seq.{length-take-le}
 use borrow.Author.Tests.{lt-ltb, ne-eqb, leb-true, leb-false}
-use Rattle.relation.specs.Relation.{states, pairs}
+use Rattle.relation.specs.Relation.{states}
 use Rattle.plan_file.specs.Refusals.{refuse, fault}
-use Rattle.plan_file.specs.Views.{rulesOf, automatonOf}
+use Rattle.plan_file.specs.Views.{automatonOf}
 use Rattle.working_order.specs.Journal.{Row, noRow, capped}
 use Rattle.working_order.specs.Order.{Answer, Verdict, holds, broken, full, spent}
 use Rattle.calls.specs.Base.{base}
-use Rattle.calls.specs.Checking.{journalLimit, journalFault, orderOn, checkOf, keptBy, journalAfter, shown}
+use Rattle.calls.specs.Checking.{journalLimit, journalFault, checkOf, keptBy, journalAfter, shown}
 use Rattle.calls.specs.Printing.{verdictWord, numbersLine, wordLine, refusedLine, lineOne, lineTwo, lineThree, brokenLines, linesBy, textBy, textOf}
 use Rattle.calls.specs.Promising.{promises, broken-word, broken-writes}
-use Rattle.calls.specs.Replies.{Reply, refused, answered, unless, unlessBy}
+use Rattle.calls.specs.Replies.{Reply, refused, answered, unless}
 use Rattle.calls.specs.Rows.{rowOf}
-use Rattle.calls.specs.Writing.{roomFault, wordOf, writeOf, bufferAfter}
+use Rattle.calls.specs.Writing.{wordOf, writeOf, bufferAfter}
 use Rattle.calls.specs.declared.Row.{Row as LentRow}
-use Rattle.covers.specs.Rows.{Journal}
-use Rattle.telling.specs.Codes.{holdsCode, brokenCode, fullCode, spentCode, verdictCode}
+use Rattle.telling.specs.Codes.{verdictCode}
 use Rattle.telling.specs.Fronts.{journalOf}
 use Rattle.telling.specs.Telling.{refusedBy, numbersIn}
 use Rattle.telling.specs.declared.Told.{Told}

@@ -2,9 +2,8 @@
 use mathlib.Core.Path.{sym, ap, _∙_}
 use mathlib.Core.List.{List}
 use Prim.Native.Nat.{ℕ}
-use lib.ListN.{take}
 use lib.Seq.{length-take-le}
-use Rattle.calls.specs.Printing.{numbersLine, separated}
+use Rattle.calls.specs.Printing.{numbersLine}
 use Rattle.page.specs.Page.{page, puts}
 use Rattle.lines.specs.LineLaws.{puts-line, take-least}
 use borrow.Author.Needs.{needs}

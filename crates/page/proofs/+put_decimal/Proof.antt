@@ -1,13 +1,8 @@
 -- A number of one digit, or the digits in front of the last one, put by the call on the tenth part, and then that one. Assumes nothing.
-use mathlib.Core.Path.{_≡_, refl, sym, ap, _∙_, subst}
-use mathlib.Core.List.{List, [], _∷_, _++_}
-use native.Mathlib.Omega.{arith}
-use lib.ListN.{length}
 use borrow.Author.Needs.{needs}
-use Rattle.page.specs.Page.{Page, page, put, puts}
-use Rattle.page.specs.PageLaws.{puts-more}
+use Rattle.page.specs.Page.{put}
 use Rattle.page.specs.DecimalLaws.{puts-small, puts-digits}
-use Prim.Native.Nat.{ℕ, _+_, _/_, _%_, _<_}
+use Prim.Native.Nat.{ℕ, _<_}
 use borrow.Fn.Kinds.{In}
 use borrow.Fn.PlainCycle.{Measures, is, falls, and}
 use Rattle.page.proofs.put_decimal.Reads as put-decimal

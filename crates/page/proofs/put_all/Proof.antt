@@ -1,11 +1,10 @@
 -- The bytes from i on, put where the loop stands, are all of them put where it began. Assumes nothing.
-use mathlib.Core.Path.{_≡_, refl, sym, ap, _∙_}
+use mathlib.Core.Path.{_≡_, sym, ap, _∙_}
 use mathlib.Core.List.{List}
 use Prim.Native.Nat.{ℕ, _+_, _≤_, _-_}
-use native.Mathlib.Numerals.{add-one}
 use native.Mathlib.Omega.{arith}
 use lib.ListN.{length, drop}
-use lib.Seq.{drop-cons, drop-length}
+use lib.Seq.{drop-length}
 use borrow.Author.Needs.{needs}
 use Rattle.page.specs.Page.{page, puts}
 use Rattle.page.specs.PageLaws.{puts-none, puts-next}

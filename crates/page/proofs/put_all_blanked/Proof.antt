@@ -1,12 +1,12 @@
 -- The numbers from i on, put where the loop stands, are all of them put where it began. Assumes nothing.
-use mathlib.Core.Path.{_≡_, refl, sym, ap, _∙_}
+use mathlib.Core.Path.{_≡_, sym, ap, _∙_}
 use mathlib.Core.List.{List, _∷_}
-use Prim.Native.Nat.{ℕ, _+_, _≤_, _-_}
+use Prim.Native.Nat.{ℕ, _≤_, _-_}
 use native.Mathlib.Omega.{arith}
 use lib.ListN.{length, drop}
 use lib.Seq.{drop-length}
 use borrow.Author.Needs.{needs}
-use Rattle.calls.specs.Printing.{blank, decimal, blanked}
+use Rattle.calls.specs.Printing.{blankByte, decimal, blanked}
 use Rattle.page.specs.Page.{page, puts}
 use Rattle.page.specs.PageLaws.{puts-none}
 use Rattle.page.specs.DecimalLaws.{puts-blanked}
@@ -27,7 +27,7 @@ loop-again c =
     let p = page (l .place) (l .text) in
     let put = c .before .before .put-blanked in
     let wide = c .before .before .before .wide in
-    (omega arith, put .kept .0 ∙ l .inv .1, puts-blanked ns (l .i) p _ (omega arith) (put .ensures ∙ ap (λ (n : ℕ). puts (blank ∷ decimal n) p) (wide .ensures)) ∙ l .inv .2)
+    (omega arith, put .kept .0 ∙ l .inv .1, puts-blanked ns (l .i) p _ (omega arith) (put .ensures ∙ ap (λ (n : ℕ). puts (blankByte ∷ decimal n) p) (wide .ensures)) ∙ l .inv .2)
 
 returns : tie.Need-returns Inv-loop μ-loop
 unfolding blanked

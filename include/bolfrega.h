@@ -91,7 +91,8 @@ uint64_t bolfrega_judge(const uint8_t *file, size_t file_length, const uint8_t *
  * - BOLFREGA_BROKEN. Joins, used, pass, row, pairs and length are those of the check, the record is 0. If the run has at most 65,534
  *   steps and fits into the buffer, refused is 0 and the run is the first `length` bytes of the buffer. Else refused is 10.
  *
- * Every byte of the buffer keeps its value but those of a run that is written.
+ * Every byte of the buffer keeps its value but those of a run that is written. Once it returns BOLFREGA_HOLDS or BOLFREGA_BROKEN, more
+ * rows (up to 4,096) or a larger budget change nothing that it returns, sets or writes.
  */
 uint64_t bolfrega_check(const uint8_t *file, size_t file_length, size_t rows, uint64_t budget, uint64_t details[8], uint8_t *buffer,
                         size_t buffer_length);

@@ -16,7 +16,7 @@ use Rattle.language.specs.Grammar.{initial}
 use Rattle.language.specs.Spelling.{DerivesWithin}
 use Rattle.language.specs.WordRelation.{wordRelation}
 use Rattle.plan_file.specs.Refusals.{refuse}
-use Rattle.plan_file.specs.Views.{rulesOf, automatonOf}
+use Rattle.plan_file.specs.Views.{rulesOf, productionsOf, automatonOf}
 use Rattle.working_order.specs.Behind.{wordBehind}
 use Rattle.working_order.specs.Journal.{Row, noRow, capped}
 use Rattle.working_order.specs.Order.{Answer, Verdict, broken}
@@ -131,7 +131,7 @@ module _ (bs : List ℕ) (J B : ℕ) (a : Answer ℕ) (reply : checkOf bs J B �
         let pass-is : toldPass d ≡ a .pass = ap toldPass details-are in
         record {
           counterexample = p .one-verdict .broken-shows v;
-          within = subst (λ (k : ℕ). DerivesWithin (rulesOf bs) k initial run) (sym pass-is) (p .least-height .shown-within v);
+          within = subst (λ (k : ℕ). DerivesWithin (productionsOf bs) k initial run) (sym pass-is) (p .least-height .shown-within v);
           none-lower = λ h l. p .least-height .none-lower v h (subst (λ (k : ℕ). h < k) pass-is l);
           pairs-are = ap toldPairs details-are ∙ ap (pairs states) row-relation;
           length-is = length-told;

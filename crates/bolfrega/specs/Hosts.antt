@@ -11,7 +11,7 @@ use Rattle.language.specs.Spelling.{DerivesWithin}
 use Rattle.language.specs.Automaton.{Accepts, TurnsAway}
 use Rattle.language.specs.WordRelation.{wordRelation}
 use Rattle.plan_file.specs.Refusals.{fault}
-use Rattle.plan_file.specs.Views.{rulesOf, automatonOf}
+use Rattle.plan_file.specs.Views.{rulesOf, productionsOf, automatonOf}
 use Rattle.working_order.specs.Stopping.{Stops}
 use Rattle.working_order.specs.Journal.{absent, capped}
 use Rattle.working_order.specs.Order.{Answer, Verdict, full, spent}
@@ -152,8 +152,8 @@ module _ (bs : List ℕ) (J B : ℕ) (d old new : List ℕ) (r : ℕ) where
     -- it is a run of the plan that the sheet turns away
     pub counterexample : Counterexample bs w
     -- the pass is the least height of a derivation of such a run
-    pub within : DerivesWithin (rulesOf bs) (toldPass d) initial w
-    pub none-lower : (h : ℕ) → h < toldPass d → (u : List ℕ) → DerivesWithin (rulesOf bs) h initial u → Accepts (automatonOf bs) u
+    pub within : DerivesWithin (productionsOf bs) (toldPass d) initial w
+    pub none-lower : (h : ℕ) → h < toldPass d → (u : List ℕ) → DerivesWithin (productionsOf bs) h initial u → Accepts (automatonOf bs) u
     pub pairs-are : toldPairs d ≡ pairs states (wordRelation states (automatonOf bs .transitions) w)
     pub length-is : toldLength d ≡ capped (length w)
     pub in-buffer : InBuffer w

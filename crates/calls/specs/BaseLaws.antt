@@ -3,7 +3,7 @@
 use mathlib.Core.Path.{_≡_, refl, sym, ap, ap₂, _∙_, subst}
 use mathlib.Core.Logic.{inl}
 use mathlib.Core.Bool.{Bool, true}
-use mathlib.Core.List.{List, [], _∷_, _++_, append-nil}
+use mathlib.Core.List.{List, [], _∷_, _++_, map, append-nil}
 use Prim.Native.Nat.{ℕ, zero, suc}
 use lib.ListN.{length-append}
 use Rattle.basics.specs.Tests.{and-intro, and-fst, and-snd}
@@ -11,8 +11,9 @@ use Rattle.basics.specs.Lists.{in-one}
 use Rattle.relation.specs.Relation.{identity, compose, contained, rejects}
 use Rattle.relation.specs.DigitLaws.{subset-refl, subset-trans}
 use Rattle.relation.specs.RelationLaws.{compose-mono, rejects-contained}
-use Rattle.language.specs.Grammar.{Symbol, terminal, nonterminal, Body, empty, one, two, symbols, Rule}
+use Rattle.language.specs.Grammar.{Symbol, terminal, nonterminal, Body, empty, one, two, symbols, Rule, productionOf}
 use Rattle.language.specs.Spelling.{SpellsSymbol, Spells, DerivesWithin}
+use Rattle.language.specs.RuleLaws.{of-rule, by-rule}
 use Rattle.language.specs.Automaton.{Automaton}
 use Rattle.language.specs.WordRelation.{letterRelation, wordRelation, isFinal}
 use Rattle.language.specs.Paths.{wordRelation-append, wordRelation-one, wordRelation-none}
@@ -71,13 +72,17 @@ module _ (D D′ : ℕ → List ℕ → Type 0) (each : (x : ℕ) (w : List ℕ)
   body-spells (one s) w g = (w, [], sym (append-nil w), symbol-spells s w g, refl)
   body-spells (two s t) w g = (g .0, g .1, g .4, symbol-spells s (g .0) (g .2), (g .1, [], sym (append-nil (g .1)), symbol-spells t (g .1) (g .3), refl))
 
-pub within-yields : (rules : List Rule) (h x : ℕ) (w : List ℕ) → DerivesWithin rules h x w → Yields wordValues rules h x w
+pub within-yields : (rules : List Rule) (h x : ℕ) (w : List ℕ) → DerivesWithin (map productionOf rules) h x w → Yields wordValues rules h x w
 within-yields rules zero x w d = absurd d
-within-yields rules (suc h) x w d = (d .0, d .1, d .2, body-gives (DerivesWithin rules h) (Yields wordValues rules h) (within-yields rules h) (d .0 .body) w (d .3))
+within-yields rules (suc h) x w d =
+    let r = by-rule rules h x w d in
+    (r .0, r .1, r .2, body-gives (DerivesWithin (map productionOf rules) h) (Yields wordValues rules h) (within-yields rules h) (r .0 .body) w (r .3))
 
-pub yields-within : (rules : List Rule) (h x : ℕ) (w : List ℕ) → Yields wordValues rules h x w → DerivesWithin rules h x w
+pub yields-within : (rules : List Rule) (h x : ℕ) (w : List ℕ) → Yields wordValues rules h x w → DerivesWithin (map productionOf rules) h x w
 yields-within rules zero x w d = absurd d
-yields-within rules (suc h) x w d = (d .0, d .1, d .2, body-spells (Yields wordValues rules h) (DerivesWithin rules h) (yields-within rules h) (d .0 .body) w (d .3))
+yields-within rules (suc h) x w d =
+    of-rule rules h x w
+    (d .0, d .1, d .2, body-spells (Yields wordValues rules h) (DerivesWithin (map productionOf rules) h) (yields-within rules h) (d .0 .body) w (d .3))
 
 -- ---- a word and its relation
 
@@ -103,14 +108,14 @@ module _ (n : ℕ) (A : Automaton) where
       }
 
   -- the relation of a word that x derives is one that x derives
-  pub relation-derived : (rules : List Rule) (h x : ℕ) (w : List ℕ) → DerivesWithin rules h x w → Yields (effectValues (base n A)) rules h x (wordRelation n (A .transitions) w)
+  pub relation-derived : (rules : List Rule) (h x : ℕ) (w : List ℕ) → DerivesWithin (map productionOf rules) h x w → Yields (effectValues (base n A)) rules h x (wordRelation n (A .transitions) w)
   relation-derived rules h x w d =
       let r = yields-along wordValues (effectValues (base n A)) (λ w e. relation w ≡ e) word-relation rules h x w (within-yields rules h x w d) in
       subst (Yields (effectValues (base n A)) rules h x) (sym (r .2)) (r .1)
 
   -- what stands behind a row is a word that its nonterminal derives, with the row's relation
   pub word-derived : (rules : List Rule) (h x e : ℕ) (w : List ℕ) → Yields (spelledValues (base n A) words) rules h x (w, e)
-      → DerivesWithin rules h x w × (wordRelation n (A .transitions) w ≡ e)
+      → DerivesWithin (map productionOf rules) h x w × (wordRelation n (A .transitions) w ≡ e)
   word-derived rules h x e w d =
       let r = yields-along (spelledValues (base n A) words) wordValues (λ v w. (v .0 ≡ w) × (relation w ≡ v .1)) spelled-word rules h x (w, e) d in
       (yields-within rules h x w (subst (Yields wordValues rules h x) (sym (r .2 .0)) (r .1)), ap relation (r .2 .0) ∙ r .2 .1)

@@ -13,7 +13,7 @@ use Rattle.language.specs.Rewriting.{Language}
 use Rattle.language.specs.Spelling.{DerivesWithin}
 use Rattle.language.specs.Automaton.{WordPath, Accepts, TurnsAway}
 use Rattle.plan_file.specs.Refusals.{refuse}
-use Rattle.plan_file.specs.Views.{rulesOf, automatonOf}
+use Rattle.plan_file.specs.Views.{rulesOf, productionsOf, automatonOf}
 use Rattle.working_order.specs.Journal.{Row, absent, capped}
 use Rattle.working_order.specs.Order.{Answer, holds, broken, full, spent}
 use Rattle.working_order.specs.Stopping.{Stops, Ends}
@@ -30,7 +30,7 @@ Subrelation d e = (p q : ℕ) → p < states → q < states → has states d p q
 module _ (bs : List ℕ) where
   -- the initial symbol derives the word (document 01: the run is derivable)
   abbrev pub Derivable : List ℕ → Type 0
-  Derivable w = Language (rulesOf bs) initial w
+  Derivable w = Language (productionsOf bs) initial w
 
   -- a word that is derived and turned away
   abbrev pub Counterexample : List ℕ → Type 0
@@ -70,8 +70,8 @@ module _ (bs : List ℕ) where
 
   -- the pass of a broken answer is the least height of a derivation whose word is turned away
   pub record LeastHeight (a : Answer ℕ) : Type 0 where
-    pub shown-within : a .verdict ≡ broken → DerivesWithin (rulesOf bs) (a .pass) initial (shown bs a)
-    pub none-lower : a .verdict ≡ broken → (h : ℕ) → h < a .pass → (w : List ℕ) → DerivesWithin (rulesOf bs) h initial w → Accepts (automatonOf bs) w
+    pub shown-within : a .verdict ≡ broken → DerivesWithin (productionsOf bs) (a .pass) initial (shown bs a)
+    pub none-lower : a .verdict ≡ broken → (h : ℕ) → h < a .pass → (w : List ℕ) → DerivesWithin (productionsOf bs) h initial w → Accepts (automatonOf bs) w
 
   -- ---- the rows
 
@@ -85,7 +85,7 @@ module _ (bs : List ℕ) where
   -- what row i is
   pub record RowMeans (a : Answer ℕ) (i : ℕ) : Type 0 where
     -- its nonterminal derives the word behind it
-    pub derived : Language (rulesOf bs) (usedRow a i .head) (usedWord a i)
+    pub derived : Language (productionsOf bs) (usedRow a i .head) (usedWord a i)
     -- its relation has exactly the pairs of states that a path on this word joins
     pub pairs-exactly : (p q : ℕ) → p < states → q < states
         → (has states (usedRow a i .effect) p q ≡ true) ↔ WordPath (automatonOf bs .transitions) p (usedWord a i) q

@@ -10,7 +10,7 @@ use borrow.Author.Tests.{ltb-true, ltb-false}
 use Rattle.relation.specs.Relation.{states, contained}
 use Rattle.language.specs.Spelling.{DerivesWithin}
 use Rattle.language.specs.WordRelation.{wordRelation}
-use Rattle.plan_file.specs.Views.{rulesOf, automatonOf}
+use Rattle.plan_file.specs.Views.{rulesOf, productionsOf, automatonOf}
 use Rattle.working_order.specs.Journal.{Row, noRow, capped, liveOf}
 use Rattle.working_order.specs.Behind.{wordsOf, wordBehind}
 use Rattle.working_order.specs.Fitting.{rowFits}
@@ -32,7 +32,7 @@ module _ (bs : List ℕ) (J B : ℕ) where
 
   pub record RowTrue (i : ℕ) : Type 0 where
     -- the word behind the row derives from its nonterminal, with no more rules on a way than the pass of its birth
-    pub derived : DerivesWithin (rulesOf bs) (rowAt i .birth) (rowAt i .head) (wordAt i)
+    pub derived : DerivesWithin (productionsOf bs) (rowAt i .birth) (rowAt i .head) (wordAt i)
     -- the row's relation is exactly that word's (document 01: the effect of the run)
     pub relation-is : wordRelation states (automatonOf bs .transitions) (wordAt i) ≡ rowAt i .effect
     pub length-is : rowAt i .len ≡ capped (length (wordAt i))

@@ -20,7 +20,7 @@ use Rattle.language.specs.Automaton.{Automaton, Accepts, TurnsAway}
 use Rattle.language.specs.WordRelation.{wordRelation, isFinal, rejected}
 use Rattle.language.specs.Paths.{wordRelation-lt, path-of, of-path, turns-away, accepts}
 use Rattle.plan_file.specs.Refusals.{fault}
-use Rattle.plan_file.specs.Views.{rulesOf, automatonOf}
+use Rattle.plan_file.specs.Views.{rulesOf, productionsOf, automatonOf}
 use Rattle.plan_file.specs.Valid.{automaton-within}
 use Rattle.working_order.specs.Order.{Answer, Verdict, holds, broken, full, spent, check}
 use Rattle.working_order.specs.Behind.{wordBehind}
@@ -50,8 +50,8 @@ module _ (bs : List ℕ) (v : fault bs .number ≡ 0) (J B : ℕ) where
   abbrev Means : Verdict → Answer ℕ → Type 0
   Means holds a = (w : List ℕ) → Derivable bs w → Accepts A w
   Means broken a =
-      DerivesWithin (rulesOf bs) (a .pass) initial (shown bs a) × TurnsAway A (shown bs a)
-      × ((h : ℕ) → h < a .pass → (w : List ℕ) → DerivesWithin (rulesOf bs) h initial w → Accepts A w)
+      DerivesWithin (productionsOf bs) (a .pass) initial (shown bs a) × TurnsAway A (shown bs a)
+      × ((h : ℕ) → h < a .pass → (w : List ℕ) → DerivesWithin (productionsOf bs) h initial w → Accepts A w)
   Means full a = Unit {0}
   Means spent a = Unit {0}
 
@@ -64,14 +64,14 @@ module _ (bs : List ℕ) (v : fault bs .number ≡ 0) (J B : ℕ) where
   unfolding rejected shown
   means holds a s =
       λ w d.
-      let t = language (rulesOf bs) initial w .0 d in
+      let t = language (productionsOf bs) initial w .0 d in
       calm w (holds-calm (base states A) (base-laws states A) words word-sizes (rulesOf bs) J B a s (t .0) initial (wordRelation states (A .transitions) w) (relation-derived states A (rulesOf bs) (t .0) initial w (t .1)))
   means broken a s =
       let r = shownRow (base states A) a in
       let w = wordBehind words (rulesOf bs) (a .journal) (a .row) in
       let t = word-derived states A (rulesOf bs) (a .pass) (r .head) (r .effect) w (s .0) in
       let reject = rejects states (isFinal A) in (
-        subst (λ (x : ℕ). DerivesWithin (rulesOf bs) (a .pass) x w) (eqb-true (r .head) initial (and-fst (starts (r .head)) (reject (r .effect)) (s .1))) (t .0),
+        subst (λ (x : ℕ). DerivesWithin (productionsOf bs) (a .pass) x w) (eqb-true (r .head) initial (and-fst (starts (r .head)) (reject (r .effect)) (s .1))) (t .0),
         turns-away states A (automaton-within bs v) w (ap reject (t .1) ∙ and-snd (starts (r .head)) (reject (r .effect)) (s .1)),
         λ h l u d. calm u (s .3 h l initial (wordRelation states (A .transitions) u) (relation-derived states A (rulesOf bs) h initial u d)),
       )
@@ -85,7 +85,7 @@ module _ (bs : List ℕ) (v : fault bs .number ≡ 0) (J B : ℕ) where
       (subst (λ (y : Verdict). SaysBy (base states A) words (rulesOf bs) y (orderOn bs J B)) e (check-says (base states A) (base-laws states A) words word-sizes (rulesOf bs) J B .verdict))
 
   shows : orderOn bs J B .verdict ≡ broken → Counterexample bs (shown bs (orderOn bs J B))
-  shows e = let m = meaning broken e in (language (rulesOf bs) initial (shown bs (orderOn bs J B)) .1 (orderOn bs J B .pass, m .0), m .1)
+  shows e = let m = meaning broken e in (language (productionsOf bs) initial (shown bs (orderOn bs J B)) .1 (orderOn bs J B .pass, m .0), m .1)
 
   -- where a word is turned away and the verdict is firm, it is "broken"
   found : (x : Verdict) → orderOn bs J B .verdict ≡ x → (x ≡ full → ⊥) → (x ≡ spent → ⊥) → (w : List ℕ) × Counterexample bs w → x ≡ broken
@@ -170,7 +170,7 @@ module _ (bs : List ℕ) (v : fault bs .number ≡ 0) (J B : ℕ) where
         let w = wordAt bs J B i in
         let within = automaton-within bs v .targets in
         record {
-          derived = language (rulesOf bs) (rowAt bs J B i .head) w .1 (rowAt bs J B i .birth, t .derived);
+          derived = language (productionsOf bs) (rowAt bs J B i .head) w .1 (rowAt bs J B i .birth, t .derived);
           pairs-exactly = λ p q hp hq. (
             λ h. path-of states (A .transitions) within w p q hp hq (ap (λ (e : ℕ). has states e p q) (t .relation-is) ∙ h),
             λ h. sym (ap (λ (e : ℕ). has states e p q) (t .relation-is)) ∙ of-path states (A .transitions) within w p q hp hq h,

@@ -7,7 +7,7 @@ use lib.Dec.{leb, ltb}
 use lib.ListN.{length, getD, take, drop}
 use Rattle.relation.specs.Relation.{states}
 use Rattle.plan_file.specs.Refusals.{refuse, fault}
-use Rattle.plan_file.specs.Views.{rulesOf, automatonOf}
+use Rattle.plan_file.specs.Views.{rulesOf, productionsOf, automatonOf}
 use Rattle.language.specs.Grammar.{Rule}
 use Rattle.language.specs.Rewriting.{Language}
 use Rattle.working_order.specs.Algebra.{Forms}
@@ -58,4 +58,4 @@ bufferAfter bs rows used i old = writtenBy (wordOf bs rows i) old (writeOf bs ro
 -- nonterminal of row i derives, whoever made the journal
 abbrev pub WordMeans : List ℕ → List (Row ℕ) → ℕ → List ℕ → Reply ℕ → Type 0
 WordMeans bs rows i new (refused r) = Unit {0}
-WordMeans bs rows i new (answered n) = Language (rulesOf bs) (rowOn bs rows i .head) (take n new)
+WordMeans bs rows i new (answered n) = Language (productionsOf bs) (rowOn bs rows i .head) (take n new)

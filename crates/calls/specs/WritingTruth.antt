@@ -3,7 +3,7 @@
 use mathlib.Core.Path.{_≡_, refl, sym, ap, ap₂, _∙_, subst}
 use mathlib.Core.Logic.{_⊎_, inl, inr}
 use mathlib.Core.Bool.{Bool, true, false, not, _||_, cond}
-use mathlib.Core.List.{List, [], _++_, append-nil}
+use mathlib.Core.List.{List, [], _++_, map, append-nil}
 use Prim.Native.Nat.{ℕ, zero, suc, _+_, _≤_, _<_}
 use native.Mathlib.Nat.{le-refl, not-suc-le-zero, suc-ne-zero}
 use native.Mathlib.Omega.{arith}
@@ -14,12 +14,13 @@ use borrow.Author.Tests.{eqb-true, leb-true, leb-false, ltb-true, ltb-false, lt-
 use Rattle.basics.specs.Lists.{getD-in}
 use Rattle.basics.specs.Tests.{and-intro, and-fst, and-snd, or-neither, not-fails}
 use Rattle.relation.specs.Relation.{states}
-use Rattle.language.specs.Grammar.{Symbol, terminal, nonterminal, Body, empty, one, two, symbols, Rule, noRule}
+use Rattle.language.specs.Grammar.{Symbol, terminal, nonterminal, Body, empty, one, two, symbols, Production, Rule, productionOf, noRule}
 use Rattle.language.specs.Rewriting.{Language}
 use Rattle.language.specs.Spelling.{SpellsSymbol, Spells, DerivesWithin}
 use Rattle.language.specs.Agreement.{within-le, within-steps}
+use Rattle.language.specs.RuleLaws.{of-rule}
 use Rattle.plan_file.specs.Refusals.{refuse, fault}
-use Rattle.plan_file.specs.Views.{rulesOf, automatonOf}
+use Rattle.plan_file.specs.Views.{rulesOf, productionsOf, automatonOf}
 use Rattle.working_order.specs.Algebra.{Forms, Algebra}
 use Rattle.working_order.specs.Journal.{Row, noRow}
 use Rattle.working_order.specs.Behind.{symbolWord, bodyWord, wordsOf, wordBehind}
@@ -39,20 +40,23 @@ use Rattle.calls.specs.Writing.{longWord, rowFault, roomFault, rowOn, wo
 -- ---- rows that fit derive the words behind them
 
 module _ (rules : List Rule) (M : Forms ℕ) (rows : List (Row ℕ)) where
+  abbrev productions : List Production
+  productions = map productionOf rules
+
   -- each row below i derives its word
   abbrev Below : ℕ → Type 0
-  Below i = (j : ℕ) → j < i → DerivesWithin rules (suc j) (getD rows j (noRow M) .head) (wordBehind words rules rows j)
+  Below i = (j : ℕ) → j < i → DerivesWithin productions (suc j) (getD rows j (noRow M) .head) (wordBehind words rules rows j)
 
-  symbol-spells : (i : ℕ) (s : Symbol) (p : ℕ) → pointerFits M rows i s p ≡ true → Below i → SpellsSymbol (DerivesWithin rules i) s (symbolWord words (wordsOf words rules rows) s p)
+  symbol-spells : (i : ℕ) (s : Symbol) (p : ℕ) → pointerFits M rows i s p ≡ true → Below i → SpellsSymbol (DerivesWithin productions i) s (symbolWord words (wordsOf words rules rows) s p)
   unfolding symbolWord wordBehind pointerFits
   symbol-spells i (terminal c) p f below = refl
   symbol-spells i (nonterminal x) p f below =
       let r : Row ℕ = getD rows p (noRow M) in
       let l = ltb-true p i (and-fst (ltb p i) (eqb (r .head) x) f) in
       let e = eqb-true (r .head) x (and-snd (ltb p i) (eqb (r .head) x) f) in
-      within-le rules (suc p) i x (wordBehind words rules rows p) l (subst (λ (y : ℕ). DerivesWithin rules (suc p) y (wordBehind words rules rows p)) e (below p l))
+      within-le productions (suc p) i x (wordBehind words rules rows p) l (subst (λ (y : ℕ). DerivesWithin productions (suc p) y (wordBehind words rules rows p)) e (below p l))
 
-  body-spells : (i : ℕ) (b : Body) (e l r : ℕ) → PointersFit M rows i b l r → Below i → Spells (DerivesWithin rules i) (symbols b) (bodyWord words (wordsOf words rules rows) b e l r)
+  body-spells : (i : ℕ) (b : Body) (e l r : ℕ) → PointersFit M rows i b l r → Below i → Spells (DerivesWithin productions i) (symbols b) (bodyWord words (wordsOf words rules rows) b e l r)
   unfolding bodyWord
   body-spells i empty e l r f below = refl
   body-spells i (one s) e l r f below = let w = symbolWord words (wordsOf words rules rows) s l in (w, [], sym (append-nil w), symbol-spells i s l f below, refl)
@@ -61,16 +65,17 @@ module _ (rules : List Rule) (M : Forms ℕ) (rows : List (Row ℕ)) where
       let v = symbolWord words (wordsOf words rules rows) t r in
       (u, v, refl, symbol-spells i s l (f .0) below, (v, [], sym (append-nil v), symbol-spells i t r (f .1) below, refl))
 
-  derives-below : (m i : ℕ) → i < m → i < length rows → FitThrough M rows rules i → DerivesWithin rules (suc i) (getD rows i (noRow M) .head) (wordBehind words rules rows i)
+  derives-below : (m i : ℕ) → i < m → i < length rows → FitThrough M rows rules i → DerivesWithin productions (suc i) (getD rows i (noRow M) .head) (wordBehind words rules rows i)
   derives-below zero i h k f = absurd (not-suc-le-zero h)
   derives-below (suc m) i h k f =
       let r : Row ℕ = getD rows i (noRow M) in
       let g = f i (le-refl i) in
-      let t = fitting M rows rules i g in (
+      let t = fitting M rows rules i g in
+      of-rule rules i (r .head) (wordBehind words rules rows i) (
         getD rules (r .rule) noRule,
         getD-in noRule rules (r .rule) (t .inside),
         t .head-is,
-        subst (Spells (DerivesWithin rules i) (symbols (bodyAt M rows rules i))) (sym (behind-body words M rules rows i k g))
+        subst (Spells (DerivesWithin productions i) (symbols (bodyAt M rows rules i))) (sym (behind-body words M rules rows i k g))
             (body-spells i (bodyAt M rows rules i) (r .effect) (r .left) (r .right) (t .pointers) (λ j l. derives-below m j (omega arith) (omega arith) (λ q ql. f q (omega arith)))),
       )
 
@@ -104,10 +109,10 @@ module _ (bs : List ℕ) (rows : List (Row ℕ)) (used i room n : ℕ) (e : writ
           let b = ltb-false (length rows) used (o₂ .0) in
           (omega arith, not-fails (rowsFit M rows (rulesOf bs) (i + 1)) (o₂ .1))
 
-  derives : Language (rulesOf bs) (rowOn bs rows i .head) (wordOf bs rows i)
+  derives : Language (productionsOf bs) (rowOn bs rows i .head) (wordOf bs rows i)
   unfolding wordOf
   derives =
-      within-steps (rulesOf bs) (suc i) (rowOn bs rows i .head) (wordBehind words (rulesOf bs) rows i)
+      within-steps (productionsOf bs) (suc i) (rowOn bs rows i .head) (wordBehind words (rulesOf bs) rows i)
       (derives-below (rulesOf bs) M rows (suc i) i (le-refl (suc i)) (fits .0) (λ j l. fit-through M rows (rulesOf bs) (i + 1) (fits .1) j (omega arith)))
 
 -- what writing answers means that, over the buffer as it is then
@@ -120,7 +125,7 @@ write-means bs rows used i old = by (writeOf bs rows used i (length old)) refl
     by (answered n) e =
         let w = wordOf bs rows i in
         let p = passed bs rows used i (length old) n e in
-        subst (Language (rulesOf bs) (rowOn bs rows i .head)) (sym (take-at w (drop n old) n (sym (p .1)))) (derives bs rows used i (length old) n e)
+        subst (Language (productionsOf bs) (rowOn bs rows i .head)) (sym (take-at w (drop n old) n (sym (p .1)))) (derives bs rows used i (length old) n e)
 
 -- ---- after a broken check
 

@@ -4,17 +4,17 @@ use mathlib.Core.Logic.{_↔_}
 use mathlib.Core.List.{List, [], _∷_, _++_, map, append-assoc, append-nil}
 use Prim.Native.Nat.{ℕ, zero, suc, _≤_}
 use native.Mathlib.Decide.{le-ind}
-use Rattle.language.specs.Grammar.{Symbol, terminal, nonterminal, symbols, Rule}
+use Rattle.language.specs.Grammar.{Symbol, terminal, nonterminal, Production}
 use Rattle.language.specs.Rewriting.{Step, Steps, done, more, Language}
 use Rattle.language.specs.Spelling.{SpellsSymbol, Spells, DerivesWithin, Derives}
 
 -- ---- rewriting goes on inside a form
 
-pub trans : (rules : List Rule) {α β γ : List Symbol} → Steps rules α β → Steps rules β γ → Steps rules α γ
+pub trans : (rules : List Production) {α β γ : List Symbol} → Steps rules α β → Steps rules β γ → Steps rules α γ
 trans rules done q = q
 trans rules (more s p) q = more s (trans rules p q)
 
-in-step : (rules : List Rule) (π ω : List Symbol) {α β : List Symbol} → Step rules α β → Step rules (π ++ (α ++ ω)) (π ++ (β ++ ω))
+in-step : (rules : List Production) (π ω : List Symbol) {α β : List Symbol} → Step rules α β → Step rules (π ++ (α ++ ω)) (π ++ (β ++ ω))
 in-step rules π ω {α} {β} s =
     record {
       before = π ++ s .before;
@@ -22,14 +22,14 @@ in-step rules π ω {α} {β} s =
       rule = s .rule;
       listed = s .listed;
       old = ap (λ (x : List Symbol). π ++ (x ++ ω)) (s .old) ∙ shape (nonterminal (s .rule .head) ∷ s .after);
-      new = ap (λ (x : List Symbol). π ++ (x ++ ω)) (s .new) ∙ shape (symbols (s .rule .body) ++ s .after)
-          ∙ ap (λ (x : List Symbol). π ++ s .before ++ x) (append-assoc (symbols (s .rule .body)) (s .after) ω);
+      new = ap (λ (x : List Symbol). π ++ (x ++ ω)) (s .new) ∙ shape (s .rule .symbols ++ s .after)
+          ∙ ap (λ (x : List Symbol). π ++ s .before ++ x) (append-assoc (s .rule .symbols) (s .after) ω);
     }
   where
     shape : (x : List Symbol) → π ++ (s .before ++ x ++ ω) ≡ π ++ s .before ++ (x ++ ω)
     shape x = ap (λ (y : List Symbol). π ++ y) (append-assoc (s .before) x ω) ∙ sym (append-assoc π (s .before) (x ++ ω))
 
-inside : (rules : List Rule) (π ω : List Symbol) {α β : List Symbol} → Steps rules α β → Steps rules (π ++ (α ++ ω)) (π ++ (β ++ ω))
+inside : (rules : List Production) (π ω : List Symbol) {α β : List Symbol} → Steps rules α β → Steps rules (π ++ (α ++ ω)) (π ++ (β ++ ω))
 inside rules π ω done = done
 inside rules π ω (more s p) = more (in-step rules π ω s) (inside rules π ω p)
 
@@ -39,7 +39,7 @@ map-append (c ∷ u) v = ap (λ (x : List Symbol). terminal c ∷ x) (map-append
 
 -- ---- a spelling is rewritten, symbol by symbol
 
-module _ (rules : List Rule) (D : ℕ → List ℕ → Type 0) (each : (p : ℕ) (w : List ℕ) → D p w → Steps rules (nonterminal p ∷ []) (map terminal w)) where
+module _ (rules : List Production) (D : ℕ → List ℕ → Type 0) (each : (p : ℕ) (w : List ℕ) → D p w → Steps rules (nonterminal p ∷ []) (map terminal w)) where
   sym-steps : (s : Symbol) (w : List ℕ) → SpellsSymbol D s w → Steps rules (s ∷ []) (map terminal w)
   sym-steps (terminal c) w e = subst (λ (x : List ℕ). Steps rules (terminal c ∷ []) (map terminal x)) (sym e) done
   sym-steps (nonterminal p) w d = each p w d
@@ -54,12 +54,12 @@ module _ (rules : List Rule) (D : ℕ → List ℕ → Type 0) (each : (p : ℕ)
       let rest′ : Steps rules (map terminal u ++ ss) (map terminal u ++ map terminal v) = rw (append-nil ss, append-nil (map terminal v)) at rest in
       rw (r .2, map-append u v) (trans rules first rest′)
 
-pub within-steps : (rules : List Rule) (h p : ℕ) (w : List ℕ) → DerivesWithin rules h p w → Language rules p w
+pub within-steps : (rules : List Production) (h p : ℕ) (w : List ℕ) → DerivesWithin rules h p w → Language rules p w
 within-steps rules zero p w d = absurd d
 within-steps rules (suc h) p w d =
     more
-    (record { before = []; after = []; rule = d .0; listed = d .1; old = ap (λ (x : ℕ). nonterminal x ∷ []) (sym (d .2)); new = sym (append-nil (symbols (d .0 .body))) })
-    (spell-steps rules (DerivesWithin rules h) (within-steps rules h) (symbols (d .0 .body)) w (d .3))
+    (record { before = []; after = []; rule = d .0; listed = d .1; old = ap (λ (x : ℕ). nonterminal x ∷ []) (sym (d .2)); new = sym (append-nil (d .0 .symbols)) })
+    (spell-steps rules (DerivesWithin rules h) (within-steps rules h) (d .0 .symbols) w (d .3))
 
 -- ---- what is rewritten is spelled
 
@@ -73,12 +73,12 @@ module _ (D D′ : ℕ → List ℕ → Type 0) (f : (p : ℕ) (w : List ℕ) �
   spell-mono (s ∷ ss) w r = (r .0, r .1, r .2, sym-mono s (r .0) (r .3), spell-mono ss (r .1) (r .4))
 
 -- more height does no harm
-pub taller : (rules : List Rule) (h p : ℕ) (w : List ℕ) → DerivesWithin rules h p w → DerivesWithin rules (suc h) p w
+pub taller : (rules : List Production) (h p : ℕ) (w : List ℕ) → DerivesWithin rules h p w → DerivesWithin rules (suc h) p w
 taller rules zero p w d = absurd d
 taller rules (suc h) p w d =
-    (d .0, d .1, d .2, spell-mono (DerivesWithin rules h) (DerivesWithin rules (suc h)) (taller rules h) (symbols (d .0 .body)) w (d .3))
+    (d .0, d .1, d .2, spell-mono (DerivesWithin rules h) (DerivesWithin rules (suc h)) (taller rules h) (d .0 .symbols) w (d .3))
 
-pub within-le : (rules : List Rule) (g h p : ℕ) (w : List ℕ) → g ≤ h → DerivesWithin rules g p w → DerivesWithin rules h p w
+pub within-le : (rules : List Production) (g h p : ℕ) (w : List ℕ) → g ≤ h → DerivesWithin rules g p w → DerivesWithin rules h p w
 within-le rules g h p w l d = le-ind (λ (x : ℕ). DerivesWithin rules x p w) d (λ m k e. taller rules m p w e) h l
 
 module _ (D : ℕ → List ℕ → Type 0) where
@@ -99,11 +99,11 @@ module _ (D : ℕ → List ℕ → Type 0) where
   spell-steps-only (c ∷ w) = (c ∷ [], w, refl, refl, spell-steps-only w)
 
 -- one terminal back costs one more of height
-back : (rules : List Rule) (h : ℕ) (α β : List Symbol) (w : List ℕ) → Step rules α β → Spells (DerivesWithin rules h) β w → Spells (DerivesWithin rules (suc h)) α w
+back : (rules : List Production) (h : ℕ) (α β : List Symbol) (w : List ℕ) → Step rules α β → Spells (DerivesWithin rules h) β w → Spells (DerivesWithin rules (suc h)) α w
 back rules h α β w s r =
     let D = DerivesWithin rules h in
     let D′ = DerivesWithin rules (suc h) in
-    let body = symbols (s .rule .body) in
+    let body = s .rule .symbols in
     let c = spell-cut D (s .before) (body ++ s .after) w (subst (λ (x : List Symbol). Spells D x w) (s .new) r) in
     let e = spell-cut D body (s .after) (c .1) (c .4) in
     let up = spell-mono D D′ (taller rules h) in
@@ -113,14 +113,14 @@ back rules h α β w s r =
     (subst (λ (x : List ℕ). Spells D′ (s .before ++ (nonterminal (s .rule .head) ∷ s .after)) x) (sym (c .2))
     (spell-join D′ (s .before) (nonterminal (s .rule .head) ∷ s .after) (c .0) (c .1) (up (s .before) (c .0) (c .3)) mid))
 
-steps-spell : (rules : List Rule) {α β : List Symbol} → Steps rules α β → (w : List ℕ) → β ≡ map terminal w → (h : ℕ) × Spells (DerivesWithin rules h) α w
+steps-spell : (rules : List Production) {α β : List Symbol} → Steps rules α β → (w : List ℕ) → β ≡ map terminal w → (h : ℕ) × Spells (DerivesWithin rules h) α w
 steps-spell rules done w e = (0, subst (λ (x : List Symbol). Spells (DerivesWithin rules 0) x w) (sym e) (spell-steps-only (DerivesWithin rules 0) w))
 steps-spell rules (more {α} {β} s p) w e =
     let r = steps-spell rules p w e in
     (suc (r .0), back rules (r .0) α β w s (r .1))
 
 -- document 000's language of a nonterminal is what the nonterminal derives
-pub language : (rules : List Rule) (p : ℕ) (w : List ℕ) → Language rules p w ↔ Derives rules p w
+pub language : (rules : List Production) (p : ℕ) (w : List ℕ) → Language rules p w ↔ Derives rules p w
 language rules p w = (there, λ d. within-steps rules (d .0) p w (d .1))
   where
     there : Language rules p w → Derives rules p w

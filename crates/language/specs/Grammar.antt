@@ -7,7 +7,14 @@ pub data Symbol : Type 0 where
   terminal : ℕ → Symbol
   nonterminal : ℕ → Symbol
 
--- a rule's right-hand side. At most two symbols: document 01's first departure from document 000
+-- a production rule (x, γ), as document 000 has it
+pub record Production : Type 0 where
+  -- x, the nonterminal that it rewrites
+  pub head : ℕ
+  -- γ, any number of symbols from left to right
+  pub symbols : List Symbol
+
+-- the right-hand side of a rule in a file. At most two symbols: document 01's first departure from document 000
 pub data Body : Type 0 where
   empty : Body
   one : Symbol → Body
@@ -23,6 +30,10 @@ pub record Rule : Type 0 where
   -- the nonterminal that the rule rewrites
   pub head : ℕ
   pub body : Body
+
+-- the rule as document 000 has it
+abbrev pub productionOf : Rule → Production
+productionOf r = record { head = r .head; symbols = symbols (r .body) }
 
 -- a rule that is never read
 abbrev pub noRule : Rule

@@ -3,7 +3,7 @@ use mathlib.Core.Path.{_≡_}
 use mathlib.Core.List.{List, [], _∷_, _++_}
 use Prim.Native.Nat.{ℕ, zero, suc}
 use Rattle.basics.specs.Elements.{In}
-use Rattle.language.specs.Grammar.{Symbol, terminal, nonterminal, symbols, Rule}
+use Rattle.language.specs.Grammar.{Symbol, terminal, nonterminal, Production}
 
 -- D x w says that the nonterminal x derives the word w
 module _ (D : ℕ → List ℕ → Type 0) where
@@ -18,10 +18,10 @@ module _ (D : ℕ → List ℕ → Type 0) where
   Spells (s ∷ ss) w = (u : List ℕ) × (v : List ℕ) × (w ≡ u ++ v) × SpellsSymbol s u × Spells ss v
 
 -- one of the rules of x spells w, with at most h rules on a way from the start to a leaf
-abbrev pub DerivesWithin : List Rule → ℕ → ℕ → List ℕ → Type 0
+abbrev pub DerivesWithin : List Production → ℕ → ℕ → List ℕ → Type 0
 DerivesWithin rules zero x w = ⊥
-DerivesWithin rules (suc h) x w = (r : Rule) × In r rules × (r .head ≡ x) × Spells (DerivesWithin rules h) (symbols (r .body)) w
+DerivesWithin rules (suc h) x w = (r : Production) × In r rules × (r .head ≡ x) × Spells (DerivesWithin rules h) (r .symbols) w
 
 -- in finitely many uses of rules
-abbrev pub Derives : List Rule → ℕ → List ℕ → Type 0
+abbrev pub Derives : List Production → ℕ → List ℕ → Type 0
 Derives rules x w = (h : ℕ) × DerivesWithin rules h x w

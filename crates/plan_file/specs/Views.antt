@@ -1,9 +1,9 @@
 -- What a file holds: the rules of its grammar, and its automaton (document 01: plan and order sheet). Definitions only. Assumes nothing.
 use mathlib.Core.Bool.{Bool, true, false}
-use mathlib.Core.List.{List, [], _∷_}
+use mathlib.Core.List.{List, [], _∷_, map}
 use Prim.Native.Nat.{ℕ, zero, suc, _-_}
 use lib.Dec.{eqb, ltb}
-use Rattle.language.specs.Grammar.{Symbol, terminal, nonterminal, Body, empty, one, two, Rule}
+use Rattle.language.specs.Grammar.{Symbol, terminal, nonterminal, Body, empty, one, two, Rule, Production, productionOf}
 use Rattle.language.specs.Automaton.{Transition, Automaton}
 use Rattle.plan_file.specs.Limits.{terminals}
 use Rattle.plan_file.specs.Records.{recordCount, recordAt, byte, kindAt, ruleKind, transitionKind, finalKind}
@@ -45,6 +45,10 @@ collect k g bs (suc m) i = consIf (eqb (kindAt bs i) k) (g (recordAt bs i)) (col
 
 unfoldable pub rulesOf : List ℕ → List Rule
 rulesOf bs = collect ruleKind ruleOf bs (recordCount bs) 0
+
+-- the same rules as document 000 has them: what the file derives is said of these
+abbrev pub productionsOf : List ℕ → List Production
+productionsOf bs = map productionOf (rulesOf bs)
 
 unfoldable pub transitionsOf : List ℕ → List Transition
 transitionsOf bs = collect transitionKind transitionOf bs (recordCount bs) 0

@@ -1,5 +1,6 @@
 pub mod Limits
 pub mod Records
+pub mod RefusalLaws
 pub mod Refusals
 pub mod Reading
 pub mod Views

@@ -13,9 +13,9 @@ use Rattle.basics.specs.Tests.{or-left, or-neither}
 use Rattle.relation.specs.Relation.{states}
 use Rattle.language.specs.WordRelation.{rejected}
 use Rattle.plan_file.specs.Limits.{terminals}
-use Rattle.plan_file.specs.Refusals.{Refusal, refuse, fault}
+use Rattle.plan_file.specs.Refusals.{Refusal, refuse, fault, byNumber}
 use Rattle.plan_file.specs.Views.{automatonOf}
-use Rattle.calls.specs.Replies.{Reply, refused, answered, unless, unlessBy}
+use Rattle.calls.specs.Replies.{Reply, refused, answered, unless}
 use Rattle.calls.specs.Judging.{Judgement, judgementBy, wordLimit, wordFault, judgeOf, Means}
 use Rattle.calls.specs.JudgingTruth.{judge-means}
 use Rattle.acceptance.specs.declared.Judged.{Judged}
@@ -32,12 +32,12 @@ module _ {A : Type 0} (x : Refusal) (a : Reply A) where
   unless-refused : (x .number ≡ 0 → ⊥) → refused x ≡ unless x a
   unless-refused h = by (x .number) h
     where
-      by : (f : ℕ) → (f ≡ 0 → ⊥) → refused x ≡ unlessBy f x a
+      by : (f : ℕ) → (f ≡ 0 → ⊥) → refused x ≡ byNumber f (refused x) a
       by zero h = absurd (h refl)
       by (suc f) h = refl
 
   unless-none : x .number ≡ 0 → a ≡ unless x a
-  unless-none e = sym (ap (λ (f : ℕ). unlessBy f x a) e)
+  unless-none e = sym (ap (λ (f : ℕ). byNumber f (refused x) a) e)
 
 -- the judgement, where nothing is refused
 abbrev judgement : List ℕ → List ℕ → Reply Judgement

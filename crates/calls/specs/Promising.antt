@@ -9,10 +9,10 @@ use lib.Dec.{eqb, ltb}
 use lib.ListN.{length}
 use borrow.Author.Tests.{eqb-false, ltb-false, ne-eqb, le-ltb}
 use Rattle.basics.specs.Tests.{or-neither}
-use Rattle.plan_file.specs.Refusals.{refuse, fault}
+use Rattle.plan_file.specs.Refusals.{refuse, fault, byNumber}
 use Rattle.working_order.specs.Journal.{Row}
 use Rattle.working_order.specs.Order.{Answer, broken}
-use Rattle.calls.specs.Replies.{answered, unless, unlessBy}
+use Rattle.calls.specs.Replies.{answered, unless, refused}
 use Rattle.calls.specs.ReplyLaws.{unless-answers, answered-same}
 use Rattle.calls.specs.Checking.{journalLimit, journalFault, orderOn, checkOf, journalAfter, shown}
 use Rattle.calls.specs.DemandThree.{Counts, WritesShown, Promises}
@@ -41,7 +41,7 @@ module _ (bs : List ℕ) (J B : ℕ) (a : Answer ℕ) (e : checkOf bs J B ≡ an
   pub from-order : (fault bs .number ≡ 0) × (journalFault J ≡ 0) × (a ≡ orderOn bs J B)
   unfolding checkOf
   from-order =
-      let p = unless-answers (fault bs) (unlessBy (journalFault J) (refuse (journalFault J) 0) (answered (orderOn bs J B))) a e in
+      let p = unless-answers (fault bs) (byNumber (journalFault J) (refused (refuse (journalFault J) 0)) (answered (orderOn bs J B))) a e in
       let q = unless-answers (refuse (journalFault J) 0) (answered (orderOn bs J B)) a (p .1) in
       (p .0, q .0, sym (answered-same (orderOn bs J B) a (q .1)))
 
@@ -59,8 +59,8 @@ module _ (bs : List ℕ) (J B : ℕ) (a : Answer ℕ) (e : checkOf bs J B ≡ an
         antichain = rw (o .2) (antichain bs v J B (s .0));
         writes-shown = shows v (o .1) (s .0) (o .2);
         stable = λ f g J′ B′ j l b.
-            ap (λ (x : ℕ). unlessBy x (fault bs) (unlessBy (journalFault J′) (refuse (journalFault J′) 0) (answered (orderOn bs J′ B′)))) v
-            ∙ ap (λ (x : ℕ). unlessBy x (refuse (journalFault J′) 0) (answered (orderOn bs J′ B′))) (size-journal J′ (omega (arith, s .0)) l)
+            ap (λ (x : ℕ). byNumber x (refused (fault bs)) (byNumber (journalFault J′) (refused (refuse (journalFault J′) 0)) (answered (orderOn bs J′ B′)))) v
+            ∙ ap (λ (x : ℕ). byNumber x (refused (refuse (journalFault J′) 0)) (answered (orderOn bs J′ B′))) (size-journal J′ (omega (arith, s .0)) l)
             ∙ ap answered (stable bs J B J′ B′ j b (λ x. f (ap (λ (y : Answer ℕ). y .verdict) (o .2) ∙ x)) (λ x. g (ap (λ (y : Answer ℕ). y .verdict) (o .2) ∙ x)) ∙ sym (o .2));
       }
     where

@@ -3,11 +3,11 @@ use mathlib.Core.Path.{_≡_, refl, sym, ap, _∙_}
 use mathlib.Core.List.{List}
 use Prim.Native.Nat.{ℕ, zero, suc}
 use native.Mathlib.Omega.{arith}
-use Rattle.plan_file.specs.Refusals.{Refusal, refuse, fault}
+use Rattle.plan_file.specs.Refusals.{Refusal, refuse, fault, byNumber}
 use Rattle.plan_file.specs.Answers.{refusalOf}
 use Rattle.plan_file.specs.declared.Refusal as declared
 use Rattle.calls.specs.Checking.{journalFault}
-use Rattle.calls.specs.Replies.{Reply, refused, unless, unlessBy}
+use Rattle.calls.specs.Replies.{Reply, refused, unless}
 use Rattle.requests.specs.Refusing.{firstRefusal, firstRefusalBy, refusalFor}
 
 module _ (r s : Refusal) where
@@ -31,14 +31,14 @@ module _ (r s : Refusal) where
   pub one-refusal : {A : Type 0} (a : Reply A) → unless r (unless s a) ≡ unless (firstRefusal r s) a
   one-refusal a = by (r .number) refl
     where
-      by : (k : ℕ) → r .number ≡ k → unlessBy k r (unless s a) ≡ unless (firstRefusalBy k r s) a
+      by : (k : ℕ) → r .number ≡ k → byNumber k (refused r) (unless s a) ≡ unless (firstRefusalBy k r s) a
       by zero e = refl
-      by (suc k) e = sym (ap (λ (n : ℕ). unlessBy n r a) e)
+      by (suc k) e = sym (ap (λ (n : ℕ). byNumber n (refused r) a) e)
 
 pub refused-by : {A : Type 0} (r : Refusal) (a : Reply A) → (r .number ≡ 0 → ⊥) → unless r a ≡ refused r
 refused-by r a z = by (r .number) z
   where
-    by : (k : ℕ) → (k ≡ 0 → ⊥) → unlessBy k r a ≡ refused r
+    by : (k : ℕ) → (k ≡ 0 → ⊥) → byNumber k (refused r) a ≡ refused r
     by zero z = absurd (z refl)
     by (suc k) z = refl
 

@@ -13,10 +13,10 @@ use Rattle.basics.specs.Tests.{and-fst, and-snd}
 use Rattle.basics.specs.Elements.{any}
 use Rattle.plan_file.specs.Limits.{recordLimit, terminals}
 use Rattle.plan_file.specs.Records.{recordCount, ruleKind, transitionKind, countOf}
-use Rattle.plan_file.specs.Refusals.{Refusal, refuse, orNext, firstHolding, recordTests, faultBy, faultAt, faultFrom, fault}
+use Rattle.plan_file.specs.Refusals.{Refusal, refuse, orNext, firstHolding, recordTests, faultBy, faultAt, faultFrom, fault, byNumber}
 use Rattle.calls.specs.Checking.{journalLimit, journalFault, checkOf}
 use Rattle.calls.specs.Judging.{wordLimit, wordFault, judgeOf}
-use Rattle.calls.specs.Replies.{Reply, refused, answered, unless, unlessBy}
+use Rattle.calls.specs.Replies.{Reply, refused, answered, unless}
 use Rattle.telling.specs.Codes.{firstAnswerCode}
 
 -- ---- a file
@@ -102,7 +102,7 @@ module _ {A : Type 0} where
   unless-low : (x : Refusal) (y : Reply A) → Low x → LowIn y → LowIn (unless x y)
   unless-low x y l m = by (x .number)
     where
-      by : (f : ℕ) → LowIn (unlessBy f x y)
+      by : (f : ℕ) → LowIn (byNumber f (refused x) y)
       by zero = m
       by (suc f) = l
 

@@ -10,7 +10,7 @@ use lib.ListN.{length, take, drop}
 use borrow.Author.Tests.{leb-true, lt-ltb, le-ltb}
 use Rattle.language.specs.Grammar.{Rule}
 use Rattle.plan_file.specs.Refusals as refusals
-use Rattle.plan_file.specs.Refusals.{refuse, fault}
+use Rattle.plan_file.specs.Refusals.{refuse, fault, byNumber}
 use Rattle.plan_file.specs.Views.{rulesOf}
 use Rattle.plan_file.specs.Answers.{refusalOf}
 use Rattle.plan_file.specs.declared.Refusal.{Refusal}
@@ -19,7 +19,7 @@ use Rattle.working_order.specs.Behind.{wordBehind}
 use Rattle.working_order.specs.Fitting.{rowsFit}
 use Rattle.calls.specs.Base.{words}
 use Rattle.calls.specs.Checking.{journalFault}
-use Rattle.calls.specs.Replies.{answered, unless, unlessBy}
+use Rattle.calls.specs.Replies.{answered, unless, refused}
 use Rattle.calls.specs.Rows.{entryOf}
 use Rattle.calls.specs.Writing.{rowFault, roomFault, wordOf, writeOf, writtenBy, bufferAfter, WordMeans}
 use Rattle.calls.specs.WritingTruth.{write-means}
@@ -207,11 +207,11 @@ writes bs rows used i table a h f fits len old new n w =
         let word : wordBehind words (map entryOf (take (a .rules) table)) rows i ≡ wordBehind words (rulesOf bs) rows i = ap (λ (xs : List Rule). wordBehind words xs rows i) (q .rules-are) in
         let count : n ≡ length (wordBehind words (rulesOf bs) rows i) = w .count ∙ ap length word in
         let back : answered (length (wordBehind words (rulesOf bs) rows i)) ≡ unless (refusalOf (refusalBy a f (length old))) (answered (length (wordBehind words (rulesOf bs) rows i))) =
-        sym (ap (λ (k : ℕ). unlessBy k (refusalOf (refusalBy a f (length old))) (answered (length (wordBehind words (rulesOf bs) rows i)))) e)
+        sym (ap (λ (k : ℕ). byNumber k (refused (refusalOf (refusalBy a f (length old)))) (answered (length (wordBehind words (rulesOf bs) rows i)))) e)
         in (
           ap answered count ∙ back,
           w .bytes ∙ ap₂ (λ (u : List ℕ) (m : ℕ). u ++ drop m old) word count ∙ ap (writtenBy (wordBehind words (rulesOf bs) rows i) old) back,
         )
     by (suc k) e w =
-        let back = sym (ap (λ (k : ℕ). unlessBy k (refusalOf (refusalBy a f (length old))) (answered (length (wordBehind words (rulesOf bs) rows i)))) e) in
+        let back = sym (ap (λ (k : ℕ). byNumber k (refused (refusalOf (refusalBy a f (length old)))) (answered (length (wordBehind words (rulesOf bs) rows i)))) e) in
         (back, w .bytes ∙ ap (λ (m : ℕ). drop m old) (w .count) ∙ ap (writtenBy (wordBehind words (rulesOf bs) rows i) old) back)

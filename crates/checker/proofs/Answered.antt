@@ -17,6 +17,8 @@ use Rattle.working_order.specs.Order as order
 use Rattle.working_order.specs.Journal.{Row}
 use Rattle.calls.specs.Checking.{journalFault, orderOn, checkOf, keptBy, journalAfter}
 use Rattle.calls.specs.Promising.{promises}
+use Rattle.calls.specs.ReplyLaws.{one-refusal}
+use Rattle.plan_file.specs.RefusalLaws.{number-some}
 use Rattle.calls.specs.Replies.{Reply, refused, answered, unless}
 use Rattle.calls.specs.Rows.{rowOf}
 use Rattle.covers.specs.Rows.{Journal, firstRows}
@@ -36,7 +38,7 @@ use Rattle.checker.specs.Contracts.{Checks}
 use Rattle.checker.specs.OrderLaws.{order-same}
 use Rattle.requests.specs.Refusing.{refusalFor}
 use Rattle.starting.specs.Starting.{Starts}
-use Rattle.requests.proofs.Refusals.{one-refusal, refused-by, none-refused}
+use Rattle.requests.proofs.Refusals.{none-refused}
 
 -- ---- what an answer says of the journal
 
@@ -101,7 +103,7 @@ module _ (bs : List ℕ) (B : ℕ) (old : Journal) where
       refuses =
           subst (λ (j : Journal). Checks bs B old j (checked.Refused (r .refusal))) (sym same)
           (checks (refused (refusalFor bs (length old)))
-          (reply ∙ refused-by (refusalFor bs (length old)) (answered (orderOn bs (length old) B)) (λ q. z (ap (λ (x : refusals.Refusal). x .number) (h .refusal) ∙ q)))
+          (reply ∙ number-some (refused (refusalFor bs (length old))) (answered (orderOn bs (length old) B)) (refusalFor bs (length old) .number) (λ q. z (ap (λ (x : refusals.Refusal). x .number) (h .refusal) ∙ q)))
           old (checked.Refused (r .refusal)) (ap refused (h .refusal)) refl refl)
 
     -- ---- nothing refused

@@ -7,6 +7,8 @@ use native.Mathlib.Omega.{arith}
 use lib.Dec.{ltb}
 use borrow.Author.Tests.{ltb-true}
 use Rattle.basics.specs.Tests.{and-fst, and-snd}
+use Rattle.plan_file.specs.declared.Refusal.{Refusal as RefusalAnswer}
+use Rattle.plan_file.specs.Answers.{refusalOf}
 use Rattle.plan_file.specs.Refusals.{Refusal, refuse, byNumber, orNext, firstOf, firstHolding}
 
 -- ---- by a number
@@ -19,11 +21,16 @@ module _ {A : Type 0} (x y : A) where
   pub number-none : (k : ℕ) → k ≡ 0 → byNumber k x y ≡ y
   number-none k e = ap (λ (n : ℕ). byNumber n x y) e
 
+-- what the code says of the first of two is what the definition says
+pub said-first : (k : ℕ) (x y : RefusalAnswer) → refusalOf (byNumber k x y) ≡ byNumber k (refusalOf x) (refusalOf y)
+said-first zero x y = refl
+said-first (suc k) x y = refl
+
 -- ---- two refusals, and a list of them
 
 module _ (r s : Refusal) where
-  pub neither : orNext r s .number ≡ 0 → (r .number ≡ 0) × (s .number ≡ 0)
-  neither q = by (r .number) refl q
+  pub neither-refuses : orNext r s .number ≡ 0 → (r .number ≡ 0) × (s .number ≡ 0)
+  neither-refuses q = by (r .number) refl q
     where
       by : (k : ℕ) → r .number ≡ k → byNumber k r s .number ≡ 0 → (r .number ≡ 0) × (s .number ≡ 0)
       by zero e q = (e, q)

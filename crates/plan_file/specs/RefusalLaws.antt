@@ -1,5 +1,5 @@
 -- The first refusal wins: its laws, for two and for a list; and the tests of a record one by one. Assumes nothing.
-use mathlib.Core.Path.{_≡_, refl, sym, ap, _∙_}
+use mathlib.Core.Path.{_≡_, refl, sym, ap, ap₂, _∙_}
 use mathlib.Core.Bool.{Bool, true, false, _&&_, cond}
 use mathlib.Core.List.{List, [], _∷_, _++_}
 use Prim.Native.Nat.{ℕ, zero, suc}
@@ -21,11 +21,6 @@ module _ {A : Type 0} (x y : A) where
   pub number-none : (k : ℕ) → k ≡ 0 → byNumber k x y ≡ y
   number-none k e = ap (λ (n : ℕ). byNumber n x y) e
 
--- what the code says of the first of two is what the definition says
-pub said-first : (k : ℕ) (x y : RefusalAnswer) → refusalOf (byNumber k x y) ≡ byNumber k (refusalOf x) (refusalOf y)
-said-first zero x y = refl
-said-first (suc k) x y = refl
-
 -- ---- two refusals, and a list of them
 
 module _ (r s : Refusal) where
@@ -42,6 +37,14 @@ module _ (r s : Refusal) where
       by : (k : ℕ) → r .number ≡ k → orNext (byNumber k r s) t ≡ byNumber k r (orNext s t)
       by zero e = refl
       by (suc k) e = ap (λ (n : ℕ). byNumber n r t) e
+
+-- the code's refusal r, the first of x and y, is the first of what these say
+pub said-or : (r x y : RefusalAnswer) {a b : Refusal} → r ≡ byNumber (x .number) x y → refusalOf x ≡ a → refusalOf y ≡ b → refusalOf r ≡ orNext a b
+said-or r x y e p q = ap refusalOf e ∙ by (x .number) ∙ ap₂ orNext p q
+  where
+    by : (k : ℕ) → refusalOf (byNumber k x y) ≡ byNumber k (refusalOf x) (refusalOf y)
+    by zero = refl
+    by (suc k) = refl
 
 -- the first of two lists, one after the other, is the first of the one, and else of the other
 pub first-append : (rs ss : List Refusal) → firstOf (rs ++ ss) ≡ orNext (firstOf rs) (firstOf ss)

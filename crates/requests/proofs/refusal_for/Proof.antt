@@ -3,14 +3,13 @@ use mathlib.Core.Path.{ap}
 use Prim.Native.Nat.{ℕ}
 use borrow.Author.Needs.{needs}
 use Rattle.plan_file.specs.Refusals.{refuse}
-use Rattle.requests.proofs.Refusals.{file-then-journal}
+use Rattle.plan_file.specs.RefusalLaws.{said-or}
 use Rattle.requests.proofs.refusal_for.Statement.{statement}
 use Rattle.requests.proofs.refusal_for.Tie as tie
 
 returns : tie.Need-returns
 returns c =
-    let a = c .before .before .before .before .args in
-    file-then-journal (a .file .now) (a .rows) _ _ _ (c .or .ensures) (c .before .before .file-refusal .ensures) (ap (λ (k : ℕ). refuse k 0) (c .before .journal-fault .ensures))
+    said-or _ _ _ (c .or .ensures) (c .before .before .file-refusal .ensures) (ap (λ (k : ℕ). refuse k 0) (c .before .journal-fault .ensures))
 
 pub refusal-for-spec : {M : Type 1} → statement M
 refusal-for-spec = tie.close (tie.spec (λ c κs. search needs) (λ c κs. search needs) (λ c κs. search needs) returns)

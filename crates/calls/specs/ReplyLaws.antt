@@ -1,6 +1,6 @@
 -- A call that answers was not refused; and its refusals are one, the first of them. Assumes nothing.
 use mathlib.Core.Path.{_≡_, refl, sym, ap, _∙_}
-use mathlib.Core.List.{List, [], _∷_, _++_}
+use mathlib.Core.List.{List, [], _∷_}
 use Prim.Native.Nat.{ℕ, zero, suc}
 use native.Mathlib.Omega.{arith}
 use Rattle.plan_file.specs.Refusals.{Refusal, byNumber, orNext, firstOf}

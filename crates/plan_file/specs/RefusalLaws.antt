@@ -9,7 +9,7 @@ use borrow.Author.Tests.{ltb-true}
 use Rattle.basics.specs.Tests.{and-fst, and-snd}
 use Rattle.plan_file.specs.declared.Refusal.{Refusal as RefusalAnswer}
 use Rattle.plan_file.specs.Answers.{refusalOf}
-use Rattle.plan_file.specs.Refusals.{Refusal, refuse, byNumber, orNext, firstOf, firstHolding}
+use Rattle.plan_file.specs.Refusals.{Refusal, byNumber, orNext, firstOf, firstHolding}
 
 -- ---- by a number
 

@@ -2,7 +2,7 @@
 use mathlib.Core.Path.{_≡_, refl, sym, ap, _∙_, subst}
 use mathlib.Core.Bool.{Bool, true, false, _||_, cond}
 use mathlib.Core.List.{List}
-use Prim.Native.Nat.{ℕ, zero, suc, _+_, _≤_, _<_}
+use Prim.Native.Nat.{ℕ, suc, _+_, _≤_, _<_}
 use native.Mathlib.Numerals.{add-one}
 use native.Mathlib.Omega.{arith}
 use lib.Dec.{leb, ltb}
@@ -13,9 +13,11 @@ use Rattle.basics.specs.Tests.{or-left, or-neither}
 use Rattle.relation.specs.Relation.{states}
 use Rattle.language.specs.WordRelation.{rejected}
 use Rattle.plan_file.specs.Limits.{terminals}
-use Rattle.plan_file.specs.Refusals.{Refusal, refuse, fault}
+use Rattle.plan_file.specs.Refusals.{Refusal, refuse, orNext, fault}
+use Rattle.plan_file.specs.RefusalLaws.{number-some, number-none, neither-refuses}
 use Rattle.plan_file.specs.Views.{automatonOf}
-use Rattle.calls.specs.Replies.{Reply, refused, answered, unless, unlessBy}
+use Rattle.calls.specs.Replies.{Reply, refused, answered, unless}
+use Rattle.calls.specs.ReplyLaws.{one-refusal}
 use Rattle.calls.specs.Judging.{Judgement, judgementBy, wordLimit, wordFault, judgeOf, Means}
 use Rattle.calls.specs.JudgingTruth.{judge-means}
 use Rattle.acceptance.specs.declared.Judged.{Judged}
@@ -26,42 +28,26 @@ use Rattle.acceptance.specs.Answers.{judgedOf, Judging}
 pub judged : (bs w : List ℕ) (r : Judged) → judgedOf r ≡ judgeOf bs w → Judging bs w r
 judged bs w r e = record { answer = e; meaning = subst (Means bs w) (sym e) (judge-means bs w) }
 
--- ---- a refusal comes first where it has a number
-
-module _ {A : Type 0} (x : Refusal) (a : Reply A) where
-  unless-refused : (x .number ≡ 0 → ⊥) → refused x ≡ unless x a
-  unless-refused h = by (x .number) h
-    where
-      by : (f : ℕ) → (f ≡ 0 → ⊥) → refused x ≡ unlessBy f x a
-      by zero h = absurd (h refl)
-      by (suc f) h = refl
-
-  unless-none : x .number ≡ 0 → a ≡ unless x a
-  unless-none e = sym (ap (λ (f : ℕ). unlessBy f x a) e)
+-- ---- the refusal of the call
 
 -- the judgement, where nothing is refused
 abbrev judgement : List ℕ → List ℕ → Reply Judgement
 judgement bs w = answered (judgementBy (rejected states (automatonOf bs) w))
 
--- number 11, and then the judgement
-abbrev afterFile : List ℕ → List ℕ → Reply Judgement
-afterFile bs w = unless (refuse (wordFault w) 0) (judgement bs w)
-
 module _ (bs w : List ℕ) where
-  pub file-refused : (fault bs .number ≡ 0 → ⊥) → refused (fault bs) ≡ judgeOf bs w
+  -- the file's, then 11
+  abbrev pub refusal : Refusal
+  refusal = orNext (fault bs) (refuse (wordFault w) 0)
+
+  by-refusal : judgeOf bs w ≡ unless refusal (judgement bs w)
   unfolding judgeOf
-  file-refused h = unless-refused (fault bs) (afterFile bs w) h
+  by-refusal = one-refusal (fault bs) (refuse (wordFault w) 0) (judgement bs w)
 
-  module _ (v : fault bs .number ≡ 0) where
-    rest : afterFile bs w ≡ judgeOf bs w
-    unfolding judgeOf
-    rest = unless-none (fault bs) (afterFile bs w) v
+  pub judge-refused : (refusal .number ≡ 0 → ⊥) → refused refusal ≡ judgeOf bs w
+  judge-refused h = sym (by-refusal ∙ number-some (refused refusal) (judgement bs w) (refusal .number) h)
 
-    pub word-refused : (wordFault w ≡ 0 → ⊥) → refused (refuse (wordFault w) 0) ≡ judgeOf bs w
-    word-refused h = unless-refused (refuse (wordFault w) 0) (judgement bs w) h ∙ rest
-
-    pub word-judged : wordFault w ≡ 0 → judgement bs w ≡ judgeOf bs w
-    word-judged e = unless-none (refuse (wordFault w) 0) (judgement bs w) e ∙ rest
+  pub word-judged : refusal .number ≡ 0 → judgement bs w ≡ judgeOf bs w
+  word-judged e = sym (by-refusal ∙ number-none (refused refusal) (judgement bs w) (refusal .number) e)
 
 -- ---- 11
 
@@ -96,10 +82,14 @@ module _ (w : List ℕ) where
       ∙ first i l f
 
   -- a word that is not refused has terminals alone
-  pub terminals-alone : wordFault w ≡ 0 → strays w ≡ false
+  terminals-alone : wordFault w ≡ 0 → strays w ≡ false
   unfolding wordFault
   terminals-alone e = by (ltb wordLimit (length w) || strays w) refl e
     where
       by : (b : Bool) → (ltb wordLimit (length w) || strays w) ≡ b → _≡_ {A = ℕ} (cond b 11 0) 0 → strays w ≡ false
       by true p q = absurd (let z : ⊥ = omega arith in z)
       by false p q = or-neither (ltb wordLimit (length w)) (strays w) p .1
+
+-- nor has one where nothing refuses the call
+pub judged-alone : (bs w : List ℕ) → refusal bs w .number ≡ 0 → strays w ≡ false
+judged-alone bs w e = terminals-alone w (neither-refuses (fault bs) (refuse (wordFault w) 0) e .1)

@@ -72,13 +72,14 @@ fn turns_away(file: &[u8], word: &[u8]) -> bool
 pub fn judge(file: &[u8], word: &[u8]) -> Judged
     ensures { λ r. ⌜ Judging (now (file .entry)) (now (word .entry)) r ⌝ }
 {
-    let refusal = walk::file_refusal(file);
+    let of_file = walk::file_refusal(file);
+    let of_word = Refusal {
+        number: word_fault(word),
+        place: 0,
+    };
+    let refusal = of_file.or(of_word);
     if refusal.number != 0 {
         return Judged::Refused(refusal);
-    }
-    let number = word_fault(word);
-    if number != 0 {
-        return Judged::Refused(Refusal { number, place: 0 });
     }
     if turns_away(file, word) {
         return Judged::TurnedAway;

@@ -10,12 +10,12 @@ use native.Mathlib.Omega.{arith}
 use lib.Dec.{eqb, ltb}
 use lib.ListN.{length, getD, drop, length-replicate, List·getD-append}
 use borrow.Author.Tests.{eqb-true, ltb-true, ne-eqb, eq-eqb, lt-ltb}
-use Rattle.plan_file.specs.Refusals.{Refusal, refuse, fault}
+use Rattle.plan_file.specs.Refusals.{Refusal, refuse, fault, byNumber}
 use Rattle.working_order.specs.Journal.{Row}
 use Rattle.working_order.specs.Order.{Answer, Verdict, holds, broken, full, spent}
 use Rattle.calls.specs.Checking.{journalLimit, journalFault, orderOn, checkOf, keptBy, journalAfter, shown}
 use Rattle.calls.specs.Promising.{promises, broken-word, broken-writes}
-use Rattle.calls.specs.Replies.{Reply, refused, answered, unless, unlessBy}
+use Rattle.calls.specs.Replies.{Reply, refused, answered, unless}
 use Rattle.calls.specs.Writing.{roomFault, writeOf, writtenBy, bufferAfter}
 use Rattle.telling.specs.Codes.{firstAnswerCode, holdsCode, brokenCode, fullCode, verdictCode, codeBy}
 use Rattle.standalone.specs.Told.{zeroRow, answerCode, rowIn, lastThree, detailsOf, shownBy, shownOf}
@@ -113,22 +113,22 @@ module _ {A : Type 0} (x : Refusal) (g : ℕ) (a : A) where
   pub why : (y : Refusal) → unless x (unless (refuse g 0) (answered a)) ≡ refused y → Why x g y
   why y e = by (x .number) refl e
     where
-      next : (n : ℕ) → g ≡ n → x .number ≡ 0 → unlessBy n (refuse g 0) (answered a) ≡ refused y → Why x g y
+      next : (n : ℕ) → g ≡ n → x .number ≡ 0 → byNumber n (refused (refuse g 0)) (answered a) ≡ refused y → Why x g y
       next zero p z q = absurd (answered-refused a y q)
       next (suc n) p z q = inr (z, (λ k. suc-ne-zero n (sym p ∙ k), refused-same (refuse g 0) y q))
 
-      by : (n : ℕ) → x .number ≡ n → unlessBy n x (unless (refuse g 0) (answered a)) ≡ refused y → Why x g y
+      by : (n : ℕ) → x .number ≡ n → byNumber n (refused x) (unless (refuse g 0) (answered a)) ≡ refused y → Why x g y
       by zero p q = next g refl p q
       by (suc n) p q = inl (λ z. suc-ne-zero n (sym p ∙ z), refused-same x y q)
 
   pub why-not : (b : A) → unless x (unless (refuse g 0) (answered a)) ≡ answered b → (x .number ≡ 0) × (g ≡ 0)
   why-not b e = by (x .number) refl e
     where
-      next : (n : ℕ) → g ≡ n → x .number ≡ 0 → unlessBy n (refuse g 0) (answered a) ≡ answered b → (x .number ≡ 0) × (g ≡ 0)
+      next : (n : ℕ) → g ≡ n → x .number ≡ 0 → byNumber n (refused (refuse g 0)) (answered a) ≡ answered b → (x .number ≡ 0) × (g ≡ 0)
       next zero p z q = (z, p)
       next (suc n) p z q = absurd (answered-refused b (refuse g 0) (sym q))
 
-      by : (n : ℕ) → x .number ≡ n → unlessBy n x (unless (refuse g 0) (answered a)) ≡ answered b → (x .number ≡ 0) × (g ≡ 0)
+      by : (n : ℕ) → x .number ≡ n → byNumber n (refused x) (unless (refuse g 0) (answered a)) ≡ answered b → (x .number ≡ 0) × (g ≡ 0)
       by zero p q = next g refl p q
       by (suc n) p q = absurd (answered-refused b x (sym q))
 

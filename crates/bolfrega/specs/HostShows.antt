@@ -15,7 +15,7 @@ use Rattle.relation.specs.Relation.{states, pairs}
 use Rattle.language.specs.Grammar.{initial}
 use Rattle.language.specs.Spelling.{DerivesWithin}
 use Rattle.language.specs.WordRelation.{wordRelation}
-use Rattle.plan_file.specs.Refusals.{refuse}
+use Rattle.plan_file.specs.Refusals.{refuse, byNumber}
 use Rattle.plan_file.specs.Views.{rulesOf, productionsOf, automatonOf}
 use Rattle.working_order.specs.Behind.{wordBehind}
 use Rattle.working_order.specs.Journal.{Row, noRow, capped}
@@ -25,7 +25,7 @@ use Rattle.calls.specs.Checking.{checkOf, shown}
 use Rattle.calls.specs.DemandThree.{Promises}
 use Rattle.calls.specs.JournalTruth.{row-true}
 use Rattle.calls.specs.Promising.{from-order}
-use Rattle.calls.specs.Replies.{answered, unless, unlessBy}
+use Rattle.calls.specs.Replies.{answered, unless, refused}
 use Rattle.calls.specs.Writing.{longWord, roomFault, wordOf, writtenBy}
 use Rattle.calls.specs.WritingTruth.{room-cases}
 use Rattle.telling.specs.Telling.{refusedBy}
@@ -80,8 +80,8 @@ module _ (bs : List ℕ) (J B : ℕ) (a : Answer ℕ) (reply : checkOf bs J B �
     refusal-told : toldRefused d ≡ roomFault run room
     refusal-told = ap toldRefused details-are ∙ refused-told (roomFault run room) (length run)
 
-    buffer-by : (f : ℕ) → roomFault run room ≡ f → new ≡ writtenBy run old (unlessBy f (refuse f 0) (answered (length run)))
-    buffer-by f e = buffer-is ∙ ap (λ (x : ℕ). writtenBy run old (unlessBy x (refuse x 0) (answered (length run)))) e
+    buffer-by : (f : ℕ) → roomFault run room ≡ f → new ≡ writtenBy run old (byNumber f (refused (refuse f 0)) (answered (length run)))
+    buffer-by f e = buffer-is ∙ ap (λ (x : ℕ). writtenBy run old (byNumber x (refused (refuse x 0)) (answered (length run)))) e
 
     in-buffer : InBuffer bs J B d old new r run
     unfolding capped

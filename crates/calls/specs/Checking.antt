@@ -1,7 +1,7 @@
 -- What the inclusion check answers on a file, and what the lent journal holds afterwards (document 01, "Working order").
 -- Definitions only. Assumes nothing.
 use mathlib.Core.Bool.{_||_, cond}
-use mathlib.Core.List.{List, _++_}
+use mathlib.Core.List.{List, [], _∷_, _++_}
 use Prim.Native.Nat.{ℕ}
 use lib.Dec.{eqb, ltb}
 use lib.ListN.{length, drop}
@@ -12,7 +12,7 @@ use Rattle.working_order.specs.Journal.{Row}
 use Rattle.working_order.specs.Order.{Answer, check}
 use Rattle.working_order.specs.Behind.{wordBehind}
 use Rattle.calls.specs.Base.{base, words}
-use Rattle.calls.specs.Replies.{Reply, refused, answered, unless}
+use Rattle.calls.specs.Replies.{Reply, refused, answered, reply}
 
 -- rows of a journal at most
 abbrev pub journalLimit : ℕ
@@ -28,7 +28,7 @@ orderOn bs J B = check (base states (automatonOf bs)) (rulesOf bs) J B
 
 -- the file's refusal, then 8, then the answer
 unfoldable pub checkOf : List ℕ → ℕ → ℕ → Reply (Answer ℕ)
-checkOf bs J B = let a = orderOn bs J B in unless (fault bs) (unless (refuse (journalFault J) 0) (answered a))
+checkOf bs J B = let a = orderOn bs J B in reply (fault bs ∷ refuse (journalFault J) 0 ∷ []) a
 
 -- the used rows, and then the old contents; the old contents whole on a refusal
 abbrev pub keptBy : List (Row ℕ) → Reply (Answer ℕ) → List (Row ℕ)

@@ -1,6 +1,6 @@
 -- What judging a word answers on a file (document 01: a run is accepted or turned away). Definitions only. Assumes nothing.
 use mathlib.Core.Bool.{Bool, true, false, _||_, cond}
-use mathlib.Core.List.{List}
+use mathlib.Core.List.{List, [], _∷_}
 use Prim.Native.Nat.{ℕ}
 use lib.Dec.{leb, ltb}
 use lib.ListN.{length}
@@ -11,7 +11,7 @@ use Rattle.language.specs.WordRelation.{rejected}
 use Rattle.plan_file.specs.Limits.{terminals}
 use Rattle.plan_file.specs.Refusals.{refuse, fault}
 use Rattle.plan_file.specs.Views.{automatonOf}
-use Rattle.calls.specs.Replies.{Reply, refused, answered, unless}
+use Rattle.calls.specs.Replies.{Reply, refused, answered, reply}
 
 pub data Judgement : Type 0 where
   accepted turnedAway : Judgement
@@ -30,7 +30,7 @@ judgementBy false = accepted
 
 -- the file's refusal, then 11, then the judgement
 unfoldable pub judgeOf : List ℕ → List ℕ → Reply Judgement
-judgeOf bs w = let j = judgementBy (rejected states (automatonOf bs) w) in unless (fault bs) (unless (refuse (wordFault w) 0) (answered j))
+judgeOf bs w = let j = judgementBy (rejected states (automatonOf bs) w) in reply (fault bs ∷ refuse (wordFault w) 0 ∷ []) j
 
 -- what an answer means: accepted that a path leads from state 0 to a final state on the word, turned away that none does
 abbrev pub Means : List ℕ → List ℕ → Reply Judgement → Type 0

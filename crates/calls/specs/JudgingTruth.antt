@@ -6,10 +6,10 @@ use Prim.Native.Nat.{ℕ, zero, suc}
 use Rattle.relation.specs.Relation.{states}
 use Rattle.language.specs.WordRelation.{rejected}
 use Rattle.language.specs.Paths.{turns-away, accepts}
-use Rattle.plan_file.specs.Refusals.{fault}
+use Rattle.plan_file.specs.Refusals.{fault, byNumber}
 use Rattle.plan_file.specs.Views.{automatonOf}
 use Rattle.plan_file.specs.Valid.{automaton-within}
-use Rattle.calls.specs.Replies.{answered, unlessBy}
+use Rattle.calls.specs.Replies.{answered, refused}
 use Rattle.calls.specs.Judging.{wordFault, judgementBy, judgeOf, Means}
 
 pub judge-means : (bs w : List ℕ) → Means bs w (judgeOf bs w)
@@ -20,11 +20,11 @@ judge-means bs w = by (fault bs .number) refl
     last true v e = turns-away states (automatonOf bs) (automaton-within bs v) w e
     last false v e = accepts states (automatonOf bs) (automaton-within bs v) w e
 
-    next : (f : ℕ) → fault bs .number ≡ 0 → Means bs w (unlessBy f (record { number = f; place = 0 }) (answered (judgementBy (rejected states (automatonOf bs) w))))
+    next : (f : ℕ) → fault bs .number ≡ 0 → Means bs w (byNumber f (refused (record { number = f; place = 0 })) (answered (judgementBy (rejected states (automatonOf bs) w))))
     next zero v = last (rejected states (automatonOf bs) w) v refl
     next (suc f) v = tt
 
     by : (f : ℕ) → fault bs .number ≡ f
-        → Means bs w (unlessBy f (fault bs) (unlessBy (wordFault w) (record { number = wordFault w; place = 0 }) (answered (judgementBy (rejected states (automatonOf bs) w)))))
+        → Means bs w (byNumber f (refused (fault bs)) (byNumber (wordFault w) (refused (record { number = wordFault w; place = 0 })) (answered (judgementBy (rejected states (automatonOf bs) w)))))
     by zero v = next (wordFault w) v
     by (suc f) v = tt

@@ -1,7 +1,7 @@
 -- A check that answers keeps its promises. Assumes nothing.
 use mathlib.Core.Path.{_≡_, refl, sym, ap, _∙_, subst}
 use mathlib.Core.Bool.{Bool, true, false, _||_, cond}
-use mathlib.Core.List.{List}
+use mathlib.Core.List.{List, [], _∷_}
 use Prim.Native.Nat.{ℕ, _≤_}
 use native.Mathlib.Nat.{suc-ne-zero}
 use native.Mathlib.Omega.{arith}
@@ -12,8 +12,8 @@ use Rattle.basics.specs.Tests.{or-neither}
 use Rattle.plan_file.specs.Refusals.{refuse, fault}
 use Rattle.working_order.specs.Journal.{Row}
 use Rattle.working_order.specs.Order.{Answer, broken}
-use Rattle.calls.specs.Replies.{answered, unless, unlessBy}
-use Rattle.calls.specs.ReplyLaws.{unless-answers, answered-same}
+use Rattle.calls.specs.Replies.{answered, unless}
+use Rattle.calls.specs.ReplyLaws.{reply-answers, reply-none}
 use Rattle.calls.specs.Checking.{journalLimit, journalFault, orderOn, checkOf, journalAfter, shown}
 use Rattle.calls.specs.DemandThree.{Counts, WritesShown, Promises}
 use Rattle.calls.specs.Truth.{one-verdict, counted, least-height, rows-mean, antichain, stable}
@@ -41,9 +41,8 @@ module _ (bs : List ℕ) (J B : ℕ) (a : Answer ℕ) (e : checkOf bs J B ≡ an
   pub from-order : (fault bs .number ≡ 0) × (journalFault J ≡ 0) × (a ≡ orderOn bs J B)
   unfolding checkOf
   from-order =
-      let p = unless-answers (fault bs) (unlessBy (journalFault J) (refuse (journalFault J) 0) (answered (orderOn bs J B))) a e in
-      let q = unless-answers (refuse (journalFault J) 0) (answered (orderOn bs J B)) a (p .1) in
-      (p .0, q .0, sym (answered-same (orderOn bs J B) a (q .1)))
+      let p = reply-answers (fault bs ∷ refuse (journalFault J) 0 ∷ []) (orderOn bs J B) a e in
+      (p .0 .0, p .0 .1 .0, sym (p .1))
 
   pub promises : Promises bs J B a
   unfolding checkOf
@@ -59,8 +58,7 @@ module _ (bs : List ℕ) (J B : ℕ) (a : Answer ℕ) (e : checkOf bs J B ≡ an
         antichain = rw (o .2) (antichain bs v J B (s .0));
         writes-shown = shows v (o .1) (s .0) (o .2);
         stable = λ f g J′ B′ j l b.
-            ap (λ (x : ℕ). unlessBy x (fault bs) (unlessBy (journalFault J′) (refuse (journalFault J′) 0) (answered (orderOn bs J′ B′)))) v
-            ∙ ap (λ (x : ℕ). unlessBy x (refuse (journalFault J′) 0) (answered (orderOn bs J′ B′))) (size-journal J′ (omega (arith, s .0)) l)
+            reply-none (fault bs ∷ refuse (journalFault J′) 0 ∷ []) (orderOn bs J′ B′) (v, (size-journal J′ (omega (arith, s .0)) l, tt))
             ∙ ap answered (stable bs J B J′ B′ j b (λ x. f (ap (λ (y : Answer ℕ). y .verdict) (o .2) ∙ x)) (λ x. g (ap (λ (y : Answer ℕ). y .verdict) (o .2) ∙ x)) ∙ sym (o .2));
       }
     where

@@ -1,16 +1,17 @@
 -- A call answers or refuses (document 01, "Numbers a call may refuse with"). Definitions only. Assumes nothing.
-use Prim.Native.Nat.{ℕ, zero, suc}
-use Rattle.plan_file.specs.Refusals.{Refusal}
+use mathlib.Core.List.{List, [], _∷_}
+use Rattle.plan_file.specs.Refusals.{Refusal, byNumber}
 
 pub data Reply (A : Type 0) : Type 0 where
   refused : Refusal → Reply A
   answered : A → Reply A
 
 module _ {A : Type 0} where
-  abbrev pub unlessBy : ℕ → Refusal → Reply A → Reply A
-  unlessBy zero r a = a
-  unlessBy (suc f) r a = refused r
-
   -- the refusal, where it has a number, and else what comes after it
   abbrev pub unless : Refusal → Reply A → Reply A
-  unless r a = unlessBy (r .number) r a
+  unless r a = byNumber (r .number) (refused r) a
+
+  -- the first of the refusals that has a number, and else the answer
+  abbrev pub reply : List Refusal → A → Reply A
+  reply [] a = answered a
+  reply (r ∷ rs) a = unless r (reply rs a)

@@ -1,7 +1,7 @@
 -- What writing the word behind a journal row answers, and what the lent buffer holds afterwards (document 01, "Writing a run").
 -- Definitions only. Assumes nothing.
 use mathlib.Core.Bool.{not, _||_, cond}
-use mathlib.Core.List.{List, _++_}
+use mathlib.Core.List.{List, [], _∷_, _++_}
 use Prim.Native.Nat.{ℕ, _+_}
 use lib.Dec.{leb, ltb}
 use lib.ListN.{length, getD, take, drop}
@@ -16,7 +16,7 @@ use Rattle.working_order.specs.Behind.{wordBehind}
 use Rattle.working_order.specs.Fitting.{rowsFit}
 use Rattle.calls.specs.Base.{base, words}
 use Rattle.calls.specs.Checking.{journalFault}
-use Rattle.calls.specs.Replies.{Reply, refused, answered, unless}
+use Rattle.calls.specs.Replies.{Reply, refused, answered, reply}
 
 -- a word of so many steps is not written
 abbrev pub longWord : ℕ
@@ -41,10 +41,13 @@ wordOf bs rows i = wordBehind words (rulesOf bs) rows i
 unfoldable pub writeOf : List ℕ → List (Row ℕ) → ℕ → ℕ → ℕ → Reply ℕ
 writeOf bs rows used i room =
     let w = wordOf bs rows i in
-    unless (fault bs)
-    (unless (refuse (journalFault (length rows)) 0)
-    (unless (refuse (rowFault (base states (automatonOf bs) .forms) (rulesOf bs) rows used i) 0)
-    (unless (refuse (roomFault w room) 0) (answered (length w)))))
+    reply
+    (fault bs
+    ∷ refuse (journalFault (length rows)) 0
+    ∷ refuse (rowFault (base states (automatonOf bs) .forms) (rulesOf bs) rows used i) 0
+    ∷ refuse (roomFault w room) 0
+    ∷ [])
+    (length w)
 
 -- the word, and then the old bytes; the old bytes whole on a refusal
 abbrev pub writtenBy : List ℕ → List ℕ → Reply ℕ → List ℕ

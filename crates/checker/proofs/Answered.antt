@@ -11,13 +11,15 @@ use Rattle.relation.specs.Digits.{number}
 use Rattle.relation.specs.Relation.{states}
 use Rattle.language.specs.WordRelation.{isFinal}
 use Rattle.plan_file.specs.Refusals as refusals
-use Rattle.plan_file.specs.Refusals.{refuse, fault}
+use Rattle.plan_file.specs.Refusals.{refuse, fault, byNumber}
 use Rattle.plan_file.specs.Views.{automatonOf}
 use Rattle.working_order.specs.Order as order
 use Rattle.working_order.specs.Journal.{Row}
 use Rattle.calls.specs.Checking.{journalFault, orderOn, checkOf, keptBy, journalAfter}
 use Rattle.calls.specs.Promising.{promises}
-use Rattle.calls.specs.Replies.{Reply, refused, answered, unless, unlessBy}
+use Rattle.calls.specs.ReplyLaws.{one-refusal}
+use Rattle.plan_file.specs.RefusalLaws.{number-some}
+use Rattle.calls.specs.Replies.{Reply, refused, answered, unless}
 use Rattle.calls.specs.Rows.{rowOf}
 use Rattle.covers.specs.Rows.{Journal, firstRows}
 use Rattle.deciding.specs.declared.State.{State}
@@ -36,7 +38,7 @@ use Rattle.checker.specs.Contracts.{Checks}
 use Rattle.checker.specs.OrderLaws.{order-same}
 use Rattle.requests.specs.Refusing.{refusalFor}
 use Rattle.starting.specs.Starting.{Starts}
-use Rattle.requests.proofs.Refusals.{one-refusal, refused-by, none-refused}
+use Rattle.requests.proofs.Refusals.{none-refused}
 
 -- ---- what an answer says of the journal
 
@@ -101,7 +103,7 @@ module _ (bs : List ℕ) (B : ℕ) (old : Journal) where
       refuses =
           subst (λ (j : Journal). Checks bs B old j (checked.Refused (r .refusal))) (sym same)
           (checks (refused (refusalFor bs (length old)))
-          (reply ∙ refused-by (refusalFor bs (length old)) (answered (orderOn bs (length old) B)) (λ q. z (ap (λ (x : refusals.Refusal). x .number) (h .refusal) ∙ q)))
+          (reply ∙ number-some (refused (refusalFor bs (length old))) (answered (orderOn bs (length old) B)) (refusalFor bs (length old) .number) (λ q. z (ap (λ (x : refusals.Refusal). x .number) (h .refusal) ∙ q)))
           old (checked.Refused (r .refusal)) (ap refused (h .refusal)) refl refl)
 
     -- ---- nothing refused
@@ -128,7 +130,7 @@ module _ (bs : List ℕ) (B : ℕ) (old : Journal) where
       given : Checks bs B old new (checked.Answered (answerIn last))
       given =
           answers (answerIn last) new (subst (λ (a : order.Answer ℕ). search.Checked a old new (answerIn last)) on-file ended)
-          (reply ∙ ap (λ (n : ℕ). unlessBy n (refusalFor bs (length old)) (answered (orderOn bs (length old) B))) (sym (ap (λ (x : refusals.Refusal). x .number) (h .refusal)) ∙ z))
+          (reply ∙ ap (λ (n : ℕ). byNumber n (refused (refusalFor bs (length old))) (answered (orderOn bs (length old) B))) (sym (ap (λ (x : refusals.Refusal). x .number) (h .refusal)) ∙ z))
 
     pub checks-by : (c : Checked) → c ≡ checkedBy (r .refusal .number) (r .refusal) (answerIn last) → Checks bs B old new c
     checks-by c e = subst (Checks bs B old new) (sym e) (by (r .refusal .number) refl)

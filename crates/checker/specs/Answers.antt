@@ -1,5 +1,6 @@
 -- What the answers of a check say, case by case, in the terms of the definitions. Definitions only. Assumes nothing.
-use Prim.Native.Nat.{ℕ, zero, suc}
+use Prim.Native.Nat.{ℕ}
+use Rattle.plan_file.specs.Refusals.{byNumber}
 use Rattle.plan_file.specs.Answers.{refusalOf}
 use Rattle.plan_file.specs.declared.Refusal.{Refusal}
 use Rattle.working_order.specs.Order as order
@@ -12,8 +13,7 @@ use Rattle.checker.specs.declared.Checked.the-variants as checked
 
 -- by the number of the refusal
 abbrev pub checkedBy : ℕ → Refusal → Answer → Checked
-checkedBy zero r a = checked.Answered a
-checkedBy (suc f) r a = checked.Refused r
+checkedBy f r a = byNumber f (checked.Refused r) (checked.Answered a)
 
 -- the answer, over the journal as it stands then
 abbrev pub checkedOf : Checked → Journal → Reply (order.Answer ℕ)

@@ -3,8 +3,9 @@ pub mod Records
 pub mod Refusals
 pub mod Reading
 pub mod Views
-pub mod Valid
 pub mod Answers
+pub mod RefusalLaws
+pub mod Valid
 pub mod Entries
 pub mod Walk
 pub mod WalkLaws

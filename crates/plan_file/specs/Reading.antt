@@ -2,11 +2,11 @@
 -- Definitions only. Assumes nothing.
 use mathlib.Core.Bool.{cond}
 use mathlib.Core.List.{List, []}
-use Prim.Native.Nat.{ℕ, zero, suc, _+_, _*_}
+use Prim.Native.Nat.{ℕ, _+_, _*_}
 use lib.Dec.{eqb, leb}
 use lib.ListN.{take, drop}
 use Rattle.plan_file.specs.Records.{recordCount, recordAt, Record, recordOf, ruleKind, transitionKind, countOf}
-use Rattle.plan_file.specs.Refusals.{Refusal, refuse, faultBy, lengthFirst, fault}
+use Rattle.plan_file.specs.Refusals.{Refusal, refuse, byNumber, faultBy, lengthFirst, fault}
 
 pub data Step : Type 0 where
   -- a record, and the place of the next
@@ -17,8 +17,7 @@ pub data Step : Type 0 where
   ended : Step
 
 abbrev pub stepBy : ℕ → ℕ → Record → Step
-stepBy zero i r = gives r (i + 1)
-stepBy (suc f) i r = refuses (refuse (suc f) i)
+stepBy f i r = byNumber f (refuses (refuse f i)) (gives r (i + 1))
 
 -- at place i, where so many rules and transitions stand before it
 unfoldable pub stepFrom : List ℕ → ℕ → ℕ → ℕ → Step

@@ -1,7 +1,8 @@
 -- The numbers 1 to 7 that a file is refused with (document 01, "Numbers a call may refuse with"). Checks 1 and 2 come first, then 3
--- to 7 record by record; the earliest record wins, and within it the lowest number. Definitions only. Assumes nothing.
+-- to 7 record by record; the earliest record wins, and within it the first
+-- number in the order of `recordTests`, which is the lowest. Definitions only. Assumes nothing.
 use mathlib.Core.Bool.{Bool, not, _&&_, _||_, cond}
-use mathlib.Core.List.{List}
+use mathlib.Core.List.{List, [], _∷_}
 use Prim.Native.Nat.{ℕ, zero, suc, _-_, _%_}
 use lib.Dec.{eqb, leb, ltb}
 use lib.ListN.{length}
@@ -16,6 +17,22 @@ pub record Refusal : Type 0 where
 
 abbrev pub refuse : ℕ → ℕ → Refusal
 refuse f i = record { number = f; place = i }
+
+-- ---- the first refusal wins
+
+-- by a number: x where it refuses, and y where it is 0
+abbrev pub byNumber : {A : Type 0} → ℕ → A → A → A
+byNumber zero x y = y
+byNumber (suc f) x y = x
+
+-- a refusal, where it has a number, and else the next
+abbrev pub orNext : Refusal → Refusal → Refusal
+orNext r next = byNumber (r .number) r next
+
+-- the first of them that has a number, or number 0
+abbrev pub firstOf : List Refusal → Refusal
+firstOf [] = refuse 0 0
+firstOf (r ∷ rs) = orNext r (firstOf rs)
 
 -- ---- one record
 
@@ -52,13 +69,23 @@ exceeds bs i = eqb i 0 || rises (recordAt bs (i - 1)) (recordAt bs i)
 unfoldable pub overLimit : List ℕ → ℕ → ℕ → Bool
 overLimit r rules transitions = (eqb (byte r 0) ruleKind && eqb rules ruleLimit) || (eqb (byte r 0) transitionKind && eqb transitions transitionLimit)
 
--- the lowest number whose condition holds, or 0
-abbrev pub lowest : Bool → Bool → Bool → Bool → Bool → ℕ
-lowest a b c d e = cond a 3 (cond b 4 (cond c 5 (cond d 6 (cond e 7 0))))
+-- the number of the first test that holds, or 0
+abbrev pub firstHolding : List (ℕ × Bool) → ℕ
+firstHolding [] = 0
+firstHolding (t ∷ ts) = cond (t .1) (t .0) (firstHolding ts)
+
+-- the numbers that may refuse record i, each with its test, in the order in which they are looked at
+abbrev pub recordTests : List ℕ → ℕ → ℕ → ℕ → List (ℕ × Bool)
+recordTests bs i rules transitions =
+    (3, not (kindKnown (recordAt bs i)))
+    ∷ (4, aboveRange (recordAt bs i))
+    ∷ (5, strayByte (recordAt bs i))
+    ∷ (6, not (exceeds bs i))
+    ∷ (7, overLimit (recordAt bs i) rules transitions)
+    ∷ []
 
 unfoldable pub faultBy : List ℕ → ℕ → ℕ → ℕ → ℕ
-faultBy bs i rules transitions =
-    lowest (not (kindKnown (recordAt bs i))) (aboveRange (recordAt bs i)) (strayByte (recordAt bs i)) (not (exceeds bs i)) (overLimit (recordAt bs i) rules transitions)
+faultBy bs i rules transitions = firstHolding (recordTests bs i rules transitions)
 
 -- the number that refuses record i, or 0
 unfoldable pub faultAt : List ℕ → ℕ → ℕ
@@ -66,14 +93,10 @@ faultAt bs i = faultBy bs i (countOf bs ruleKind i) (countOf bs transitionKind i
 
 -- ---- the whole file
 
-abbrev pub orNext : ℕ → ℕ → Refusal → Refusal
-orNext zero i next = next
-orNext (suc f) i next = refuse (suc f) i
-
 -- the first fault of m records from i on
 unfoldable pub faultFrom : List ℕ → ℕ → ℕ → Refusal
 faultFrom bs zero i = refuse 0 0
-faultFrom bs (suc m) i = let rest = faultFrom bs m (suc i) in orNext (faultAt bs i) i rest
+faultFrom bs (suc m) i = let rest = faultFrom bs m (suc i) in orNext (refuse (faultAt bs i) i) rest
 
 -- checks 1 and 2, and then what is left
 abbrev pub lengthFirst : {A : Type 0} → (Refusal → A) → List ℕ → A → A

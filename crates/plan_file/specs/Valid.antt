@@ -15,7 +15,8 @@ use Rattle.relation.specs.Relation.{states}
 use Rattle.language.specs.Automaton.{Transition, Within}
 use Rattle.plan_file.specs.Limits.{recordLimit, terminals, nonterminals, symbolBytes}
 use Rattle.plan_file.specs.Records.{recordCount, recordAt, byte, kindAt, ruleKind, transitionKind, finalKind, countOf}
-use Rattle.plan_file.specs.Refusals.{refuse, kindKnown, aboveRange, strayByte, exceeds, overLimit, lowest, faultBy, faultAt, orNext, faultFrom, fault}
+use Rattle.plan_file.specs.Refusals.{refuse, kindKnown, aboveRange, strayByte, exceeds, overLimit, recordTests, faultBy, faultAt, orNext, faultFrom, fault}
+use Rattle.plan_file.specs.RefusalLaws.{none-holds}
 use Rattle.plan_file.specs.Views.{transitionOf, finalOf, consIf, collect, transitionsOf, finalsOf, automatonOf}
 
 -- none of the checks 3 to 7 refuses record i
@@ -26,27 +27,22 @@ pub record Passes (bs : List ℕ) (i : ℕ) : Type 0 where
   pub order : exceeds bs i ≡ true
   pub few : overLimit (recordAt bs i) (countOf bs ruleKind i) (countOf bs transitionKind i) ≡ false
 
-lowest-none : (a b c d e : Bool) → lowest a b c d e ≡ 0 → (a ≡ false) × (b ≡ false) × (c ≡ false) × (d ≡ false) × (e ≡ false)
-lowest-none true b c d e h = absurd (let z : ⊥ = omega arith in z)
-lowest-none false true c d e h = absurd (let z : ⊥ = omega arith in z)
-lowest-none false false true d e h = absurd (let z : ⊥ = omega arith in z)
-lowest-none false false false true e h = absurd (let z : ⊥ = omega arith in z)
-lowest-none false false false false true h = absurd (let z : ⊥ = omega arith in z)
-lowest-none false false false false false h = (refl, refl, refl, refl, refl)
-
 pub passes : (bs : List ℕ) (i : ℕ) → faultAt bs i ≡ 0 → Passes bs i
 unfolding faultAt faultBy
 passes bs i h =
-    let r = recordAt bs i in
-    let p = lowest-none (not (kindKnown r)) (aboveRange r) (strayByte r) (not (exceeds bs i)) (overLimit r (countOf bs ruleKind i) (countOf bs transitionKind i)) h in
-    record { kind = not-false (kindKnown r) (p .0); range = p .1; zeros = p .2; order = not-false (exceeds bs i) (p .3); few = p .4 }
+    let three = none-holds (recordTests bs i (countOf bs ruleKind i) (countOf bs transitionKind i)) refl h in
+    let four = three .1 in
+    let five = four .1 in
+    let six = five .1 in
+    let seven = six .1 in
+    record { kind = not-false (kindKnown (recordAt bs i)) (three .0); range = four .0; zeros = five .0; order = not-false (exceeds bs i) (six .0); few = seven .0 }
 
 none-at : (bs : List ℕ) (m i : ℕ) → faultFrom bs m i .number ≡ 0 → (j : ℕ) → j < m → faultAt bs (i + j) ≡ 0
 unfolding faultFrom
 none-at bs zero i h j l = absurd (not-suc-le-zero l)
 none-at bs (suc m) i h j l = by (faultAt bs i) refl h (none-at bs m (suc i)) j l
   where
-    by : (f : ℕ) → faultAt bs i ≡ f → orNext f i (faultFrom bs m (suc i)) .number ≡ 0
+    by : (f : ℕ) → faultAt bs i ≡ f → orNext (refuse f i) (faultFrom bs m (suc i)) .number ≡ 0
         → (faultFrom bs m (suc i) .number ≡ 0 → (j : ℕ) → j < m → faultAt bs (suc i + j) ≡ 0) → (j : ℕ) → j < suc m → faultAt bs (i + j) ≡ 0
     by (suc f) e h ih j l = absurd (let z : ⊥ = omega arith in z)
     by zero e h ih zero l = let z : i + 0 ≡ i = omega arith in ap (faultAt bs) z ∙ e

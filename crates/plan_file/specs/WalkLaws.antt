@@ -12,7 +12,7 @@ use lib.Seq.{getD-take}
 use borrow.Author.Tests.{leb-true, leb-false, eqb-true, eq-eqb, ne-eqb, le-leb}
 use Rattle.plan_file.specs.Limits.{recordLimit}
 use Rattle.plan_file.specs.Records.{recordCount, recordAt, kindAt, ruleKind, transitionKind, countOf, Record, ruleRecord, transitionRecord, finalRecord, recordBy, recordOf}
-use Rattle.plan_file.specs.Refusals.{Refusal, refuse, lowest, faultBy, faultAt, orNext, faultFrom, fault}
+use Rattle.plan_file.specs.Refusals.{Refusal, refuse, faultBy, faultAt, orNext, faultFrom, fault}
 use Rattle.plan_file.specs.Reading.{Step, gives, refuses, ended, stepBy, stepFrom}
 use Rattle.plan_file.specs.Walk.{rulesIn, transitionsIn, refusalIn, rest, after}
 
@@ -101,7 +101,7 @@ rest-step bs i = by (not (eqb (length bs % 8) 0)) (ltb recordLimit n) (leb n i) 
     r : Record
     r = recordOf (recordAt bs i)
 
-    one : (f : ℕ) (x : Refusal) → orNext f i x ≡ after (stepBy f i r) x
+    one : (f : ℕ) (x : Refusal) → orNext (refuse f i) x ≡ after (stepBy f i r) x
     one zero x = refl
     one (suc f) x = refl
 
@@ -164,10 +164,7 @@ module _ (bs : List ℕ) (rules transitions i : ℕ) (h : At bs rules transition
         });
       }
 
--- ---- the lowest number, and a refusal by a number
-
-pub lowest-same : {a a′ b b′ c c′ d d′ e e′ : Bool} → a ≡ a′ → b ≡ b′ → c ≡ c′ → d ≡ d′ → e ≡ e′ → lowest a b c d e ≡ lowest a′ b′ c′ d′ e′
-lowest-same p q r s t = λ i. lowest (p i) (q i) (r i) (s i) (t i)
+-- ---- a refusal by a number
 
 pub refuse-by : (f g i : ℕ) (r : Record) → (f ≡ 0 → ⊥) → f ≡ g → refuses (refuse f i) ≡ stepBy g i r
 refuse-by zero g i r z e = absurd (z refl)

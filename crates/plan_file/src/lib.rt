@@ -1,4 +1,7 @@
 // What a plan file says, and the types in which the code says it. The definitions and their laws: see specs/.
+ghost use mathlib.Core.Path.{_≡_};
+ghost use Rattle.plan_file.specs.Answers.{refusalOf};
+ghost use Rattle.plan_file.specs.Refusals.{refuse, byNumber};
 
 // The kinds of records.
 pub const RULE_KIND: u8 = 1;
@@ -11,6 +14,28 @@ pub const FINAL_KIND: u8 = 3;
 pub struct Refusal {
     pub number: u64,
     pub place: usize,
+}
+
+impl Refusal {
+    // Nothing is refused.
+    pub fn none() -> Refusal
+        ensures { λ r. ⌜ refusalOf r ≡ refuse 0 0 ⌝ }
+    {
+        Refusal {
+            number: 0,
+            place: 0,
+        }
+    }
+
+    // The first of two refusals: this one, where it has a number, and else the next.
+    pub fn or(self, next: Refusal) -> Refusal
+        ensures { λ r. ⌜ r ≡ byNumber (self .number) self next ⌝ }
+    {
+        if self.number != 0 {
+            return self;
+        }
+        next
+    }
 }
 
 // A rule: its head (document 01: the procedure), its body length, and the bytes of its symbols.

@@ -38,19 +38,18 @@ fn exceeds(file: &[u8], i: usize) -> bool
     )
 }
 
-// The number that refuses record i, before which so many rules and transitions stand, or 0.
+// The number that refuses record i, before which so many rules and transitions stand, or 0. The test that is looked at first wins, so it
+// stands last.
 fn fault_by(file: &[u8], i: usize, rules: usize, transitions: usize) -> u64
     requires { ⌜ i < recordCount (now file) ⌝ }
     ensures { λ x. ⌜ x ≡ refusals.faultBy (now (file .entry)) i rules transitions ⌝ }
 {
     let r = record_bytes::whole_record(file, i);
-    record_checks::lowest(
-        !record_checks::kind_known(r),
-        record_checks::above_range(r),
-        record_checks::stray_byte(r),
-        !exceeds(file, i),
-        record_checks::over_limit(r, rules, transitions),
-    )
+    let f = record_checks::number_or(7, record_checks::over_limit(r, rules, transitions), 0);
+    let f = record_checks::number_or(6, !exceeds(file, i), f);
+    let f = record_checks::number_or(5, record_checks::stray_byte(r), f);
+    let f = record_checks::number_or(4, record_checks::above_range(r), f);
+    record_checks::number_or(3, !record_checks::kind_known(r), f)
 }
 
 // The step at a place before which so many rules and transitions stand.

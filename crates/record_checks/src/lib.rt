@@ -1,5 +1,6 @@
 // Checks 3 to 7 of one record's bytes (document 01, "Numbers a call may refuse with"), each a test of its own.
 ghost use mathlib.Core.Path.{_≡_};
+ghost use mathlib.Core.Bool.{cond};
 ghost use Rattle.plan_file.specs.Refusals as refusals;
 ghost use Rattle.record_checks.specs.BigEndian.{bigEndian};
 use plan_file::FINAL_KIND;
@@ -82,24 +83,12 @@ pub fn over_limit(r: [u8; 8], rules: usize, transitions: usize) -> bool
         | ((r[0] == TRANSITION_KIND) & (transitions == TRANSITION_LIMIT))
 }
 
-// The lowest number, of 3 to 7, whose condition holds, or 0.
-pub fn lowest(a: bool, b: bool, c: bool, d: bool, e: bool) -> u64
-    ensures { λ x. ⌜ x ≡ refusals.lowest a b c d e ⌝ }
+// The number where its test holds, and else what the tests after it say.
+pub fn number_or(number: u64, holds: bool, later: u64) -> u64
+    ensures { λ x. ⌜ x ≡ cond holds number later ⌝ }
 {
-    if a {
-        return 3;
+    if holds {
+        return number;
     }
-    if b {
-        return 4;
-    }
-    if c {
-        return 5;
-    }
-    if d {
-        return 6;
-    }
-    if e {
-        return 7;
-    }
-    0
+    later
 }

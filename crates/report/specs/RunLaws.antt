@@ -12,7 +12,7 @@ use lib.Seq.{take-at}
 use borrow.Author.Tests.{lt-ltb, le-ltb, leb-false}
 use Rattle.basics.specs.Tests.{or-neither}
 use Rattle.relation.specs.Relation.{states}
-use Rattle.plan_file.specs.Refusals.{refuse}
+use Rattle.plan_file.specs.Refusals.{refuse, byNumber}
 use Rattle.plan_file.specs.Views.{rulesOf, automatonOf}
 use Rattle.working_order.specs.Algebra.{Forms}
 use Rattle.working_order.specs.Journal.{Row, capped}
@@ -23,7 +23,7 @@ use Rattle.calls.specs.Checking.{journalLimit, checkOf, shown}
 use Rattle.calls.specs.Printing.{numbersLine, refusedLine, lineThree}
 use Rattle.calls.specs.Promising.{size-journal, from-order, promises}
 use Rattle.calls.specs.WritingTruth.{all-fit}
-use Rattle.calls.specs.Replies.{Reply, answered, unless, unlessBy}
+use Rattle.calls.specs.Replies.{Reply, answered, unless, refused}
 use Rattle.calls.specs.Writing.{longWord, rowFault, roomFault, wordOf, writeOf, writtenBy, bufferAfter}
 use Rattle.telling.specs.Telling.{refusedBy}
 use Rattle.lines.specs.Lines.{runBy}
@@ -50,14 +50,14 @@ short w room e = by (leb longWord (length w) || ltb room (length w)) refl e
 
 module _ (w old : List ℕ) where
   -- line 3 of the definition
-  defined : (f : ℕ) → lineThree (writtenBy w old (unlessBy f (refuse f 0) (answered (length w)))) (unlessBy f (refuse f 0) (answered (length w))) ≡ threeBy f w
+  defined : (f : ℕ) → lineThree (writtenBy w old (byNumber f (refused (refuse f 0)) (answered (length w)))) (byNumber f (refused (refuse f 0)) (answered (length w))) ≡ threeBy f w
   unfolding lineThree
   defined zero = ap numbersLine (take-at w (drop (length w) old) (length w) refl)
   defined (suc f) = refl
 
   -- and of the code, from what is told
   told : (f len : ℕ) → (f ≡ 0 → len ≡ length w)
-      → runBy (refusedBy (unlessBy f (refuse f 0) (answered (length w)))) len (writtenBy w old (unlessBy f (refuse f 0) (answered (length w)))) ≡ threeBy f w
+      → runBy (refusedBy (byNumber f (refused (refuse f 0)) (answered (length w)))) len (writtenBy w old (byNumber f (refused (refuse f 0)) (answered (length w)))) ≡ threeBy f w
   told zero len h = ap numbersLine (take-at w (drop (length w) old) len (sym (h refl)))
   told (suc f) len h = refl
 

@@ -20,11 +20,9 @@ pub fn refusal_for(file: &[u8], rows: usize) -> Refusal
     ensures { λ r. ⌜ refusalOf r ≡ refusalFor (now (file .entry)) rows ⌝ }
 {
     let of_file = walk::file_refusal(file);
-    if of_file.number != 0 {
-        return of_file;
-    }
-    Refusal {
+    let of_journal = Refusal {
         number: journal_fault(rows),
         place: 0,
-    }
+    };
+    of_file.or(of_journal)
 }

@@ -9,7 +9,7 @@ use lib.Seq.{take-length}
 use borrow.Author.Tests.{lt-ltb}
 use Rattle.basics.specs.Lists.{getD-map}
 use Rattle.relation.specs.Relation.{states, pairs}
-use Rattle.plan_file.specs.Refusals.{refuse, fault}
+use Rattle.plan_file.specs.Refusals.{refuse, fault, byNumber}
 use Rattle.plan_file.specs.Views.{rulesOf, automatonOf}
 use Rattle.working_order.specs.Journal.{Row}
 use Rattle.working_order.specs.Order.{Answer, Verdict, broken}
@@ -18,7 +18,7 @@ use Rattle.calls.specs.Base.{base, words}
 use Rattle.calls.specs.BaseLaws.{base-laws, word-sizes}
 use Rattle.calls.specs.Checking.{journalLimit, journalFault, orderOn, checkOf, journalAfter}
 use Rattle.calls.specs.Promising.{from-order}
-use Rattle.calls.specs.Replies.{Reply, refused, answered, unlessBy}
+use Rattle.calls.specs.Replies.{Reply, refused, answered}
 use Rattle.calls.specs.Rows.{rowOf, blank}
 use Rattle.calls.specs.Writing.{rowFault, wordOf, writeOf, writtenBy, bufferAfter}
 use Rattle.calls.specs.declared.Row.{Row as LentRow}
@@ -77,7 +77,7 @@ unwritten bs rows old = by (fault bs .number) (journalFault (length rows))
     w : List ℕ
     w = wordOf bs rows 0
 
-    by : (f g : ℕ) → writtenBy w old (unlessBy f (fault bs) (unlessBy g (refuse (journalFault (length rows)) 0) (refused (refuse 9 0)))) ≡ old
+    by : (f g : ℕ) → writtenBy w old (byNumber f (refused (fault bs)) (byNumber g (refused (refuse (journalFault (length rows)) 0)) (refused (refuse 9 0)))) ≡ old
     by zero zero = refl
     by zero (suc g) = refl
     by (suc f) g = refl

@@ -2,19 +2,21 @@
 -- Assumes nothing.
 use mathlib.Core.Path.{_≡_, refl, _∙_, subst}
 use mathlib.Core.Logic.{_⊎_, inl, inr}
-use mathlib.Core.Bool.{Bool, true, false, not, _||_, cond}
-use mathlib.Core.List.{List}
+use mathlib.Core.Bool.{Bool, true, false, not, _&&_, _||_, cond}
+use mathlib.Core.List.{List, [], _∷_}
 use Prim.Native.Nat.{ℕ, zero, suc, _≤_, _<_, _%_}
 use native.Mathlib.Omega.{arith}
 use lib.Dec.{eqb, leb, ltb}
 use lib.ListN.{length}
+use borrow.Author.Tests.{leb-true}
+use Rattle.basics.specs.Tests.{and-fst, and-snd}
 use Rattle.basics.specs.Elements.{any}
 use Rattle.plan_file.specs.Limits.{recordLimit, terminals}
-use Rattle.plan_file.specs.Records.{recordCount, recordAt, ruleKind, transitionKind, countOf}
-use Rattle.plan_file.specs.Refusals.{Refusal, refuse, kindKnown, aboveRange, strayByte, exceeds, overLimit, lowest, faultBy, faultAt, orNext, faultFrom, fault}
+use Rattle.plan_file.specs.Records.{recordCount, ruleKind, transitionKind, countOf}
+use Rattle.plan_file.specs.Refusals.{Refusal, refuse, orNext, firstHolding, recordTests, faultBy, faultAt, faultFrom, fault, byNumber}
 use Rattle.calls.specs.Checking.{journalLimit, journalFault, checkOf}
 use Rattle.calls.specs.Judging.{wordLimit, wordFault, judgeOf}
-use Rattle.calls.specs.Replies.{Reply, refused, answered, unless, unlessBy}
+use Rattle.calls.specs.Replies.{Reply, refused, answered, unless}
 use Rattle.telling.specs.Codes.{firstAnswerCode}
 
 -- ---- a file
@@ -29,23 +31,29 @@ record RecordNumber (f : ℕ) : Type 0 where
   low : f ≤ 7
   high : 0 < f → 3 ≤ f
 
-lowest-number : (a b c d e : Bool) → RecordNumber (lowest a b c d e)
-lowest-number true b c d e = record { low = omega arith; high = λ h. omega arith }
-lowest-number false true c d e = record { low = omega arith; high = λ h. omega arith }
-lowest-number false false true d e = record { low = omega arith; high = λ h. omega arith }
-lowest-number false false false true e = record { low = omega arith; high = λ h. omega arith }
-lowest-number false false false false true = record { low = omega arith; high = λ h. omega arith }
-lowest-number false false false false false = record { low = omega arith; high = λ h. omega arith }
+-- each number of a list is one of these
+abbrev inRange : List (ℕ × Bool) → Bool
+inRange [] = true
+inRange (t ∷ ts) = (leb 3 (t .0) && leb (t .0) 7) && inRange ts
 
-next-refusal : (f i : ℕ) (next : Refusal) → RecordNumber f → FileRefusal next → FileRefusal (orNext f i next)
+first-number : (ts : List (ℕ × Bool)) → inRange ts ≡ true → RecordNumber (firstHolding ts)
+first-number [] p = record { low = omega arith; high = λ h. omega arith }
+first-number (t ∷ ts) p = by (t .1) (first-number ts (and-snd (leb 3 (t .0) && leb (t .0) 7) (inRange ts) p))
+  where
+    one : (leb 3 (t .0) && leb (t .0) 7) ≡ true
+    one = and-fst (leb 3 (t .0) && leb (t .0) 7) (inRange ts) p
+
+    by : (b : Bool) → RecordNumber (firstHolding ts) → RecordNumber (cond b (t .0) (firstHolding ts))
+    by true next = record { low = leb-true (t .0) 7 (and-snd (leb 3 (t .0)) (leb (t .0) 7) one); high = λ h. leb-true 3 (t .0) (and-fst (leb 3 (t .0)) (leb (t .0) 7) one) }
+    by false next = next
+
+next-refusal : (f i : ℕ) (next : Refusal) → RecordNumber f → FileRefusal next → FileRefusal (orNext (refuse f i) next)
 next-refusal zero i next h l = l
 next-refusal (suc f) i next h l = record { number = h .low; no-record = λ e. absurd (let z : ⊥ = omega (arith, e, h .high (omega arith)) in z) }
 
 at-number : (bs : List ℕ) (i : ℕ) → RecordNumber (faultAt bs i)
 unfolding faultAt faultBy
-at-number bs i =
-    lowest-number (not (kindKnown (recordAt bs i))) (aboveRange (recordAt bs i)) (strayByte (recordAt bs i)) (not (exceeds bs i))
-    (overLimit (recordAt bs i) (countOf bs ruleKind i) (countOf bs transitionKind i))
+at-number bs i = first-number (recordTests bs i (countOf bs ruleKind i) (countOf bs transitionKind i)) refl
 
 from-refusal : (bs : List ℕ) (m i : ℕ) → FileRefusal (faultFrom bs m i)
 unfolding faultFrom
@@ -94,7 +102,7 @@ module _ {A : Type 0} where
   unless-low : (x : Refusal) (y : Reply A) → Low x → LowIn y → LowIn (unless x y)
   unless-low x y l m = by (x .number)
     where
-      by : (f : ℕ) → LowIn (unlessBy f x y)
+      by : (f : ℕ) → LowIn (byNumber f (refused x) y)
       by zero = m
       by (suc f) = l
 

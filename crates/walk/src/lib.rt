@@ -17,15 +17,9 @@ fn refusal_in(s: Step) -> Refusal
     ensures { λ x. ⌜ refusalOf x ≡ refusalIn (stepOf s) ⌝ }
 {
     match s {
-        Step::Gives(_, _) => Refusal {
-            number: 0,
-            place: 0,
-        },
+        Step::Gives(_, _) => Refusal::none(),
         Step::Refused(r) => r,
-        Step::Ended => Refusal {
-            number: 0,
-            place: 0,
-        },
+        Step::Ended => Refusal::none(),
     }
 }
 
@@ -75,10 +69,7 @@ fn tallied(t: Tally, s: Step) -> Tally
         going: true,
         rules: t.rules + rules_in(r),
         transitions: t.transitions + transitions_in(r),
-        refusal: Refusal {
-            number: 0,
-            place: 0,
-        },
+        refusal: Refusal::none(),
     }
 }
 

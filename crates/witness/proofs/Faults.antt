@@ -18,7 +18,7 @@ use Rattle.calls.specs.Checking.{journalFault}
 use Rattle.calls.specs.Writing.{longWord, rowFault, roomFault}
 use Rattle.fitting.specs.Forms.{noForms}
 use Rattle.witness.specs.Parts.{olderRow, Ready}
-use Rattle.witness.specs.Writes.{tooLong, firstOf, writeFault}
+use Rattle.witness.specs.Writes.{tooLong, orNumber, writeFault}
 use Rattle.working_order.specs.FittingLaws.{FitThrough, fit-through}
 use Rattle.working_order.specs.BehindLaws.{len-behind}
 
@@ -27,7 +27,7 @@ pub not-refused : (b : Bool) (k : ℕ) → cond b (suc k) 0 ≡ 0 → b ≡ fals
 not-refused true k e = absurd (let z : ⊥ = omega arith in z)
 not-refused false k e = refl
 
-pub neither : (f g : ℕ) → firstOf f g ≡ 0 → (f ≡ 0) × (g ≡ 0)
+pub neither : (f g : ℕ) → orNumber f g ≡ 0 → (f ≡ 0) × (g ≡ 0)
 neither zero g e = (refl, e)
 neither (suc f) g e = absurd (let z : ⊥ = omega arith in z)
 
@@ -76,7 +76,7 @@ module _ (rules : List Rule) (rows : List (Row ℕ)) (used i : ℕ) where
   unfolding writeFault roomFault
   ready room e =
       let n = length (wordBehind words rules rows i) in
-      let a = neither (journalFault (length rows)) (firstOf (rowFault noForms rules rows used i) (roomFault (wordBehind words rules rows i) room)) e .1 in
+      let a = neither (journalFault (length rows)) (orNumber (rowFault noForms rules rows used i) (roomFault (wordBehind words rules rows i) room)) e .1 in
       let b = neither (rowFault noForms rules rows used i) (roomFault (wordBehind words rules rows i) room) a in
       let m = named rules rows used i (b .0) in
       let c = or-neither (leb longWord n) (ltb room n) (not-refused (leb longWord n || ltb room n) 9 (b .1)) in

@@ -18,10 +18,10 @@ use Rattle.calls.specs.Replies.{Reply, answered, unless}
 use Rattle.calls.specs.Writing.{rowFault, roomFault, wordOf, writeOf}
 use Rattle.fitting.specs.Forms.{noForms}
 use Rattle.working_order.specs.FittingLaws.{fit-same}
-use Rattle.witness.specs.Writes.{firstOf, writeFault, writeBy}
+use Rattle.witness.specs.Writes.{orNumber, writeFault, writeBy}
 
 -- two refusals one after the other are the first of them
-first : {A : Type 0} (f g : ℕ) (a : Reply A) → unless (refuse f 0) (unless (refuse g 0) a) ≡ unless (refuse (firstOf f g) 0) a
+first : {A : Type 0} (f g : ℕ) (a : Reply A) → unless (refuse f 0) (unless (refuse g 0) a) ≡ unless (refuse (orNumber f g) 0) a
 first zero g a = refl
 first (suc f) g a = refl
 
@@ -41,4 +41,4 @@ module _ (bs : List ℕ) (rows : List (Row ℕ)) (used i : ℕ) where
       ap (λ (n : ℕ). unless (fault bs) (unless (refuse eight 0) (unless (refuse n 0) (unless (refuse ten 0) (answered (length w))))))
       (row-fault-same (base states (automatonOf bs) .forms) noForms (rulesOf bs) rows used i)
       ∙ ap (λ (r : Reply ℕ). unless (fault bs) (unless (refuse eight 0) r)) (first nine ten (answered (length w)))
-      ∙ ap (unless (fault bs)) (first eight (firstOf nine ten) (answered (length w)))
+      ∙ ap (unless (fault bs)) (first eight (orNumber nine ten) (answered (length w)))

@@ -9,8 +9,10 @@ use lib.Dec.{leb, ltb}
 use lib.ListN.{length, take, drop}
 use borrow.Author.Tests.{leb-true, lt-ltb, le-ltb}
 use Rattle.language.specs.Grammar.{Rule}
+use Rattle.calls.specs.ReplyLaws.{one-refusal}
+use Rattle.plan_file.specs.RefusalLaws.{number-none, neither-refuses}
 use Rattle.plan_file.specs.Refusals as refusals
-use Rattle.plan_file.specs.Refusals.{refuse, fault}
+use Rattle.plan_file.specs.Refusals.{refuse, fault, byNumber, orNext}
 use Rattle.plan_file.specs.Views.{rulesOf}
 use Rattle.plan_file.specs.Answers.{refusalOf}
 use Rattle.plan_file.specs.declared.Refusal.{Refusal}
@@ -19,7 +21,7 @@ use Rattle.working_order.specs.Behind.{wordBehind}
 use Rattle.working_order.specs.Fitting.{rowsFit}
 use Rattle.calls.specs.Base.{words}
 use Rattle.calls.specs.Checking.{journalFault}
-use Rattle.calls.specs.Replies.{answered, unless, unlessBy}
+use Rattle.calls.specs.Replies.{answered, unless, refused}
 use Rattle.calls.specs.Rows.{entryOf}
 use Rattle.calls.specs.Writing.{rowFault, roomFault, wordOf, writeOf, writtenBy, bufferAfter, WordMeans}
 use Rattle.calls.specs.WritingTruth.{write-means}
@@ -27,16 +29,14 @@ use Rattle.fitting.specs.Forms.{noForms}
 use Rattle.fitting.specs.ByValue.{lastLen}
 use Rattle.fitting.specs.declared.Fit.{Fit}
 use Rattle.witness.specs.Parts.{partWord, Ready, Wrote}
-use Rattle.witness.specs.Writes.{tooLong, firstOf, writeFault, writeBy}
+use Rattle.witness.specs.Writes.{tooLong, orNumber, writeFault, writeBy}
 use Rattle.witness.specs.OnFile.{write-of}
 use Rattle.witness.proofs.Faults.{neither, named, by-length, ready}
 use Rattle.writer.specs.declared.Asked.{Asked}
 use Rattle.writer.specs.Answers.{writingBy, writingOf}
-use Rattle.requests.specs.Refusing.{firstRefusal, firstRefusalBy}
-use Rattle.writer.specs.Asking.{AskedFor, countFault, rowsAsked, refusalBy, nineBy, tenBy, afterAsked, partBy}
+use Rattle.writer.specs.Asking.{AskedFor, countFault, rowsAsked, refusalBy, nineBy, tenBy, partBy}
 use Rattle.writer.specs.Contracts.{Writes}
 use Rattle.writer.proofs.Taken.{first-some, first-none, counted}
-use Rattle.requests.proofs.Refusals.{refusal-none, neither-refuses, one-refusal}
 
 abbrev nineIf : Bool → ℕ
 nineIf b = cond b 9 0
@@ -74,8 +74,8 @@ module _ (bs : List ℕ) (rows : List (Row ℕ)) (used i : ℕ) (table : List (L
 
   quiet : a .refusal .number ≡ 0 → Quiet
   quiet z =
-      let f = firstOf (journalFault (length rows)) (countFault (length rows) used i) in
-      let none : firstRefusal (fault bs) (refuse f 0) .number ≡ 0 = sym (ap (λ (r : refusals.Refusal). r .number) (h .refusal)) ∙ z in
+      let f = orNumber (journalFault (length rows)) (countFault (length rows) used i) in
+      let none : orNext (fault bs) (refuse f 0) .number ≡ 0 = sym (ap (λ (r : refusals.Refusal). r .number) (h .refusal)) ∙ z in
       let v = neither-refuses (fault bs) (refuse f 0) none in
       let o = neither (journalFault (length rows)) (countFault (length rows) used i) (v .1) in
       record {
@@ -99,18 +99,18 @@ module _ (bs : List ℕ) (rows : List (Row ℕ)) (used i : ℕ) (table : List (L
     final = refusalBy a f room
 
     abbrev whole : refusals.Refusal
-    whole = firstRefusal (fault bs) (refuse (writeFault (rulesOf bs) rows used i room) 0)
+    whole = orNext (fault bs) (refuse (writeFault (rulesOf bs) rows used i room) 0)
 
     -- 8 or the counts refused
-    early : (fault bs .number ≡ 0) → (firstOf (journalFault (length rows)) (countFault (length rows) used i) ≡ 0 → ⊥)
-        → firstOf (journalFault (length rows)) (countFault (length rows) used i) ≡ writeFault (rulesOf bs) rows used i room
+    early : (fault bs .number ≡ 0) → (orNumber (journalFault (length rows)) (countFault (length rows) used i) ≡ 0 → ⊥)
+        → orNumber (journalFault (length rows)) (countFault (length rows) used i) ≡ writeFault (rulesOf bs) rows used i room
     unfolding writeFault
     early v z = by (journalFault (length rows)) z
       where
         m : ℕ
         m = roomFault (wordBehind words (rulesOf bs) rows i) room
 
-        by : (k : ℕ) → (firstOf k (countFault (length rows) used i) ≡ 0 → ⊥) → firstOf k (countFault (length rows) used i) ≡ firstOf k (firstOf (rowFault noForms (rulesOf bs) rows used i) m)
+        by : (k : ℕ) → (orNumber k (countFault (length rows) used i) ≡ 0 → ⊥) → orNumber k (countFault (length rows) used i) ≡ orNumber k (orNumber (rowFault noForms (rulesOf bs) rows used i) m)
         by (suc k) z = refl
         by zero z =
             let e = counts-nine (rulesOf bs) rows used i z in
@@ -127,19 +127,19 @@ module _ (bs : List ℕ) (rows : List (Row ℕ)) (used i : ℕ) (table : List (L
         nine : ℕ
         nine = rowFault noForms (rulesOf bs) rows used i
 
-        fault-is : firstOf (journalFault (length rows)) (firstOf nine (roomFault w room)) ≡ firstOf nine (roomFault w room)
-        fault-is = first-none (journalFault (length rows)) (firstOf nine (roomFault w room)) (q .eight)
+        fault-is : orNumber (journalFault (length rows)) (orNumber nine (roomFault w room)) ≡ orNumber nine (roomFault w room)
+        fault-is = first-none (journalFault (length rows)) (orNumber nine (roomFault w room)) (q .eight)
 
-        by : (b : Bool) → b ≡ rowsFit noForms rows (rulesOf bs) (i + 1) → refusalOf (nineBy b (tooLong (f .len) room)) ≡ refuse (firstOf (journalFault (length rows)) (firstOf nine (roomFault w room))) 0
+        by : (b : Bool) → b ≡ rowsFit noForms rows (rulesOf bs) (i + 1) → refusalOf (nineBy b (tooLong (f .len) room)) ≡ refuse (orNumber (journalFault (length rows)) (orNumber nine (roomFault w room))) 0
         by false e =
-            ap (λ (k : ℕ). refuse k 0) (sym (fault-is ∙ ap (λ (k : ℕ). firstOf k (roomFault w room)) (rows-decide (rulesOf bs) rows used i (q .counts) ∙ ap (λ (b : Bool). cond (not b) 9 0) (sym e))))
+            ap (λ (k : ℕ). refuse k 0) (sym (fault-is ∙ ap (λ (k : ℕ). orNumber k (roomFault w room)) (rows-decide (rulesOf bs) rows used i (q .counts) ∙ ap (λ (b : Bool). cond (not b) 9 0) (sym e))))
         by true e =
             let o : nine ≡ 0 = rows-decide (rulesOf bs) rows used i (q .counts) ∙ ap (λ (b : Bool). cond (not b) 9 0) (sym e) in
             let same : tooLong (f .len) room ≡ tooLong (length w) room =
             ap (λ (k : ℕ). tooLong k room) (len ∙ ap (lastLen rows) (q .rows-are ∙ add-one i)) ∙ by-length (rulesOf bs) rows used i (named (rulesOf bs) rows used i o) room
             in
             ap (λ (b : Bool). refusalOf (tenBy b)) same ∙ ten (tooLong (length w) room)
-            ∙ ap (λ (k : ℕ). refuse k 0) (sym (fault-is ∙ ap (λ (k : ℕ). firstOf k (roomFault w room)) o))
+            ∙ ap (λ (k : ℕ). refuse k 0) (sym (fault-is ∙ ap (λ (k : ℕ). orNumber k (roomFault w room)) o))
           where
             ten : (b : Bool) → refusalOf (tenBy b) ≡ refuse (cond b 10 0) 0
             ten true = refl
@@ -148,22 +148,22 @@ module _ (bs : List ℕ) (rows : List (Row ℕ)) (used i : ℕ) (table : List (L
     final-is : refusalOf final ≡ whole
     final-is = by (a .refusal .number) refl
       where
-        by : (k : ℕ) → a .refusal .number ≡ k → refusalOf (afterAsked k (a .refusal) (nineBy (f .fits) (tooLong (f .len) room))) ≡ whole
-        by zero e = let q = quiet e in late q (f .fits) refl ∙ sym (refusal-none (fault bs) (refuse (writeFault (rulesOf bs) rows used i room) 0) (q .file))
+        by : (k : ℕ) → a .refusal .number ≡ k → refusalOf (byNumber k (a .refusal) (nineBy (f .fits) (tooLong (f .len) room))) ≡ whole
+        by zero e = let q = quiet e in late q (f .fits) refl ∙ sym (number-none (fault bs) (refuse (writeFault (rulesOf bs) rows used i room) 0) (fault bs .number) (q .file))
         by (suc k) e = h .refusal ∙ split (fault bs .number) refl
           where
             g : ℕ
-            g = firstOf (journalFault (length rows)) (countFault (length rows) used i)
+            g = orNumber (journalFault (length rows)) (countFault (length rows) used i)
 
-            split : (n : ℕ) → fault bs .number ≡ n → firstRefusalBy n (fault bs) (refuse g 0) ≡ firstRefusalBy n (fault bs) (refuse (writeFault (rulesOf bs) rows used i room) 0)
+            split : (n : ℕ) → fault bs .number ≡ n → byNumber n (fault bs) (refuse g 0) ≡ byNumber n (fault bs) (refuse (writeFault (rulesOf bs) rows used i room) 0)
             split (suc n) v = refl
-            split zero v = ap (λ (m : ℕ). refuse m 0) (early v (λ z. let y : ⊥ = omega (arith, sym e ∙ ap (λ (r : refusals.Refusal). r .number) (h .refusal ∙ refusal-none (fault bs) (refuse g 0) v) ∙ z) in y))
+            split zero v = ap (λ (m : ℕ). refuse m 0) (early v (λ z. let y : ⊥ = omega (arith, sym e ∙ ap (λ (r : refusals.Refusal). r .number) (h .refusal ∙ number-none (fault bs) (refuse g 0) (fault bs .number) v) ∙ z) in y))
 
     -- the call is not refused, so nothing was before
     asked-quiet : final .number ≡ 0 → Quiet
     asked-quiet z = quiet (by (a .refusal .number) refl z)
       where
-        by : (k : ℕ) → a .refusal .number ≡ k → afterAsked k (a .refusal) (nineBy (f .fits) (tooLong (f .len) room)) .number ≡ 0 → a .refusal .number ≡ 0
+        by : (k : ℕ) → a .refusal .number ≡ k → byNumber k (a .refusal) (nineBy (f .fits) (tooLong (f .len) room)) .number ≡ 0 → a .refusal .number ≡ 0
         by zero e z = e
         by (suc k) e z = z
 
@@ -176,7 +176,7 @@ module _ (bs : List ℕ) (rows : List (Row ℕ)) (used i : ℕ) (table : List (L
         by zero e =
             let q = asked-quiet e in
             let none : writeFault (rulesOf bs) rows used i room ≡ 0 =
-            sym (ap (λ (r : refusals.Refusal). r .number) (final-is ∙ refusal-none (fault bs) (refuse (writeFault (rulesOf bs) rows used i room) 0) (q .file))) ∙ e
+            sym (ap (λ (r : refusals.Refusal). r .number) (final-is ∙ number-none (fault bs) (refuse (writeFault (rulesOf bs) rows used i room) 0) (fault bs .number) (q .file))) ∙ e
             in
             subst (λ (xs : List Rule). Ready xs rows (partBy 0 i) room) (sym (q .rules-are)) (ready (rulesOf bs) rows used i room none)
 
@@ -207,11 +207,11 @@ writes bs rows used i table a h f fits len old new n w =
         let word : wordBehind words (map entryOf (take (a .rules) table)) rows i ≡ wordBehind words (rulesOf bs) rows i = ap (λ (xs : List Rule). wordBehind words xs rows i) (q .rules-are) in
         let count : n ≡ length (wordBehind words (rulesOf bs) rows i) = w .count ∙ ap length word in
         let back : answered (length (wordBehind words (rulesOf bs) rows i)) ≡ unless (refusalOf (refusalBy a f (length old))) (answered (length (wordBehind words (rulesOf bs) rows i))) =
-        sym (ap (λ (k : ℕ). unlessBy k (refusalOf (refusalBy a f (length old))) (answered (length (wordBehind words (rulesOf bs) rows i)))) e)
+        sym (ap (λ (k : ℕ). byNumber k (refused (refusalOf (refusalBy a f (length old)))) (answered (length (wordBehind words (rulesOf bs) rows i)))) e)
         in (
           ap answered count ∙ back,
           w .bytes ∙ ap₂ (λ (u : List ℕ) (m : ℕ). u ++ drop m old) word count ∙ ap (writtenBy (wordBehind words (rulesOf bs) rows i) old) back,
         )
     by (suc k) e w =
-        let back = sym (ap (λ (k : ℕ). unlessBy k (refusalOf (refusalBy a f (length old))) (answered (length (wordBehind words (rulesOf bs) rows i)))) e) in
+        let back = sym (ap (λ (k : ℕ). byNumber k (refused (refusalOf (refusalBy a f (length old)))) (answered (length (wordBehind words (rulesOf bs) rows i)))) e) in
         (back, w .bytes ∙ ap (λ (m : ℕ). drop m old) (w .count) ∙ ap (writtenBy (wordBehind words (rulesOf bs) rows i) old) back)

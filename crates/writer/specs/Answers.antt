@@ -1,5 +1,6 @@
 -- What the answers of writing a word say, case by case, in the terms of the definitions. Definitions only. Assumes nothing.
-use Prim.Native.Nat.{ℕ, zero, suc}
+use Prim.Native.Nat.{ℕ}
+use Rattle.plan_file.specs.Refusals.{byNumber}
 use Rattle.plan_file.specs.Answers.{refusalOf}
 use Rattle.plan_file.specs.declared.Refusal.{Refusal}
 use Rattle.calls.specs.Replies.{Reply, refused, answered}
@@ -8,8 +9,7 @@ use Rattle.writer.specs.declared.Writing.the-variants as writing
 
 -- by the number of the refusal
 abbrev pub writingBy : ℕ → Refusal → ℕ → Writing
-writingBy zero r n = writing.Length n
-writingBy (suc f) r n = writing.Refused r
+writingBy f r n = byNumber f (writing.Refused r) (writing.Length n)
 
 abbrev pub writingOf : Writing → Reply ℕ
 writingOf (writing.Refused r) = refused (refusalOf r)

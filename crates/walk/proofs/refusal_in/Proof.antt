@@ -4,14 +4,15 @@ use Rattle.walk.proofs.refusal_in.Statement.{statement}
 use Rattle.walk.proofs.refusal_in.Tie as tie
 
 returns : tie.Need-returns
-returns c = rw (c .enum-told .given .1)
+returns c = rw (c .before .enum-told .given .1) (c .none .ensures)
 
 returns-2 : tie.Need-returns-2
 returns-2 c = rw (c .before .s .given .1)
 
 returns-3 : tie.Need-returns-3
-returns-3 c = rw (c .enum-told2 .given .1)
+returns-3 c = rw (c .before .enum-told2 .given .1) (c .none2 .ensures)
 
 pub refusal-in-spec : {M : Type 1} → statement M
 refusal-in-spec =
-    tie.close (tie.spec (λ c. search needs) (λ c. search needs) (λ c. search needs) returns returns-2 returns-3)
+    tie.close
+    (tie.spec (λ c. search needs) (λ c κs. search needs) (λ c. search needs) (λ c. search needs) (λ c κs. search needs) returns returns-2 returns-3)

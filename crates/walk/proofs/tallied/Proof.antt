@@ -29,8 +29,9 @@ add-transitions c =
 
 returns-2 : tie.Need-returns-2
 returns-2 c =
-    let t = c .before .before .before .before .before .before .before .args .t in
-    rw (c .before .before .before .before .before .s .given .1) (refl, ap (λ (k : ℕ). t .rules + k) (c .before .before .before .rules-in .ensures), ap (λ (k : ℕ). t .transitions + k) (c .before .transitions-in .ensures), refl)
+    let d = c .before in
+    let t = d .before .before .before .before .before .before .before .args .t in
+    rw (d .before .before .before .before .before .s .given .1) (refl, ap (λ (k : ℕ). t .rules + k) (d .before .before .before .rules-in .ensures), ap (λ (k : ℕ). t .transitions + k) (d .before .transitions-in .ensures), c .none .ensures)
 
 pub tallied-spec : {M : Type 1} → statement M
-tallied-spec = tie.close (tie.spec (λ c. search needs) (λ c κs. search needs) returns (λ c κs. search needs) add-rules (λ c κs. search needs) add-transitions returns-2)
+tallied-spec = tie.close (tie.spec (λ c. search needs) (λ c κs. search needs) returns (λ c κs. search needs) add-rules (λ c κs. search needs) add-transitions (λ c κs. search needs) returns-2)

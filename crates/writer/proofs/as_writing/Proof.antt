@@ -1,13 +1,14 @@
 -- By the refusal's number. Assumes nothing.
-use Rattle.writer.proofs.Cases.{some-refused, none-length}
+use mathlib.Core.Path.{sym}
+use Rattle.plan_file.specs.RefusalLaws.{number-some, number-none}
 use Rattle.writer.proofs.as_writing.Statement.{statement}
 use Rattle.writer.proofs.as_writing.Tie as tie
 
 returns : tie.Need-returns
-returns c = some-refused _ (c .if1 .taken) _ _
+returns c = sym (number-some _ _ _ (c .if1 .taken))
 
 returns-2 : tie.Need-returns-2
-returns-2 c = none-length _ (c .if1 .left) _ _
+returns-2 c = sym (number-none _ _ _ (c .if1 .left))
 
 pub as-writing-spec : {M : Type 1} → statement M
 as-writing-spec = tie.close (tie.spec returns returns-2)

@@ -8,6 +8,7 @@ use lib.ListN.{length}
 use borrow.Author.Tests.{eqb-false}
 use Rattle.working_order.specs.Journal.{absent}
 use Rattle.working_order.specs.Order.{Verdict, holds, broken, full, spent, answer as answerTo, closeBy, close}
+use Rattle.calls.specs.Base.{starts}
 use Rattle.rows.specs.Base as order
 use Rattle.covers.specs.Rows.{Journal, firstRows}
 use Rattle.verdicts.specs.Meanings.{progressOf, outcomeOf, countsIn, totalsOf, answerBy, answerOf, totalsIn}
@@ -48,14 +49,14 @@ module _ (u k : ℕ) (j : Journal) (N : order.Progress → order.Answer) where
   unfolding answerTo
   answer-given v i w h = ap (λ (n : ℕ). record { verdict = v; joins = w .joins; used = n; pass = k; row = i; journal = firstRows (w .used) j }) (sym (rows-length (w .used) j h))
 
-  pub close-end : (r : Outcome) → countsIn r .used ≤ length j → endAnswer (endOf u k r) j N ≡ close k u N (outcomeOf r j)
+  pub close-end : (r : Outcome) → countsIn r .used ≤ length j → endAnswer (endOf u k r) j N ≡ close starts k u N (outcomeOf r j)
   close-end (outcome.Spent w) h = answer-given spent absent w h
   close-end (outcome.Full w) h = answer-given full absent w h
   close-end (outcome.Broken i w) h = answer-given broken i w h
   close-end (outcome.Going w) h =
-      split (eqb (w .used) u) ∙ ap (λ (n : ℕ). closeBy (eqb n u) k N (progressOf w j)) (sym (rows-length (w .used) j h))
+      split (eqb (w .used) u) ∙ ap (λ (n : ℕ). closeBy starts (eqb n u) k N (progressOf w j)) (sym (rows-length (w .used) j h))
     where
-      split : (b : Bool) → endAnswer (endBy b w k) j N ≡ closeBy b k N (progressOf w j)
+      split : (b : Bool) → endAnswer (endBy b w k) j N ≡ closeBy starts b k N (progressOf w j)
       split true = answer-given holds absent w h
       split false = refl
 

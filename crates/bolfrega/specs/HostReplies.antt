@@ -17,7 +17,7 @@ use Rattle.calls.specs.Checking.{journalLimit, journalFault, orderOn, checkOf, 
 use Rattle.calls.specs.Promising.{promises, broken-word, broken-writes}
 use Rattle.calls.specs.Replies.{Reply, refused, answered, unless, unlessBy}
 use Rattle.calls.specs.Writing.{roomFault, writeOf, writtenBy, bufferAfter}
-use Rattle.telling.specs.Codes.{firstAnswerCode, holdsCode, brokenCode, fullCode, verdictCode, codeBy}
+use Rattle.calls.specs.Codes.{firstAnswerCode, holdsCode, brokenCode, fullCode, verdictCode, codeBy}
 use Rattle.standalone.specs.Told.{zeroRow, answerCode, rowIn, lastThree, detailsOf, shownBy, shownOf}
 use Rattle.bolfrega.specs.Contracts.{zeroRows, ChecksZeros}
 use Rattle.bolfrega.specs.Hosts.{RowsRefused}

@@ -17,7 +17,7 @@ use Rattle.calls.specs.DemandThree.{Derivable, Counterexample, Promises}
 use Rattle.calls.specs.Promising.{from-order}
 use Rattle.calls.specs.Replies.{Reply, refused, answered}
 use Rattle.calls.specs.Writing.{writtenBy}
-use Rattle.telling.specs.Codes.{firstAnswerCode, holdsCode, brokenCode, fullCode, spentCode, verdictCode}
+use Rattle.calls.specs.Codes.{firstAnswerCode, holdsCode, brokenCode, fullCode, spentCode, verdictCode}
 use Rattle.standalone.specs.Told.{lastThree, shownBy}
 use Rattle.bolfrega.specs.Contracts.{Refuses, ChecksZeros}
 use Rattle.bolfrega.specs.Hosts.{FilePasses, FileRefused, RowsRefused, FileTells, toldRecord, toldJoins, toldUsed, toldPass, toldRow, toldPairs, toldLength, toldRefused, Decided, Refusing, RunsOut, Verdicts, Details, Stays, CheckTells}

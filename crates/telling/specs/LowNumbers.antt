@@ -15,7 +15,7 @@ use Rattle.plan_file.specs.Refusals.{Refusal, refuse, kindKnown, aboveRange, st
 use Rattle.calls.specs.Checking.{journalLimit, journalFault, checkOf}
 use Rattle.calls.specs.Judging.{wordLimit, wordFault, judgeOf}
 use Rattle.calls.specs.Replies.{Reply, refused, answered, unless, unlessBy}
-use Rattle.telling.specs.Codes.{firstAnswerCode}
+use Rattle.calls.specs.Codes.{firstAnswerCode}
 
 -- ---- a file
 

@@ -7,7 +7,7 @@ use Rattle.plan_file.specs.Refusals.{fault}
 use Rattle.working_order.specs.Journal.{Row}
 use Rattle.calls.specs.Checking.{journalAfter}
 use Rattle.calls.specs.Judging.{judgeOf, Means}
-use Rattle.telling.specs.Codes.{codeBy}
+use Rattle.calls.specs.Codes.{codeBy}
 use Rattle.standalone.specs.Told.{zeroRow}
 use Rattle.standalone.specs.Contracts.{ChecksBy}
 use Rattle.bolfrega.specs.Codes.{judgementCode, placeIn}

@@ -17,7 +17,7 @@ use Rattle.plan_file.specs.Refusals.{Refusal, fault}
 use Rattle.plan_file.specs.Views.{automatonOf}
 use Rattle.calls.specs.Judging.{Judgement, accepted, turnedAway, wordLimit, wordFault, judgementBy, judgeOf, Means}
 use Rattle.calls.specs.Replies.{Reply, refused, answered}
-use Rattle.telling.specs.Codes.{firstAnswerCode, codeBy}
+use Rattle.calls.specs.Codes.{firstAnswerCode, codeBy}
 use Rattle.bolfrega.specs.Codes.{acceptedCode, turnedAwayCode, judgementCode, placeIn}
 use Rattle.bolfrega.specs.Contracts.{Judges}
 use Rattle.bolfrega.specs.Hosts.{JudgeTells}

@@ -17,8 +17,9 @@ use Rattle.calls.specs.Checking.{journalLimit, journalFault, orderOn, checkOf, 
 use Rattle.calls.specs.Promising.{promises, broken-word, broken-writes}
 use Rattle.calls.specs.Replies.{Reply, refused, answered, unless}
 use Rattle.calls.specs.Writing.{roomFault, writeOf, writtenBy, bufferAfter}
-use Rattle.telling.specs.Codes.{firstAnswerCode, holdsCode, brokenCode, fullCode, verdictCode, codeBy}
+use Rattle.calls.specs.Codes.{firstAnswerCode, holdsCode, brokenCode, fullCode, verdictCode, codeBy}
 use Rattle.standalone.specs.Told.{zeroRow, answerCode, rowIn, lastThree, detailsOf, shownBy, shownOf}
+use Rattle.bolfrega.specs.BrokenLaws.{if-broken-same}
 use Rattle.bolfrega.specs.Contracts.{zeroRows, ChecksZeros}
 use Rattle.bolfrega.specs.Hosts.{RowsRefused}
 use Rattle.telling.specs.LowNumbers.{LowIn, check-low}
@@ -26,17 +27,17 @@ use Rattle.telling.specs.LowNumbers.{LowIn, check-low}
 -- ---- the numbers of the verdicts
 
 -- the verdict of a number, and back
-abbrev verdictOf : ℕ → Verdict
-verdictOf n = cond (eqb n holdsCode) holds (cond (eqb n brokenCode) broken (cond (eqb n fullCode) full spent))
+abbrev verdictAt : ℕ → Verdict
+verdictAt n = cond (eqb n holdsCode) holds (cond (eqb n brokenCode) broken (cond (eqb n fullCode) full spent))
 
-verdict-back : (v : Verdict) → verdictOf (verdictCode v) ≡ v
+verdict-back : (v : Verdict) → verdictAt (verdictCode v) ≡ v
 verdict-back holds = refl
 verdict-back broken = refl
 verdict-back full = refl
 verdict-back spent = refl
 
 pub same-verdict : (v x : Verdict) → verdictCode v ≡ verdictCode x → v ≡ x
-same-verdict v x e = sym (verdict-back v) ∙ ap verdictOf e ∙ verdict-back x
+same-verdict v x e = sym (verdict-back v) ∙ ap verdictAt e ∙ verdict-back x
 
 pub verdict-high : (v : Verdict) → firstAnswerCode ≤ verdictCode v
 verdict-high holds = omega arith
@@ -76,25 +77,15 @@ module _ (bs old : List ℕ) (rows : List (Row ℕ)) (B : ℕ) (a : Answer ℕ) 
       ap (λ (xs : List (Row ℕ)). rowIn xs (a .row)) (ap (keptBy rows) e)
       ∙ List·getD-append (a .journal) (drop (a .used) rows) zeroRow (a .row) (omega (arith, c .last-row v, c .used-rows))
 
-  three-same : (v : Verdict) → a .verdict ≡ v → lastThree v (rowIn after (a .row)) wrote ≡ lastThree v (brokenRow a) (writing bs old a)
-  three-same holds q = refl
-  three-same broken q = ap₂ (λ (x : Row ℕ) (w : Reply ℕ). lastThree broken x w) (row-same q) (broken-writes bs rows B a e q (length old))
-  three-same full q = refl
-  three-same spent q = refl
-
   pub details-same : detailsOf bs after (length old) (answered a) ≡ answerDetails bs old a
-  details-same = ap (λ (xs : List ℕ). 0 ∷ a .joins ∷ a .used ∷ a .pass ∷ a .row ∷ xs) (three-same (a .verdict) refl)
-
-  by-verdict : (v : Verdict) → a .verdict ≡ v
-      → shownBy v (bufferAfter bs after (a .used) (a .row) old) old ≡ shownBy v (writtenBy (shown bs a) old (writing bs old a)) old
-  unfolding bufferAfter
-  by-verdict holds q = refl
-  by-verdict broken q = ap₂ (λ (w : List ℕ) (x : Reply ℕ). writtenBy w old x) (broken-word bs rows B a e q) (broken-writes bs rows B a e q (length old))
-  by-verdict full q = refl
-  by-verdict spent q = refl
+  details-same =
+      ap (λ (xs : List ℕ). 0 ∷ a .joins ∷ a .used ∷ a .pass ∷ a .row ∷ xs)
+      (if-broken-same (a .verdict) _ _ (0 ∷ 0 ∷ 0 ∷ []) (λ q. ap₂ (λ (x : Row ℕ) (w : Reply ℕ). lastThree broken x w) (row-same q) (broken-writes bs rows B a e q (length old))))
 
   pub buffer-same : shownOf bs after old (answered a) ≡ answerBuffer bs old a
-  buffer-same = by-verdict (a .verdict) refl
+  unfolding bufferAfter
+  buffer-same =
+      if-broken-same (a .verdict) _ _ old (λ q. ap₂ (λ (w : List ℕ) (x : Reply ℕ). writtenBy w old x) (broken-word bs rows B a e q) (broken-writes bs rows B a e q (length old)))
 
 -- ---- why a call is refused
 

@@ -10,15 +10,15 @@ use Rattle.language.specs.Automaton.{Accepts}
 use Rattle.plan_file.specs.Refusals.{Refusal, fault}
 use Rattle.plan_file.specs.Views.{rulesOf, automatonOf}
 use Rattle.working_order.specs.Stopping.{Stops}
-use Rattle.working_order.specs.Order.{Progress, Answer, Verdict, holds, broken, full, spent}
+use Rattle.working_order.specs.Order.{Answer, Verdict, holds, broken, full, spent}
 use Rattle.calls.specs.Base.{base}
 use Rattle.calls.specs.Checking.{journalFault, checkOf, shown}
 use Rattle.calls.specs.DemandThree.{Derivable, Counterexample, Promises}
 use Rattle.calls.specs.Promising.{from-order}
 use Rattle.calls.specs.Replies.{Reply, refused, answered}
-use Rattle.calls.specs.Writing.{writtenBy}
-use Rattle.telling.specs.Codes.{firstAnswerCode, holdsCode, brokenCode, fullCode, spentCode, verdictCode}
-use Rattle.standalone.specs.Told.{lastThree, shownBy}
+use Rattle.calls.specs.Codes.{firstAnswerCode, holdsCode, brokenCode, fullCode, spentCode, verdictCode}
+use Rattle.standalone.specs.Told.{lastThree}
+use Rattle.bolfrega.specs.BrokenLaws.{if-not-broken}
 use Rattle.bolfrega.specs.Contracts.{Refuses, ChecksZeros}
 use Rattle.bolfrega.specs.Hosts.{FilePasses, FileRefused, RowsRefused, FileTells, toldRecord, toldJoins, toldUsed, toldPass, toldRow, toldPairs, toldLength, toldRefused, Decided, Refusing, RunsOut, Verdicts, Details, Stays, CheckTells}
 use Rattle.bolfrega.specs.HostReplies.{same-verdict, verdict-high, Why, brokenRow, writing, rows-refused, refused-rows, why-refused, ToldRefusal, ToldAnswer, told-refusal, told-answer}
@@ -197,10 +197,10 @@ module _ (bs : List ℕ) (J B : ℕ) (d old new : List ℕ) (r : ℕ) (h : Check
           joins-bound = subst (λ (n : ℕ). n ≤ length (rulesOf bs) * J * J * (J + 1)) (sym (ap toldJoins (t .details))) (p .counts .joins-bound);
           no-row = λ l n. ap toldRow (t .details) ∙ p .counts .no-row (λ e. n (code broken e));
           no-run = λ n.
-              let e = t .details ∙ ap (λ (xs : List ℕ). 0 ∷ a .joins ∷ a .used ∷ a .pass ∷ a .row ∷ xs) (quiet (a .verdict) (λ e. n (code broken e))) in
+              let e = t .details ∙ ap (λ (xs : List ℕ). 0 ∷ a .joins ∷ a .used ∷ a .pass ∷ a .row ∷ xs) (if-not-broken (a .verdict) _ (0 ∷ 0 ∷ 0 ∷ []) (λ e. n (code broken e))) in
               (ap toldPairs e, ap toldLength e, ap toldRefused e);
           last-row = λ e. ap (λ (xs : List ℕ). suc (toldRow xs)) (t .details) ∙ p .counts .last-row (is broken e) ∙ sym (ap toldUsed (t .details));
-          buffer-kept = λ n. t .buffer ∙ kept (a .verdict) (λ e. n (code broken e));
+          buffer-kept = λ n. t .buffer ∙ if-not-broken (a .verdict) _ old (λ e. n (code broken e));
         }
       where
         long : (v : Verdict) → length (0 ∷ a .joins ∷ a .used ∷ a .pass ∷ a .row ∷ lastThree v (brokenRow a) (writing bs old a)) ≡ 8
@@ -208,18 +208,6 @@ module _ (bs : List ℕ) (J B : ℕ) (d old new : List ℕ) (r : ℕ) (h : Check
         long broken = refl
         long full = refl
         long spent = refl
-
-        quiet : (v : Verdict) → (v ≡ broken → ⊥) → lastThree v (brokenRow a) (writing bs old a) ≡ 0 ∷ 0 ∷ 0 ∷ []
-        quiet holds n = refl
-        quiet broken n = absurd (n refl)
-        quiet full n = refl
-        quiet spent n = refl
-
-        kept : (v : Verdict) → (v ≡ broken → ⊥) → shownBy v (writtenBy (shown bs a) old (writing bs old a)) old ≡ old
-        kept holds n = refl
-        kept broken n = absurd (n refl)
-        kept full n = refl
-        kept spent n = refl
 
     stays : Stays bs J B d old new r
     stays =

@@ -21,7 +21,7 @@ use Rattle.calls.specs.DemandThree.{Derivable, Counterexample}
 use Rattle.calls.specs.Judging.{wordFault}
 use Rattle.calls.specs.Replies.{answered}
 use Rattle.calls.specs.Writing.{longWord}
-use Rattle.telling.specs.Codes.{firstAnswerCode, holdsCode, brokenCode, fullCode, spentCode}
+use Rattle.calls.specs.Codes.{firstAnswerCode, holdsCode, brokenCode, fullCode, spentCode}
 use Rattle.bolfrega.specs.Codes.{acceptedCode, turnedAwayCode}
 use Rattle.bolfrega.specs.Contracts.{Judges, ChecksZeros}
 

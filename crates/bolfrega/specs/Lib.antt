@@ -3,6 +3,7 @@ pub mod Contracts
 pub mod Telling
 pub mod ZeroRows
 pub mod Hosts
+pub mod BrokenLaws
 pub mod HostReplies
 pub mod HostJudging
 pub mod HostShows

@@ -8,7 +8,7 @@ use Rattle.plan_file.specs.declared.Refusal.{Refusal as RefusalAnswer}
 use Rattle.calls.specs.Judging.{judgeOf, Means}
 use Rattle.acceptance.specs.declared.Judged.{Judged}
 use Rattle.acceptance.specs.Answers.{judgedOf, Judging}
-use Rattle.telling.specs.Codes.{codeBy}
+use Rattle.calls.specs.Codes.{codeBy}
 use Rattle.bolfrega.specs.Codes.{judgementCode, placeIn}
 use Rattle.bolfrega.specs.Contracts.{Refuses, Judges}
 

@@ -25,7 +25,7 @@ abbrev pub breaksBy : (ℕ → Bool) → ℕ → ℕ → Bool
 breaksBy reject x e = starts x && reject e
 
 abbrev pub baseBy : ℕ → (ℕ → ℕ) → (ℕ → Bool) → Algebra ℕ
-baseBy n letter reject = record { forms = formsBy n letter; below = contained; breaks = breaksBy reject }
+baseBy n letter reject = record { forms = formsBy n letter; below = contained; starts = starts; breaks = breaksBy reject }
 
 abbrev pub base : ℕ → Automaton → Algebra ℕ
 base n A = baseBy n (letterRelation n (A .transitions)) (rejects n (isFinal A))

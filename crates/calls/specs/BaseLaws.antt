@@ -35,6 +35,7 @@ base-by-laws n letter final =
       breaks-below = λ x d e s b.
           and-intro (starts x) (rejects n final d) (and-fst (starts x) (rejects n final e) b)
           (rejects-contained n final d e s (and-snd (starts x) (rejects n final e) b));
+      breaks-starts = λ x e b. and-fst (starts x) (rejects n final e) b;
     }
 
 pub base-laws : (n : ℕ) (A : Automaton) → Laws (base n A)

@@ -1,4 +1,5 @@
 pub mod Replies
+pub mod Codes
 pub mod ReplyLaws
 pub mod Base
 pub mod Rows

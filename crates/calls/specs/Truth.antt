@@ -10,7 +10,7 @@ use native.Mathlib.Omega.{arith}
 use lib.Dec.{eqb}
 use lib.ListN.{length}
 use borrow.Author.Tests.{eqb-true, eq-eqb}
-use Rattle.basics.specs.Tests.{and-intro, and-fst, and-snd}
+use Rattle.basics.specs.Tests.{and-intro, and-snd}
 use Rattle.relation.specs.Relation.{states, has, rejects}
 use Rattle.relation.specs.RelationLaws.{has-contained}
 use Rattle.language.specs.Grammar.{initial}
@@ -71,7 +71,7 @@ module _ (bs : List ℕ) (v : fault bs .number ≡ 0) (J B : ℕ) where
       let w = wordBehind words (rulesOf bs) (a .journal) (a .row) in
       let t = word-derived states A (rulesOf bs) (a .pass) (r .head) (r .effect) w (s .0) in
       let reject = rejects states (isFinal A) in (
-        subst (λ (x : ℕ). DerivesWithin (productionsOf bs) (a .pass) x w) (eqb-true (r .head) initial (and-fst (starts (r .head)) (reject (r .effect)) (s .1))) (t .0),
+        subst (λ (x : ℕ). DerivesWithin (productionsOf bs) (a .pass) x w) (eqb-true (r .head) initial (base-laws states A .breaks-starts (r .head) (r .effect) (s .1))) (t .0),
         turns-away states A (automaton-within bs v) w (ap reject (t .1) ∙ and-snd (starts (r .head)) (reject (r .effect)) (s .1)),
         λ h l u d. calm u (s .3 h l initial (wordRelation states (A .transitions) u) (relation-derived states A (rulesOf bs) h initial u d)),
       )

@@ -29,7 +29,7 @@ use Rattle.verdicts.specs.Contracts.{orderOf}
 use Rattle.verdicts.specs.Meanings.{answerIn, answerOf, totalsIn}
 use Rattle.verdicts.specs.Running.{Ran}
 use Rattle.verdicts.specs.declared.Answer.{Answer}
-use Rattle.verdicts.specs.declared.Answer.the-variants.{Holds, Broken, Full, Spent}
+use Rattle.verdicts.specs.declared.Answer.the-variants.{Ended, Broken}
 use Rattle.checker.specs.declared.Checked.{Checked}
 use Rattle.checker.specs.declared.Checked.the-variants as checked
 use Rattle.starting.specs.declared.Start.{Start}
@@ -43,16 +43,12 @@ use Rattle.requests.proofs.Refusals.{none-refused}
 -- ---- what an answer says of the journal
 
 answer-used : (a : Answer) (j : Journal) → answerOf a j .used ≡ totalsIn a .used
-answer-used (Holds n) j = refl
+answer-used (Ended v n) j = refl
 answer-used (Broken i n) j = refl
-answer-used (Full n) j = refl
-answer-used (Spent n) j = refl
 
 answer-journal : (a : Answer) (j : Journal) → answerOf a j .journal ≡ firstRows (totalsIn a .used) j
-answer-journal (Holds n) j = refl
+answer-journal (Ended v n) j = refl
 answer-journal (Broken i n) j = refl
-answer-journal (Full n) j = refl
-answer-journal (Spent n) j = refl
 
 -- rows used, and then those that are as they were
 front-rest : (u : ℕ) (old new : Journal) → drop u new ≡ drop u old → map rowOf new ≡ firstRows u new ++ drop u (map rowOf old)

@@ -9,7 +9,7 @@ use lib.ListN.{length, getD, take, length-append, length-take}
 use Rattle.working_order.specs.Order.{Verdict, holds, broken, full, spent}
 use Rattle.calls.specs.Printing.{bytes, lineFeed, decimal, blanked, separated, verdictWord, numbersLine, wordLine, refusedLine}
 use Rattle.page.specs.DecimalLaws.{decimal-length}
-use Rattle.telling.specs.Codes.{holdsCode, brokenCode, fullCode, spentCode}
+use Rattle.calls.specs.Codes.{holdsCode, brokenCode, fullCode, spentCode}
 use Rattle.telling.specs.declared.Told.{Told}
 use Rattle.lines.specs.Lines.{totalsLine, rowLine, runBy, runLine, brokenText, pick, toldText}
 

@@ -12,7 +12,7 @@ use Rattle.working_order.specs.Order.{holds, full, spent}
 use Rattle.calls.specs.Printing.{blankByte, lineFeed, decimal, blanked, separated, verdictWord, numbersLine, wordLine, refusedLine}
 use Rattle.page.specs.Page.{Page, put, puts}
 use Rattle.page.specs.PageLaws.{puts-one, puts-then}
-use Rattle.telling.specs.Codes.{holdsCode, brokenCode, fullCode, spentCode}
+use Rattle.calls.specs.Codes.{holdsCode, brokenCode, fullCode, spentCode}
 use Rattle.telling.specs.declared.Told.{Told}
 use Rattle.lines.specs.Lines.{totalsLine, runBy, runLine, brokenText, toldText}
 

@@ -6,7 +6,7 @@ use lib.Dec.{eqb}
 use lib.ListN.{take}
 use Rattle.working_order.specs.Order.{holds, broken, full, spent}
 use Rattle.calls.specs.Printing.{verdictWord, numbersLine, wordLine, refusedLine}
-use Rattle.telling.specs.Codes.{holdsCode, brokenCode, fullCode, spentCode}
+use Rattle.calls.specs.Codes.{holdsCode, brokenCode, fullCode, spentCode}
 use Rattle.telling.specs.declared.Told.{Told}
 
 -- line 1

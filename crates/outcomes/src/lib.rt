@@ -4,6 +4,8 @@ use deciding::Look;
 use deciding::State;
 use rows::Candidate;
 use verdicts::Outcome;
+use verdicts::Stop;
+use verdicts::Unbroken;
 ghost use mathlib.Core.Path.{_≡_};
 ghost use Rattle.rows.specs.Meanings.{candidateOf};
 ghost use Rattle.verdicts.specs.Meanings.{bornBy, decidedIn};
@@ -36,7 +38,7 @@ fn born(broken: bool, row: usize, counts: Counts) -> Outcome
     ensures { λ r. ⌜ r ≡ bornBy broken row counts ⌝ }
 {
     if broken {
-        return Outcome::Broken(row, counts);
+        return Outcome::Stopped(Stop::Broken(row, counts));
     }
     Outcome::Going(counts)
 }
@@ -54,7 +56,7 @@ pub fn decide(state: State, candidate: Candidate, look: Look) -> Outcome
         return Outcome::Going(Counts { used, joins });
     }
     if used == state.rows {
-        return Outcome::Full(Counts { used, joins });
+        return Outcome::Stopped(Stop::Ended(Unbroken::Full, Counts { used, joins }));
     }
     let more = Counts {
         used: used + 1,

@@ -6,7 +6,6 @@ use deciding::Terms;
 use rows::Candidate;
 use rows::Place;
 use semi_naive::END;
-use standing::HOLDS;
 use verdicts::Outcome;
 use verdicts::Reached;
 ghost use Rattle.verdicts.specs.Running.{MayOpen, Opens, MayGoOn, Closes, GoesFrom, GoesOn, MayAdvance, Advances};
@@ -36,7 +35,7 @@ fn close_pass(rules: &[[u8; 4]], table: &mut [u32], state: State, counts: Counts
     let terms = state.terms;
     let used = counts.used;
     if used == terms.start {
-        return standing::end_with(state, terms, counts, HOLDS, 0);
+        return standing::finish(state, terms, counts);
     }
     let next = Terms {
         budget: terms.budget,
@@ -46,7 +45,7 @@ fn close_pass(rules: &[[u8; 4]], table: &mut [u32], state: State, counts: Counts
         before: terms.start,
     };
     let at = open_pass(rules, table, state.rules, next, counts);
-    standing::stand_or_hold(state, next, at)
+    standing::stand_or_finish(state, next, at)
 }
 
 // From a place on to the first that needs work, or to the end of the pass.
@@ -99,8 +98,8 @@ pub fn advance(
 {
     outcomes::note(table, state, candidate, look);
     let outcome = outcomes::decide(state, candidate, look);
-    let Outcome::Going(counts) = outcome else {
-        return standing::stop(state, outcome);
-    };
-    go_on(rules, table, state, counts)
+    match outcome {
+        Outcome::Going(counts) => go_on(rules, table, state, counts),
+        Outcome::Stopped(stop) => standing::stop(state, stop),
+    }
 }

@@ -11,7 +11,7 @@ use Rattle.calls.specs.Replies.{Reply, answered}
 use Rattle.calls.specs.Rows.{rowOf}
 use Rattle.calls.specs.declared.Row.{Row as LentRow}
 use Rattle.covers.specs.Rows.{Journal}
-use Rattle.telling.specs.Codes.{codeBy}
+use Rattle.calls.specs.Codes.{codeBy}
 use Rattle.telling.specs.Fronts.{journalOf, restOf, placeOf}
 use Rattle.standalone.specs.Told.{answerCode, rowIn, detailsOf, shownOf}
 use Rattle.telling.specs.Telling.{numbersIn}

@@ -11,7 +11,7 @@ use Rattle.basics.specs.Lists.{getD-map}
 use Rattle.relation.specs.Relation.{states, pairs}
 use Rattle.plan_file.specs.Refusals.{refuse, fault, byNumber}
 use Rattle.plan_file.specs.Views.{rulesOf, automatonOf}
-use Rattle.working_order.specs.Journal.{Row}
+use Rattle.working_order.specs.Journal.{absent, Row}
 use Rattle.working_order.specs.Order.{Answer, Verdict, broken}
 use Rattle.working_order.specs.Truth.{SaysBy, check-says}
 use Rattle.calls.specs.Base.{base, words}
@@ -23,7 +23,10 @@ use Rattle.calls.specs.Rows.{rowOf, blank}
 use Rattle.calls.specs.Writing.{rowFault, wordOf, writeOf, writtenBy, bufferAfter}
 use Rattle.calls.specs.declared.Row.{Row as LentRow}
 use Rattle.covers.specs.Rows.{Journal}
+use Rattle.verdicts.specs.Meanings.{verdictOf}
 use Rattle.verdicts.specs.declared.Answer.the-variants as answer
+use Rattle.verdicts.specs.declared.Unbroken.the-variants as unbroken
+use Rattle.verdicts.specs.declared.Unbroken.{Unbroken}
 use Rattle.checker.specs.declared.Checked.{Checked}
 use Rattle.checker.specs.declared.Checked.the-variants as checked
 use Rattle.writer.specs.declared.Writing.{Writing}
@@ -33,7 +36,7 @@ use Rattle.checker.specs.Contracts.{Checks}
 use Rattle.writer.specs.Contracts.{Writes}
 use Rattle.telling.specs.Fronts.{frontOf, journalOf, restOf, placeOf, nameIn}
 use Rattle.telling.specs.Telling.{refusedBy, toldBy, numbersIn}
-use Rattle.standalone.specs.Told.{zeroRow, rowIn}
+use Rattle.standalone.specs.Told.{zeroRow, ifBroken, rowIn}
 use Rattle.standalone.specs.Contracts.{Tells, ChecksOver, ChecksAlone}
 use Rattle.telling.specs.declared.Named.{Named}
 use Rattle.telling.specs.declared.Told.{Told}
@@ -85,10 +88,14 @@ unwritten bs rows old = by (fault bs .number) (journalFault (length rows))
 -- no more bytes of the file are given to the writing than it has
 pub few-bytes : (c : Checked) (s : ℕ) → nameIn c s .bytes ≤ s
 few-bytes (checked.Refused r) s = omega arith
-few-bytes (checked.Answered (answer.Holds n)) s = omega arith
-few-bytes (checked.Answered (answer.Full n)) s = omega arith
-few-bytes (checked.Answered (answer.Spent n)) s = omega arith
+few-bytes (checked.Answered (answer.Ended v n)) s = omega arith
 few-bytes (checked.Answered (answer.Broken i n)) s = omega arith
+
+-- a verdict that shows no row is not broken
+unbroken-shows-none : {A : Type 0} (v : Unbroken) (x y : A) → ifBroken (verdictOf v) x y ≡ y
+unbroken-shows-none unbroken.Holds x y = refl
+unbroken-shows-none unbroken.Full x y = refl
+unbroken-shows-none unbroken.Spent x y = refl
 
 -- ---- the whole reply
 
@@ -105,9 +112,12 @@ module _ (bs : List ℕ) (B : ℕ) (before after rest : Journal) (few : length b
   tells : (c : Checked) → Checks bs B before after c → Writes (take (name c .bytes) bs) (map rowOf after) (name c .used) (name c .row) old new w
       → Tells bs (map rowOf after) (checkedOf c after) (numbersIn (tale c)) old new (tale c .code)
   tells (checked.Refused r) h v = record { code = refl; details = refl; buffer = v .buffer ∙ unwritten [] (map rowOf after) old }
-  tells (checked.Answered (answer.Holds n)) h v = record { code = refl; details = refl; buffer = v .buffer ∙ unwritten [] (map rowOf after) old }
-  tells (checked.Answered (answer.Full n)) h v = record { code = refl; details = refl; buffer = v .buffer ∙ unwritten [] (map rowOf after) old }
-  tells (checked.Answered (answer.Spent n)) h v = record { code = refl; details = refl; buffer = v .buffer ∙ unwritten [] (map rowOf after) old }
+  tells (checked.Answered (answer.Ended x n)) h v =
+      record {
+        code = refl;
+        details = ap (λ (l : List ℕ). 0 ∷ n .joins ∷ n .used ∷ n .pass ∷ absent ∷ l) (sym (unbroken-shows-none x _ (0 ∷ 0 ∷ 0 ∷ [])));
+        buffer = v .buffer ∙ unwritten [] (map rowOf after) old ∙ sym (unbroken-shows-none x _ old);
+      }
   tells (checked.Answered (answer.Broken i n)) h u =
       let v = subst (λ (xs : List ℕ). Writes xs (map rowOf after) (n .used) i old new w) (take-length bs) u in
       let lt = broken-used bs (length before) B _ (sym (h .answer)) refl in
@@ -136,10 +146,8 @@ module _ (bs : List ℕ) (B : ℕ) (before after rest : Journal) (few : length b
 -- the row that was asked for is told
 shown-told : (c : Checked) (x y : LentRow) (f : ℕ) → toldBy c x y f .shown ≡ y
 shown-told (checked.Refused r) x y f = refl
-shown-told (checked.Answered (answer.Holds n)) x y f = refl
+shown-told (checked.Answered (answer.Ended v n)) x y f = refl
 shown-told (checked.Answered (answer.Broken i n)) x y f = refl
-shown-told (checked.Answered (answer.Full n)) x y f = refl
-shown-told (checked.Answered (answer.Spent n)) x y f = refl
 
 -- ---- as the code has it all in hand
 

@@ -7,12 +7,19 @@ use Rattle.working_order.specs.Journal.{Row}
 use Rattle.working_order.specs.Order.{Answer, Verdict, holds, broken, full, spent}
 use Rattle.calls.specs.Replies.{Reply, refused, answered}
 use Rattle.calls.specs.Writing.{writeOf, bufferAfter}
-use Rattle.telling.specs.Codes.{verdictCode}
+use Rattle.calls.specs.Codes.{verdictCode}
 use Rattle.telling.specs.Telling.{refusedBy}
 
 -- what is read past the end of a journal: a row of zeros
 abbrev pub zeroRow : Row ℕ
 zeroRow = record { head = 0; rule = 0; effect = 0; left = 0; right = 0; len = 0; birth = 0; retired = 0 }
+
+-- one thing where the verdict is broken, and another where it is not
+abbrev pub ifBroken : {A : Type 0} → Verdict → A → A → A
+ifBroken broken x y = x
+ifBroken holds x y = y
+ifBroken full x y = y
+ifBroken spent x y = y
 
 -- ---- the result
 
@@ -27,10 +34,7 @@ rowIn rows i = getD rows i zeroRow
 
 -- the last three, of the row and of writing its run; 0 unless broken
 abbrev pub lastThree : Verdict → Row ℕ → Reply ℕ → List ℕ
-lastThree broken r w = pairs states (r .effect) ∷ r .len ∷ refusedBy w ∷ []
-lastThree holds r w = 0 ∷ 0 ∷ 0 ∷ []
-lastThree full r w = 0 ∷ 0 ∷ 0 ∷ []
-lastThree spent r w = 0 ∷ 0 ∷ 0 ∷ []
+lastThree v r w = ifBroken v (pairs states (r .effect) ∷ r .len ∷ refusedBy w ∷ []) (0 ∷ 0 ∷ 0 ∷ [])
 
 -- of the file bs, with the journal's rows after the check and a buffer of so many bytes
 abbrev pub detailsOf : List ℕ → List (Row ℕ) → ℕ → Reply (Answer ℕ) → List ℕ
@@ -42,10 +46,7 @@ detailsOf bs rows room (answered a) =
 
 -- a broken answer has the run behind its row written; no other changes the buffer
 abbrev pub shownBy : Verdict → List ℕ → List ℕ → List ℕ
-shownBy broken written old = written
-shownBy holds written old = old
-shownBy full written old = old
-shownBy spent written old = old
+shownBy v written old = ifBroken v written old
 
 abbrev pub shownOf : List ℕ → List (Row ℕ) → List ℕ → Reply (Answer ℕ) → List ℕ
 shownOf bs rows old (refused r) = old

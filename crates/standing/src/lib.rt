@@ -4,21 +4,28 @@ use deciding::State;
 use deciding::Terms;
 use rows::Place;
 use verdicts::Answer;
-use verdicts::Outcome;
+use verdicts::BROKEN;
+use verdicts::FULL;
+use verdicts::HOLDS;
 use verdicts::Reached;
+use verdicts::SPENT;
+use verdicts::Stop;
 use verdicts::Totals;
+use verdicts::Unbroken;
 ghost use mathlib.Core.Path.{_≡_};
-ghost use Rattle.verdicts.specs.Meanings.{totalsOf, answerIn};
-ghost use Rattle.verdicts.specs.States.{ended, standing, opening, stoppedIn};
+ghost use Rattle.verdicts.specs.Meanings.{totalsOf, codeOf, unbrokenAt, answerIn};
+ghost use Rattle.verdicts.specs.States.{ended, standing, finished, opening, stoppedIn};
 
-// Verdicts of a search that has ended.
-pub const HOLDS: u8 = 1;
-
-const BROKEN: u8 = 2;
-
-const FULL: u8 = 3;
-
-const SPENT: u8 = 4;
+// The number of a verdict that shows no row.
+pub fn code_of(unbroken: Unbroken) -> u8
+    ensures { λ r. ⌜ r ≡ codeOf unbroken ⌝ }
+{
+    match unbroken {
+        Unbroken::Holds => HOLDS,
+        Unbroken::Full => FULL,
+        Unbroken::Spent => SPENT,
+    }
+}
 
 // At the end, with a verdict.
 pub fn end_with(state: State, terms: Terms, counts: Counts, verdict: u8, broken: usize) -> State
@@ -67,8 +74,15 @@ pub fn stand_at(state: State, terms: Terms, counts: Counts, place: Place) -> Sta
     }
 }
 
+// After a pass that has added no row: the only place where the end of a check is decided.
+pub fn finish(state: State, terms: Terms, counts: Counts) -> State
+    ensures { λ r. ⌜ r ≡ finished state terms counts ⌝ }
+{
+    end_with(state, terms, counts, HOLDS, 0)
+}
+
 // At the first place of a pass that needs work. Past the last rule there is none: the pass adds no row.
-pub fn stand_or_hold(state: State, terms: Terms, at: Reached) -> State
+pub fn stand_or_finish(state: State, terms: Terms, at: Reached) -> State
     ensures { λ r. ⌜ r ≡ opening state terms at ⌝ }
 {
     let counts = at.counts;
@@ -76,19 +90,17 @@ pub fn stand_or_hold(state: State, terms: Terms, at: Reached) -> State
     if place.rule < state.rules {
         return stand_at(state, terms, counts, place);
     }
-    end_with(state, terms, counts, HOLDS, 0)
+    finish(state, terms, counts)
 }
 
-// The search has stopped.
-pub fn stop(state: State, outcome: Outcome) -> State
-    ensures { λ r. ⌜ r ≡ stoppedIn state outcome ⌝ }
+// The search has stopped at a candidate.
+pub fn stop(state: State, stop: Stop) -> State
+    ensures { λ r. ⌜ r ≡ stoppedIn state stop ⌝ }
 {
     let terms = state.terms;
-    match outcome {
-        Outcome::Going(counts) => end_with(state, terms, counts, HOLDS, 0),
-        Outcome::Spent(counts) => end_with(state, terms, counts, SPENT, 0),
-        Outcome::Full(counts) => end_with(state, terms, counts, FULL, 0),
-        Outcome::Broken(row, counts) => end_with(state, terms, counts, BROKEN, row),
+    match stop {
+        Stop::Ended(unbroken, counts) => end_with(state, terms, counts, code_of(unbroken), 0),
+        Stop::Broken(row, counts) => end_with(state, terms, counts, BROKEN, row),
     }
 }
 
@@ -106,15 +118,26 @@ fn sum_up(state: State) -> Totals
     }
 }
 
+// The verdict other than broken that has this number.
+fn unbroken_of(code: u8) -> Unbroken
+    ensures { λ r. ⌜ r ≡ unbrokenAt code ⌝ }
+{
+    if code == HOLDS {
+        return Unbroken::Holds;
+    }
+    if code == FULL {
+        return Unbroken::Full;
+    }
+    Unbroken::Spent
+}
+
 // The answer of a search that has ended.
 pub fn answer_of(state: State) -> Answer
     ensures { λ r. ⌜ r ≡ answerIn state ⌝ }
 {
-    let verdict = state.verdict;
-    match verdict {
-        1 => Answer::Holds(sum_up(state)),
-        2 => Answer::Broken(state.broken, sum_up(state)),
-        3 => Answer::Full(sum_up(state)),
-        _ => Answer::Spent(sum_up(state)),
+    let totals = sum_up(state);
+    if state.verdict == BROKEN {
+        return Answer::Broken(state.broken, totals);
     }
+    Answer::Ended(unbroken_of(state.verdict), totals)
 }

@@ -71,6 +71,6 @@ pub fn prepare(
     let at = passes::open_pass(&rules[..], table, n, terms, before.counts);
     Start {
         refusal: fault,
-        state: standing::stand_or_hold(before, terms, at),
+        state: standing::stand_or_finish(before, terms, at),
     }
 }

@@ -35,10 +35,8 @@ abbrev pub unnamed : Named
 unnamed = record { used = 0; row = 0; bytes = 0 }
 
 abbrev pub nameOf : Answer → ℕ → Named
-nameOf (answer.Holds n) s = unnamed
+nameOf (answer.Ended v n) s = unnamed
 nameOf (answer.Broken i n) s = record { used = n .used; row = i; bytes = s }
-nameOf (answer.Full n) s = unnamed
-nameOf (answer.Spent n) s = unnamed
 
 abbrev pub nameIn : Checked → ℕ → Named
 nameIn (checked.Refused r) s = unnamed

@@ -1,4 +1,3 @@
-pub mod Codes
 pub mod Fronts
 pub mod Telling
 pub mod LowNumbers

@@ -17,7 +17,7 @@ use Rattle.plan_file.specs.Refusals.{Refusal, refuse, orNext, firstHolding, rec
 use Rattle.calls.specs.Checking.{journalLimit, journalFault, checkOf}
 use Rattle.calls.specs.Judging.{wordLimit, wordFault, judgeOf}
 use Rattle.calls.specs.Replies.{Reply, refused, answered, unless}
-use Rattle.telling.specs.Codes.{firstAnswerCode}
+use Rattle.calls.specs.Codes.{firstAnswerCode}
 
 -- ---- a file
 

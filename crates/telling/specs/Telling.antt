@@ -4,14 +4,15 @@ use Prim.Native.Nat.{ℕ}
 use Rattle.relation.specs.Relation.{states, pairs}
 use Rattle.relation.specs.Representation.{value}
 use Rattle.working_order.specs.Journal.{absent}
+use Rattle.calls.specs.Codes.{brokenCode, codeBy}
 use Rattle.calls.specs.Replies.{Reply}
 use Rattle.calls.specs.declared.Row.{Row}
+use Rattle.verdicts.specs.Meanings.{codeOf}
 use Rattle.verdicts.specs.declared.Answer.{Answer}
 use Rattle.verdicts.specs.declared.Answer.the-variants as answer
 use Rattle.verdicts.specs.declared.Totals.{Totals}
 use Rattle.checker.specs.declared.Checked.{Checked}
 use Rattle.checker.specs.declared.Checked.the-variants as checked
-use Rattle.telling.specs.Codes.{holdsCode, brokenCode, fullCode, spentCode, codeBy}
 use Rattle.telling.specs.declared.Told.{Told}
 
 -- what refuses to write the run, or 0
@@ -29,10 +30,8 @@ brokenBy i n x y f =
     record { code = brokenCode; place = 0; joins = n .joins; used = n .used; pass = n .pass; row = i; pairs = pairs states (value (x .relation)); length = x .len; refused = f; shown = y }
 
 abbrev pub toldOf : Answer → Row → Row → ℕ → Told
-toldOf (answer.Holds n) x y f = unbrokenBy holdsCode n y
+toldOf (answer.Ended v n) x y f = unbrokenBy (codeOf v) n y
 toldOf (answer.Broken i n) x y f = brokenBy i n x y f
-toldOf (answer.Full n) x y f = unbrokenBy fullCode n y
-toldOf (answer.Spent n) x y f = unbrokenBy spentCode n y
 
 abbrev pub toldBy : Checked → Row → Row → ℕ → Told
 toldBy (checked.Refused r) x y f =

@@ -12,13 +12,14 @@ ghost use Rattle.writer.specs.Answers.{writingOf};
 ghost use Rattle.telling.specs.Fronts.{frontOf, placeOf, nameOf, nameIn};
 ghost use Rattle.telling.specs.Telling.{refusedBy, unbrokenBy, brokenBy, toldOf, toldBy};
 
-pub const HOLDS: u64 = 100;
+// The numbers of the verdicts, as wide as those of the refusals.
+pub const HOLDS: u64 = verdicts::HOLDS as u64;
 
-pub const BROKEN: u64 = 101;
+pub const BROKEN: u64 = verdicts::BROKEN as u64;
 
-pub const FULL: u64 = 102;
+pub const FULL: u64 = verdicts::FULL as u64;
 
-pub const SPENT: u64 = 103;
+pub const SPENT: u64 = verdicts::SPENT as u64;
 
 // A row number that names no row.
 const ABSENT: u64 = 65535;
@@ -94,17 +95,7 @@ fn named_by(answer: Answer, size: usize) -> Named
     ensures { λ r. ⌜ r ≡ nameOf answer size ⌝ }
 {
     match answer {
-        Answer::Holds(_) => Named {
-            used: 0,
-            row: 0,
-            bytes: 0,
-        },
-        Answer::Full(_) => Named {
-            used: 0,
-            row: 0,
-            bytes: 0,
-        },
-        Answer::Spent(_) => Named {
+        Answer::Ended(_, _) => Named {
             used: 0,
             row: 0,
             bytes: 0,
@@ -183,9 +174,11 @@ fn tell_answer(answer: Answer, row: Row, shown: Row, writing: Writing) -> Told
     ensures { λ r. ⌜ r ≡ toldOf answer row shown (refusedBy (writingOf writing)) ⌝ }
 {
     match answer {
-        Answer::Holds(totals) => tell_unbroken(HOLDS, totals, shown),
-        Answer::Full(totals) => tell_unbroken(FULL, totals, shown),
-        Answer::Spent(totals) => tell_unbroken(SPENT, totals, shown),
+        Answer::Ended(unbroken, totals) => tell_unbroken(
+            standing::code_of(unbroken) as u64,
+            totals,
+            shown,
+        ),
         Answer::Broken(i, totals) => tell_broken(i, totals, row, shown, writing),
     }
 }

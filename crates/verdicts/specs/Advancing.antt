@@ -34,7 +34,7 @@ use Rattle.deciding.specs.declared.State.{State}
 use Rattle.deciding.specs.declared.Terms.{Terms}
 use Rattle.verdicts.specs.Contracts.{Answers, Checked}
 use Rattle.verdicts.specs.Deciding.{answers-dropped, answers-full, answers-new}
-use Rattle.verdicts.specs.Meanings.{progressOf, countsIn, bornBy, fullBy, decidedBy, decidedIn, totalsOf, answerIn}
+use Rattle.verdicts.specs.Meanings.{progressOf, countsIn, bornBy, fullBy, decidedBy, decidedIn, totalsOf, answerTo, codeOf, answerAt, answerIn}
 use Rattle.verdicts.specs.Running.{target, Goes, Stands, Running, Considered, MayAdvance, Notes, GoesOn, GoesOnOver, Onward, candidatesLeft}
 use Rattle.verdicts.specs.RunLaws.{counted, started, stands-on, goes-on, sized, used-fits, limit}
 use Rattle.verdicts.specs.RunningLaws.{stops}
@@ -45,13 +45,26 @@ use Rattle.verdicts.specs.Walks.{considerIn, passIn}
 use Rattle.verdicts.specs.declared.Answer.the-variants as answer
 use Rattle.verdicts.specs.declared.Outcome.the-variants as outcome
 use Rattle.verdicts.specs.declared.Outcome.{Outcome}
+use Rattle.verdicts.specs.declared.Stop.the-variants as stop
+use Rattle.verdicts.specs.declared.Stop.{Stop}
+use Rattle.verdicts.specs.declared.Totals.{Totals}
+use Rattle.verdicts.specs.declared.Unbroken.the-variants as unbroken
+use Rattle.verdicts.specs.declared.Unbroken.{Unbroken}
 
--- an outcome after which nothing is considered
-abbrev pub Stops : Outcome → Type 0
-Stops (outcome.Going w) = ⊥
-Stops (outcome.Spent w) = Unit {0}
-Stops (outcome.Full w) = Unit {0}
-Stops (outcome.Broken i w) = Unit {0}
+-- a verdict's number gives the verdict back
+unbroken-back : (v : Unbroken) (n : Totals) → answerAt (codeOf v) 0 n ≡ answer.Ended v n
+unbroken-back unbroken.Holds n = refl
+unbroken-back unbroken.Full n = refl
+unbroken-back unbroken.Spent n = refl
+
+stopped-answer : (s : State) (p : Stop) → answerIn (stoppedIn s p) ≡ answerTo (s .terms .pass) p
+stopped-answer s (stop.Ended v w) = unbroken-back v (totalsOf w (s .terms .pass))
+stopped-answer s (stop.Broken i w) = refl
+
+-- nothing is considered after it
+stop-ends : (p : Stop) → Ends (outcome.Stopped p)
+stop-ends (stop.Ended v w) = λ j K. refl
+stop-ends (stop.Broken i w) = λ j K. refl
 
 module _ {letters : List ℕ} {rules : List (List ℕ)} {start : State} {j₀ : Journal} {s : State} {c : Candidate} {l : Look} {j : Journal} {t : List ℕ} (x : Considered letters rules start j₀ s c l j t) where
   abbrev u : ℕ
@@ -179,17 +192,10 @@ module _ {letters : List ℕ} {rules : List (List ℕ)} {start : State} {j₀ : 
   size-first : length j ≡ length (go .journal)
   size-first = x .settled .size ∙ go .in-pass .left .same
 
-  pub stopped-checked : (o : Outcome) → Stops o → Right o → Checked (target letters (counted (x .running) (x .going)) (start .terms .finals) (start .terms .budget) j₀) j₀ j (answerIn (stoppedIn s o))
-  stopped-checked (outcome.Going w) z a = absurd z
-  stopped-checked (outcome.Spent w) z a =
-      subst (λ (k : ℕ). Checked (target letters (counted (x .running) (x .going)) (start .terms .finals) (start .terms .budget) j₀) j₀ j (answer.Spent (totalsOf w k))) (sym pass-is)
-      (stops letters (counted (x .running) (x .going)) (start .terms .finals) (start .terms .budget) j₀ s (stands-on (x .running) (x .going) .rows) (stands-on (x .running) (x .going) .count) (go .begun .at-pass) (go .begun .before) size-first (outcome.Spent w) (stopped-right (outcome.Spent w) (λ i K. refl) a) refl)
-  stopped-checked (outcome.Full w) z a =
-      subst (λ (k : ℕ). Checked (target letters (counted (x .running) (x .going)) (start .terms .finals) (start .terms .budget) j₀) j₀ j (answer.Full (totalsOf w k))) (sym pass-is)
-      (stops letters (counted (x .running) (x .going)) (start .terms .finals) (start .terms .budget) j₀ s (stands-on (x .running) (x .going) .rows) (stands-on (x .running) (x .going) .count) (go .begun .at-pass) (go .begun .before) size-first (outcome.Full w) (stopped-right (outcome.Full w) (λ i K. refl) a) refl)
-  stopped-checked (outcome.Broken i w) z a =
-      subst (λ (k : ℕ). Checked (target letters (counted (x .running) (x .going)) (start .terms .finals) (start .terms .budget) j₀) j₀ j (answer.Broken i (totalsOf w k))) (sym pass-is)
-      (stops letters (counted (x .running) (x .going)) (start .terms .finals) (start .terms .budget) j₀ s (stands-on (x .running) (x .going) .rows) (stands-on (x .running) (x .going) .count) (go .begun .at-pass) (go .begun .before) size-first (outcome.Broken i w) (stopped-right (outcome.Broken i w) (λ m K. refl) a) refl)
+  pub stopped-checked : (p : Stop) → Right (outcome.Stopped p) → Checked (target letters (counted (x .running) (x .going)) (start .terms .finals) (start .terms .budget) j₀) j₀ j (answerIn (stoppedIn s p))
+  stopped-checked p a =
+      subst (Checked (target letters (counted (x .running) (x .going)) (start .terms .finals) (start .terms .budget) j₀) j₀ j) (ap (λ (k : ℕ). answerTo k p) (sym pass-is) ∙ sym (stopped-answer s p))
+      (stops letters (counted (x .running) (x .going)) (start .terms .finals) (start .terms .budget) j₀ s (stands-on (x .running) (x .going) .rows) (stands-on (x .running) (x .going) .count) (go .begun .at-pass) (go .begun .before) size-first (outcome.Stopped p) (stopped-right (outcome.Stopped p) (stop-ends p) a) refl)
 
   -- ---- the search stands on
 
@@ -204,35 +210,27 @@ module _ {letters : List ℕ} {rules : List (List ℕ)} {start : State} {j₀ : 
   left-is true y n = refl
   left-is false y n = absurd y
 
-  pub stopped-running : (o : Outcome) → Stops o → Right o → (t′ : List ℕ) → Running letters rules start j₀ (stoppedIn s o) j t′ × (candidatesLeft (stoppedIn s o) < candidatesLeft s)
-  stopped-running o z a t′ = (
-    resumes (record { size = x .settled .size ∙ stands-on (x .running) (x .going) .size; rows = rows-of o; count = count-of o; goes = λ y. absurd (ended-so o y); ends = λ _. stopped-checked o z a }),
-    subst (λ (n : ℕ). candidatesLeft (stoppedIn s o) < n) (sym (left-is (s .going) (x .going) (s .terms .budget - s .counts .joins))) (none-left o),
+  pub stopped-running : (p : Stop) → Right (outcome.Stopped p) → (t′ : List ℕ) → Running letters rules start j₀ (stoppedIn s p) j t′ × (candidatesLeft (stoppedIn s p) < candidatesLeft s)
+  stopped-running p a t′ = (
+    resumes (record { size = x .settled .size ∙ stands-on (x .running) (x .going) .size; rows = rows-of p; count = count-of p; goes = λ y. absurd (ended-so p y); ends = λ _. stopped-checked p a }),
+    subst (λ (n : ℕ). candidatesLeft (stoppedIn s p) < n) (sym (left-is (s .going) (x .going) (s .terms .budget - s .counts .joins))) (none-left p),
   )
     where
-      rows-of : (o : Outcome) → stoppedIn s o .rows ≡ length j₀
-      rows-of (outcome.Going w) = stands-on (x .running) (x .going) .rows
-      rows-of (outcome.Spent w) = stands-on (x .running) (x .going) .rows
-      rows-of (outcome.Full w) = stands-on (x .running) (x .going) .rows
-      rows-of (outcome.Broken i w) = stands-on (x .running) (x .going) .rows
+      rows-of : (p : Stop) → stoppedIn s p .rows ≡ length j₀
+      rows-of (stop.Ended v w) = stands-on (x .running) (x .going) .rows
+      rows-of (stop.Broken i w) = stands-on (x .running) (x .going) .rows
 
-      count-of : (o : Outcome) → stoppedIn s o .rules ≡ length (counted (x .running) (x .going))
-      count-of (outcome.Going w) = stands-on (x .running) (x .going) .count
-      count-of (outcome.Spent w) = stands-on (x .running) (x .going) .count
-      count-of (outcome.Full w) = stands-on (x .running) (x .going) .count
-      count-of (outcome.Broken i w) = stands-on (x .running) (x .going) .count
+      count-of : (p : Stop) → stoppedIn s p .rules ≡ length (counted (x .running) (x .going))
+      count-of (stop.Ended v w) = stands-on (x .running) (x .going) .count
+      count-of (stop.Broken i w) = stands-on (x .running) (x .going) .count
 
-      ended-so : (o : Outcome) → T (stoppedIn s o .going) → ⊥
-      ended-so (outcome.Going w) y = y
-      ended-so (outcome.Spent w) y = y
-      ended-so (outcome.Full w) y = y
-      ended-so (outcome.Broken i w) y = y
+      ended-so : (p : Stop) → T (stoppedIn s p .going) → ⊥
+      ended-so (stop.Ended v w) y = y
+      ended-so (stop.Broken i w) y = y
 
-      none-left : (o : Outcome) → candidatesLeft (stoppedIn s o) < suc (s .terms .budget - s .counts .joins)
-      none-left (outcome.Going w) = omega arith
-      none-left (outcome.Spent w) = omega arith
-      none-left (outcome.Full w) = omega arith
-      none-left (outcome.Broken i w) = omega arith
+      none-left : (p : Stop) → candidatesLeft (stoppedIn s p) < suc (s .terms .budget - s .counts .joins)
+      none-left (stop.Ended v w) = omega arith
+      none-left (stop.Broken i w) = omega arith
 
   -- ---- and goes on
 

@@ -7,16 +7,19 @@ use lib.Dec.{eqb}
 use lib.ListN.{length}
 use borrow.Author.Tests.{eqb-false}
 use Rattle.working_order.specs.Journal.{absent}
-use Rattle.working_order.specs.Order.{Verdict, holds, broken, full, spent, answer as answerTo, closeBy, close}
+use Rattle.working_order.specs.Order.{Verdict, holds, broken, answer as answerWith, closeBy, close}
+use Rattle.calls.specs.Base.{starts}
 use Rattle.rows.specs.Base as order
 use Rattle.covers.specs.Rows.{Journal, firstRows}
-use Rattle.verdicts.specs.Meanings.{progressOf, outcomeOf, countsIn, totalsOf, answerBy, answerOf, totalsIn}
+use Rattle.verdicts.specs.Meanings.{progressOf, verdictOf, outcomeOf, countsIn, totalsOf, answerBy, answerOf, totalsIn, answerTo}
 use Rattle.covers.specs.RowLaws.{rows-length}
 use Rattle.verdicts.specs.declared.Answer.the-variants as answer
 use Rattle.verdicts.specs.declared.Answer.{Answer}
 use Rattle.deciding.specs.declared.Counts.{Counts}
 use Rattle.verdicts.specs.declared.Outcome.the-variants as outcome
 use Rattle.verdicts.specs.declared.Outcome.{Outcome}
+use Rattle.verdicts.specs.declared.Stop.the-variants as stop
+use Rattle.verdicts.specs.declared.Unbroken.the-variants as unbroken
 
 -- a pass is followed by another, or by the answer
 pub data PassEnd : Type 0 where
@@ -24,15 +27,13 @@ pub data PassEnd : Type 0 where
   Done : Answer → PassEnd
 
 abbrev pub endBy : Bool → Counts → ℕ → PassEnd
-endBy true w k = Done (answer.Holds (totalsOf w k))
+endBy true w k = Done (answer.Ended unbroken.Holds (totalsOf w k))
 endBy false w k = Again w
 
 -- the end of pass k, which began with u rows
 abbrev pub endOf : ℕ → ℕ → Outcome → PassEnd
 endOf u k (outcome.Going w) = endBy (eqb (w .used) u) w k
-endOf u k (outcome.Spent w) = Done (answer.Spent (totalsOf w k))
-endOf u k (outcome.Full w) = Done (answer.Full (totalsOf w k))
-endOf u k (outcome.Broken i w) = Done (answer.Broken i (totalsOf w k))
+endOf u k (outcome.Stopped x) = Done (answerTo k x)
 
 -- the answer of a pass that ends so, where N is the rest of the check
 abbrev pub endAnswer : PassEnd → Journal → (order.Progress → order.Answer) → order.Answer
@@ -44,25 +45,23 @@ endUsed (Again w) = w .used
 endUsed (Done a) = totalsIn a .used
 
 module _ (u k : ℕ) (j : Journal) (N : order.Progress → order.Answer) where
-  answer-given : (v : Verdict) (i : ℕ) (w : Counts) → w .used ≤ length j → answerBy v i (totalsOf w k) j ≡ answerTo v k i (progressOf w j)
-  unfolding answerTo
+  answer-given : (v : Verdict) (i : ℕ) (w : Counts) → w .used ≤ length j → answerBy v i (totalsOf w k) j ≡ answerWith v k i (progressOf w j)
+  unfolding answerWith
   answer-given v i w h = ap (λ (n : ℕ). record { verdict = v; joins = w .joins; used = n; pass = k; row = i; journal = firstRows (w .used) j }) (sym (rows-length (w .used) j h))
 
-  pub close-end : (r : Outcome) → countsIn r .used ≤ length j → endAnswer (endOf u k r) j N ≡ close k u N (outcomeOf r j)
-  close-end (outcome.Spent w) h = answer-given spent absent w h
-  close-end (outcome.Full w) h = answer-given full absent w h
-  close-end (outcome.Broken i w) h = answer-given broken i w h
+  pub close-end : (r : Outcome) → countsIn r .used ≤ length j → endAnswer (endOf u k r) j N ≡ close starts k u N (outcomeOf r j)
+  close-end (outcome.Stopped (stop.Ended v w)) h = answer-given (verdictOf v) absent w h
+  close-end (outcome.Stopped (stop.Broken i w)) h = answer-given broken i w h
   close-end (outcome.Going w) h =
-      split (eqb (w .used) u) ∙ ap (λ (n : ℕ). closeBy (eqb n u) k N (progressOf w j)) (sym (rows-length (w .used) j h))
+      split (eqb (w .used) u) ∙ ap (λ (n : ℕ). closeBy starts (eqb n u) k N (progressOf w j)) (sym (rows-length (w .used) j h))
     where
-      split : (b : Bool) → endAnswer (endBy b w k) j N ≡ closeBy b k N (progressOf w j)
+      split : (b : Bool) → endAnswer (endBy b w k) j N ≡ closeBy starts b k N (progressOf w j)
       split true = answer-given holds absent w h
       split false = refl
 
 pub close-used : (u k : ℕ) (r : Outcome) → endUsed (endOf u k r) ≡ countsIn r .used
-close-used u k (outcome.Spent w) = refl
-close-used u k (outcome.Full w) = refl
-close-used u k (outcome.Broken i w) = refl
+close-used u k (outcome.Stopped (stop.Ended v w)) = refl
+close-used u k (outcome.Stopped (stop.Broken i w)) = refl
 close-used u k (outcome.Going w) = split (eqb (w .used) u)
   where
     split : (b : Bool) → endUsed (endBy b w k) ≡ w .used
@@ -73,9 +72,7 @@ done-again : {w : Counts} {a : Answer} → Again w ≡ Done a → ⊥
 done-again e = let z : _≡_ {A = ℕ} 0 1 = cc in omega arith
 
 pub again-going : (u k : ℕ) (r : Outcome) (w′ : Counts) → endOf u k r ≡ Again w′ → (r ≡ outcome.Going w′) × (w′ .used ≡ u → ⊥)
-again-going u k (outcome.Spent w) w′ e = absurd (done-again (sym e))
-again-going u k (outcome.Full w) w′ e = absurd (done-again (sym e))
-again-going u k (outcome.Broken i w) w′ e = absurd (done-again (sym e))
+again-going u k (outcome.Stopped x) w′ e = absurd (done-again (sym e))
 again-going u k (outcome.Going w) w′ e = split (eqb (w .used) u) refl e
   where
     split : (b : Bool) → eqb (w .used) u ≡ b → endBy b w k ≡ Again w′ → (outcome.Going w ≡ outcome.Going w′) × (w′ .used ≡ u → ⊥)

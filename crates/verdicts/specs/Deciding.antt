@@ -18,7 +18,9 @@ use Rattle.verdicts.specs.Walks.{considerIn}
 use Rattle.verdicts.specs.Contracts.{Answers}
 use Rattle.covers.specs.RowLaws.{rows-length}
 use Rattle.deciding.specs.declared.Counts.{Counts}
-use Rattle.verdicts.specs.declared.Outcome.the-variants.{Going, Spent, Full}
+use Rattle.verdicts.specs.declared.Outcome.the-variants.{Going, Stopped}
+use Rattle.verdicts.specs.declared.Stop.the-variants.{Ended}
+use Rattle.verdicts.specs.declared.Unbroken.the-variants.{Full, Spent}
 use Rattle.deciding.specs.declared.Terms.{Terms}
 
 module _ (t : Terms) (c : Candidate) (w : Counts) (j : Journal) (hu : w .used ≤ length j) (hb : w .joins ≤ t .budget) where
@@ -37,7 +39,7 @@ module _ (t : Terms) (c : Candidate) (w : Counts) (j : Journal) (hu : w .used �
   one-more : (l : List Row) → _≡_ {A = Progress} (record { rows = l; joins = w .joins + 1 }) (record { rows = l; joins = suc (w .joins) })
   one-more l = ap {B = Progress} (λ (n : ℕ). record { rows = l; joins = n }) (add-one (w .joins))
 
-  pub answers-spent : w .joins ≡ t .budget → Answers (t .budget) given w j j (Spent w)
+  pub answers-spent : w .joins ≡ t .budget → Answers (t .budget) given w j j (Stopped (Ended Spent w))
   unfolding decide
   answers-spent p =
       record {
@@ -61,7 +63,7 @@ module _ (t : Terms) (c : Candidate) (w : Counts) (j : Journal) (hu : w .used �
         }
 
     module _ (q : dropped contained c rs ≡ false) where
-      pub answers-full : w .used ≡ length j → Answers (t .budget) given w j j (Full (record { used = w .used; joins = w .joins + 1 }))
+      pub answers-full : w .used ≡ length j → Answers (t .budget) given w j j (Stopped (Ended Full (record { used = w .used; joins = w .joins + 1 })))
       unfolding decide
       answers-full e =
           record {

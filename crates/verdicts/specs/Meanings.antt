@@ -4,6 +4,7 @@ use Prim.Native.Nat.{ℕ, _+_}
 use lib.Dec.{eqb}
 use Rattle.working_order.specs.Journal.{absent}
 use Rattle.working_order.specs.Order.{Verdict, holds, broken, full, spent, going, stopped}
+use Rattle.calls.specs.Codes.{holdsCode, brokenCode, fullCode, verdictCode}
 use Rattle.rows.specs.Base as order
 use Rattle.covers.specs.Rows.{Journal, firstRows}
 use Rattle.deciding.specs.declared.Counts.{Counts}
@@ -12,32 +13,46 @@ use Rattle.verdicts.specs.declared.Answer.the-variants as answer
 use Rattle.verdicts.specs.declared.Answer.{Answer}
 use Rattle.verdicts.specs.declared.Outcome.the-variants as outcome
 use Rattle.verdicts.specs.declared.Outcome.{Outcome}
+use Rattle.verdicts.specs.declared.Stop.the-variants as stop
+use Rattle.verdicts.specs.declared.Stop.{Stop}
 use Rattle.verdicts.specs.declared.Totals.{Totals}
+use Rattle.verdicts.specs.declared.Unbroken.the-variants as unbroken
+use Rattle.verdicts.specs.declared.Unbroken.{Unbroken}
 
 abbrev pub progressOf : Counts → Journal → order.Progress
 progressOf w j = record { rows = firstRows (w .used) j; joins = w .joins }
 
+abbrev pub verdictOf : Unbroken → Verdict
+verdictOf unbroken.Holds = holds
+verdictOf unbroken.Full = full
+verdictOf unbroken.Spent = spent
+
+-- its row is absent unless broken
+abbrev pub stopOf : Stop → Journal → order.Outcome
+stopOf (stop.Ended v w) j = stopped (verdictOf v) absent (progressOf w j)
+stopOf (stop.Broken i w) j = stopped broken i (progressOf w j)
+
 abbrev pub outcomeOf : Outcome → Journal → order.Outcome
 outcomeOf (outcome.Going w) j = going (progressOf w j)
-outcomeOf (outcome.Spent w) j = stopped spent absent (progressOf w j)
-outcomeOf (outcome.Full w) j = stopped full absent (progressOf w j)
-outcomeOf (outcome.Broken i w) j = stopped broken i (progressOf w j)
+outcomeOf (outcome.Stopped x) j = stopOf x j
+
+abbrev pub countsAt : Stop → Counts
+countsAt (stop.Ended v w) = w
+countsAt (stop.Broken i w) = w
 
 abbrev pub countsIn : Outcome → Counts
 countsIn (outcome.Going w) = w
-countsIn (outcome.Spent w) = w
-countsIn (outcome.Full w) = w
-countsIn (outcome.Broken i w) = w
+countsIn (outcome.Stopped x) = countsAt x
 
 -- ---- one candidate
 
 -- a new row, whether it breaks or not
 abbrev pub bornBy : Bool → ℕ → Counts → Outcome
-bornBy true i w = outcome.Broken i w
+bornBy true i w = outcome.Stopped (stop.Broken i w)
 bornBy false i w = outcome.Going w
 
 abbrev pub fullBy : Bool → Bool → ℕ → ℕ → Outcome
-fullBy true b u n = outcome.Full (record { used = u; joins = n })
+fullBy true b u n = outcome.Stopped (stop.Ended unbroken.Full (record { used = u; joins = n }))
 fullBy false b u n = bornBy b u (record { used = u + 1; joins = n })
 
 -- whether a row covers, there is no room, it breaks
@@ -58,20 +73,28 @@ answerBy v i n j = record { verdict = v; joins = n .joins; used = n .used; pass 
 
 -- the answer over the journal as it stands then; its row is absent unless broken
 abbrev pub answerOf : Answer → Journal → order.Answer
-answerOf (answer.Holds n) j = answerBy holds absent n j
+answerOf (answer.Ended v n) j = answerBy (verdictOf v) absent n j
 answerOf (answer.Broken i n) j = answerBy broken i n j
-answerOf (answer.Full n) j = answerBy full absent n j
-answerOf (answer.Spent n) j = answerBy spent absent n j
 
 abbrev pub totalsIn : Answer → Totals
-totalsIn (answer.Holds n) = n
+totalsIn (answer.Ended v n) = n
 totalsIn (answer.Broken i n) = n
-totalsIn (answer.Full n) = n
-totalsIn (answer.Spent n) = n
 
--- of a search that has ended: 1 holds, 2 broken, 3 full, 4 spent
+-- what stopped in pass k, as the answer
+abbrev pub answerTo : ℕ → Stop → Answer
+answerTo k (stop.Ended v w) = answer.Ended v (totalsOf w k)
+answerTo k (stop.Broken i w) = answer.Broken i (totalsOf w k)
+
+-- ---- the verdict of a search that has ended, by its number
+
+abbrev pub codeOf : Unbroken → ℕ
+codeOf v = verdictCode (verdictOf v)
+
+abbrev pub unbrokenAt : ℕ → Unbroken
+unbrokenAt c = cond (eqb c holdsCode) unbroken.Holds (cond (eqb c fullCode) unbroken.Full unbroken.Spent)
+
 abbrev pub answerAt : ℕ → ℕ → Totals → Answer
-answerAt v i n = cond (eqb v 1) (answer.Holds n) (cond (eqb v 2) (answer.Broken i n) (cond (eqb v 3) (answer.Full n) (answer.Spent n)))
+answerAt c i n = cond (eqb c brokenCode) (answer.Broken i n) (answer.Ended (unbrokenAt c) n)
 
 abbrev pub answerIn : State → Answer
 answerIn s = answerAt (s .verdict) (s .broken) (totalsOf (s .counts) (s .terms .pass))

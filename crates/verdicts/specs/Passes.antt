@@ -13,6 +13,7 @@ use Rattle.relation.specs.Representation.{value}
 use Rattle.working_order.specs.Candidates.{passCandidates}
 use Rattle.working_order.specs.Order.{close, onePass, passes, check}
 use Rattle.working_order.specs.Repeating.{Repeats, repeated-dropped}
+use Rattle.calls.specs.Base.{starts}
 use Rattle.calls.specs.BaseLaws.{base-by-laws}
 use Rattle.calls.specs.Checking.{journalLimit}
 use Rattle.calls.specs.Rows.{entryOf}
@@ -80,7 +81,7 @@ module _ {letters : List ℕ} {rules : List (List ℕ)} {finals B : ℕ} {target
     unfolding passes N
     turned =
         close-end (w .used) k j′ N r (subst (λ (n : ℕ). countsIn r .used ≤ n) (sym s) (x .room))
-        ∙ ap₂ (λ (u : ℕ) (y : order.Outcome). close k u N y) (sym (rows-length (w .used) j hu)) (x .answer ∙ pass-eq)
+        ∙ ap₂ (λ (u : ℕ) (y : order.Outcome). close starts k u N y) (sym (rows-length (w .used) j hu)) (x .answer ∙ pass-eq)
         ∙ ap (λ (f : ℕ). rest letters rules finals B (length j₀) f k (progressOf w j)) (let e : suc (suc (length j₀) - k) ≡ suc (suc (length j₀)) - k = omega (arith, a .count, a .room) in e)
         ∙ a .left
 

@@ -9,6 +9,7 @@ use lib.Arith.{lt-of-le-ne}
 use lib.Dec.{eqb, ltb}
 use lib.ListN.{length}
 use borrow.Author.Tests.{eqb-true, eqb-false, eq-eqb, ne-eqb, ltb-true, ltb-false}
+use Rattle.calls.specs.Codes.{holdsCode, spentCode}
 use Rattle.rows.specs.Base as order
 use Rattle.rows.specs.Forming.{formedBy}
 use Rattle.rows.specs.declared.Place.{Place}
@@ -28,13 +29,15 @@ use Rattle.verdicts.specs.Meanings.{totalsOf, answerIn}
 use Rattle.verdicts.specs.Passes.{AtPass, pass-done, pass-again, pass-known}
 use Rattle.verdicts.specs.Passing.{InPass, pass-start, pass-end, pass-stopped}
 use Rattle.verdicts.specs.Running.{target, Sized, Begun, Onward, PassesOver}
-use Rattle.verdicts.specs.States.{ended, standingBy, standing, openingBy, opening}
+use Rattle.verdicts.specs.States.{ended, standingBy, standing, finished, openingBy, opening}
 use Rattle.verdicts.specs.Walks.{candidatesIn, passIn, Known}
 use Rattle.verdicts.specs.declared.Answer.the-variants as answer
 use Rattle.verdicts.specs.declared.Answer.{Answer}
 use Rattle.verdicts.specs.declared.Outcome.the-variants as outcome
 use Rattle.verdicts.specs.declared.Outcome.{Outcome}
 use Rattle.verdicts.specs.declared.Reached.{Reached}
+use Rattle.verdicts.specs.declared.Stop.the-variants as stop
+use Rattle.verdicts.specs.declared.Unbroken.the-variants as unbroken
 
 module _ (letters : List ℕ) (rules : List (List ℕ)) (finals B : ℕ) (j₀ : Journal) (s : State) (rows : s .rows ≡ length j₀) (count : s .rules ≡ length rules) where
   -- the terms of pass k, which began at w, after one that began with n rows
@@ -60,18 +63,18 @@ module _ (letters : List ℕ) (rules : List (List ℕ)) (finals B : ℕ) (j₀ :
       size = g .left .same ∙ a .same
 
       -- the budget is spent there
-      spent-there : p .rule < length rules → w .joins ≡ B → Checked (target letters rules finals B j₀) j₀ j (answer.Spent (totalsOf w k))
+      spent-there : p .rule < length rules → w .joins ≡ B → Checked (target letters rules finals B j₀) j₀ j (answer.Ended unbroken.Spent (totalsOf w k))
       spent-there h e =
           let c : order.Candidate = formedBy letters (places.ruleAt rules (p .rule)) p (rowIn (firstRows (first .used) j) (p .left)) (rowIn (firstRows (first .used) j) (p .right)) in
-          stops (g .left .same) (outcome.Spent w)
-          (pass-stopped (at k n first) letters (listsIn t) rules first j₁ listed g refl h {c = c} refl refl {r = outcome.Spent w}
+          stops (g .left .same) (outcome.Stopped (stop.Ended unbroken.Spent w))
+          (pass-stopped (at k n first) letters (listsIn t) rules first j₁ listed g refl h {c = c} refl refl {r = outcome.Stopped (stop.Ended unbroken.Spent w)}
           (answers-spent (at k n first) c w j (omega (arith, g .left .room, g .left .same)) (g .left .paid) e) (λ i K. refl)) refl
 
       pub stand-there : p .rule < length rules → Onward letters rules finals B j₀ w (standing s (at k n first) w p) j t
       stand-there h = by (eqb (w .joins) B) refl
         where
           by : (b : Bool) → eqb (w .joins) B ≡ b → Onward letters rules finals B j₀ w (standingBy b s (at k n first) w p) j t
-          by true e = over w (at k n first) 4 0 j t size refl (spent-there h (eqb-true (w .joins) B e))
+          by true e = over w (at k n first) spentCode 0 j t size refl (spent-there h (eqb-true (w .joins) B e))
           by false e =
               record {
                 stands = record {
@@ -98,8 +101,8 @@ module _ (letters : List ℕ) (rules : List (List ℕ)) (finals B : ℕ) (j₀ :
     -- ---- after the last place
 
     module _ {j : Journal} (e : length j ≡ length j₁) {w : Counts} (x : Answers B (passIn (at k n first) letters rules first j₁) first j₁ j (outcome.Going w)) where
-      pub close-last : (t : List ℕ) → w .used ≡ first .used → Onward letters rules finals B j₀ w (ended s (at k n first) w 1 0) j t
-      close-last t u = over w (at k n first) 1 0 j t (e ∙ a .same) refl (stops e (outcome.Going w) x (ap (λ (b : Bool). endBy b w k) (eq-eqb (w .used) (first .used) u)))
+      pub close-last : (t : List ℕ) → w .used ≡ first .used → Onward letters rules finals B j₀ w (finished s (at k n first) w) j t
+      close-last t u = over w (at k n first) holdsCode 0 j t (e ∙ a .same) refl (stops e (outcome.Going w) x (ap (λ (b : Bool). endBy b w k) (eq-eqb (w .used) (first .used) u)))
 
       again : (w .used ≡ first .used → ⊥) → endOf (first .used) k (outcome.Going w) ≡ Again w
       again z = ap (λ (b : Bool). endBy b w k) (ne-eqb (w .used) (first .used) z)

@@ -10,12 +10,26 @@ pub struct Totals {
     pub pass: u64,
 }
 
-// The verdict; a broken answer names its row.
+// The numbers of the verdicts, as hosts are told them; a search that has ended has one, too.
+pub const HOLDS: u8 = 100;
+
+pub const BROKEN: u8 = 101;
+
+pub const FULL: u8 = 102;
+
+pub const SPENT: u8 = 103;
+
+// A verdict that shows no row.
+pub enum Unbroken {
+    Holds,
+    Full,
+    Spent,
+}
+
+// The verdict with its totals; a broken answer names its row.
 pub enum Answer {
-    Holds(Totals),
+    Ended(Unbroken, Totals),
     Broken(usize, Totals),
-    Full(Totals),
-    Spent(Totals),
 }
 
 // A place that a pass has reached, with the counts up to it.
@@ -24,10 +38,14 @@ pub struct Reached {
     pub place: Place,
 }
 
-// What became of a candidate: the search goes on, or stops with a verdict.
+// What stops a search: the verdict with the counts up to it; a broken one names its row.
+pub enum Stop {
+    Ended(Unbroken, Counts),
+    Broken(usize, Counts),
+}
+
+// What became of a candidate: the search goes on, or stops.
 pub enum Outcome {
     Going(Counts),
-    Spent(Counts),
-    Full(Counts),
-    Broken(usize, Counts),
+    Stopped(Stop),
 }

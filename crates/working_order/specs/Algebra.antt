@@ -19,6 +19,8 @@ pub record Algebra (E : Type 0) : Type 0 where
   pub forms : Forms E
   -- contained or equal
   pub below : E → E → Bool
+  -- a nonterminal whose words count
+  pub starts : ℕ → Bool
   -- a new row of this nonterminal with this effect breaks the check
   pub breaks : ℕ → E → Bool
 
@@ -30,3 +32,5 @@ pub record Laws {E : Type 0} (A : Algebra E) : Type 0 where
       → (e : E) → In e (A .forms .ofPair x′ y′) → (d : E) × In d (A .forms .ofPair x y) × (A .below d e ≡ true)
   -- where an effect breaks, a smaller one does
   pub breaks-below : (x : ℕ) (d e : E) → A .below d e ≡ true → A .breaks x e ≡ true → A .breaks x d ≡ true
+  -- only a nonterminal whose words count breaks
+  pub breaks-starts : (x : ℕ) (e : E) → A .breaks x e ≡ true → A .starts x ≡ true

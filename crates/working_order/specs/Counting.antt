@@ -163,7 +163,7 @@ module _ {E : Type 0} (A : Algebra E) (m : ℕ) (few : (x y : E) → length (A .
 
       by : (r : Outcome E) → onePass A rules J B (suc h) s ≡ r → Post (Went J (length cs) s) (Halt A J B (suc h) cs s) r
           → ((t : Progress E) → Begun A rules J B (suc h) t → J < f + length (t .rows) → length (t .rows) ≤ J → suc h ≤ length (t .rows) → t .joins ≤ suc h * per → Exact (passes A rules J B f (suc (suc h)) t))
-          → Exact (close (suc h) (length (s .rows)) (passes A rules J B f (suc (suc h))) r)
+          → Exact (close (A .starts) (suc h) (length (s .rows)) (passes A rules J B f (suc (suc h))) r)
       by (stopped holds i u) e p next = absurd (p .found)
       by (stopped broken i u) e p next =
           let c = p .found in
@@ -203,7 +203,7 @@ module _ {E : Type 0} (A : Algebra E) (m : ℕ) (few : (x y : E) → length (A .
           }
       by (going t) e p next = fork (eqb (length (t .rows)) (length (s .rows))) refl
         where
-          fork : (x : Bool) → eqb (length (t .rows)) (length (s .rows)) ≡ x → Exact (closeBy x (suc h) (passes A rules J B f (suc (suc h))) t)
+          fork : (x : Bool) → eqb (length (t .rows)) (length (s .rows)) ≡ x → Exact (closeBy (A .starts) x (suc h) (passes A rules J B f (suc (suc h))) t)
           fork true q =
               record {
                 by-verdict = refl;

@@ -40,11 +40,11 @@ module _ {E : Type 0} (A : Algebra E) (rules : List Rule) (J B : ℕ) where
   begun-passes (suc h) f s b =
       let n : suc h + f ≡ h + suc f = omega arith in
       ap (λ (g : ℕ). passes A rules J B g 1 start) n ∙ begun-passes h (suc f) (b .0) (b .1)
-      ∙ ap (close (suc h) (length (b .0 .rows)) (passes A rules J B f (suc (suc h)))) (b .2)
-      ∙ ap (λ (x : Bool). closeBy x (suc h) (passes A rules J B f (suc (suc h))) s) (ne-eqb (length (s .rows)) (length (b .0 .rows)) (b .3))
+      ∙ ap (close (A .starts) (suc h) (length (b .0 .rows)) (passes A rules J B f (suc (suc h)))) (b .2)
+      ∙ ap (λ (x : Bool). closeBy (A .starts) x (suc h) (passes A rules J B f (suc (suc h))) s) (ne-eqb (length (s .rows)) (length (b .0 .rows)) (b .3))
 
   -- the check where pass h + 1 begins
-  from-pass : (h : ℕ) (s : Progress E) → Begun A rules J B h s → check A rules J B ≡ close (suc h) (length (s .rows)) (passes A rules J B (J - h) (suc (suc h))) (onePass A rules J B (suc h) s)
+  from-pass : (h : ℕ) (s : Progress E) → Begun A rules J B h s → check A rules J B ≡ close (A .starts) (suc h) (length (s .rows)) (passes A rules J B (J - h) (suc (suc h))) (onePass A rules J B (suc h) s)
   unfolding check passes
   from-pass h s b =
       let c = begun-came A rules J B h s b in
@@ -57,7 +57,7 @@ module _ {E : Type 0} (A : Algebra E) (rules : List Rule) (J B : ℕ) where
   stops-so v a h =
       ap (λ (x : Answer E). x .verdict)
       (from-pass (h .passed) (h .began) (h .begun)
-      ∙ ap (close (suc (h .passed)) (length (h .began .rows)) (passes A rules J B (J - h .passed) (suc (suc (h .passed)))))
+      ∙ ap (close (A .starts) (suc (h .passed)) (length (h .began .rows)) (passes A rules J B (J - h .passed) (suc (suc (h .passed)))))
       (halt-stops A J B (suc (h .passed)) (candidatesAt A rules (h .began)) (h .began) v (a .row) (h .last) (h .halt)))
 
   -- and where a pass ends that has added no row, it holds
@@ -66,5 +66,5 @@ module _ {E : Type 0} (A : Algebra E) (rules : List Rule) (J B : ℕ) where
   ends-so a h =
       ap (λ (x : Answer E). x .verdict)
       (from-pass (h .passed) (h .began) (h .begun)
-      ∙ ap (close (suc (h .passed)) (length (h .began .rows)) (passes A rules J B (J - h .passed) (suc (suc (h .passed))))) (h .walked)
-      ∙ ap (λ (x : Bool). closeBy x (suc (h .passed)) (passes A rules J B (J - h .passed) (suc (suc (h .passed)))) (h .last)) (eq-eqb (length (h .last .rows)) (length (h .began .rows)) (h .none-added)))
+      ∙ ap (close (A .starts) (suc (h .passed)) (length (h .began .rows)) (passes A rules J B (J - h .passed) (suc (suc (h .passed))))) (h .walked)
+      ∙ ap (λ (x : Bool). closeBy (A .starts) x (suc (h .passed)) (passes A rules J B (J - h .passed) (suc (suc (h .passed)))) (h .last)) (eq-eqb (length (h .last .rows)) (length (h .began .rows)) (h .none-added)))

@@ -1,7 +1,7 @@
 -- The working order computed on a small plan over a toy algebra: effects are numbers, a pair forms the sum, and only equal ones compare.
 -- It settles which candidates a pass has: none of the rows born in it, and those of every rule. Assumes nothing.
 use mathlib.Core.Path.{_≡_, refl}
-use mathlib.Core.Bool.{false}
+use mathlib.Core.Bool.{true, false}
 use mathlib.Core.List.{List, [], _∷_}
 use Prim.Native.Nat.{ℕ, _+_}
 use lib.Dec.{eqb}
@@ -12,7 +12,7 @@ use Rattle.working_order.specs.Candidates.{liveRows, sole, paired, bare,
 use Rattle.working_order.specs.Order.{Verdict, holds, born, answer, dropped, larger, retire, added, decide, consider, walk, onePass, passes, check}
 
 abbrev pub toy : Algebra ℕ
-toy = record { forms = record { ofEmpty = 0; ofTerminal = λ c. c; ofPair = λ x y. (x + y) ∷ [] }; below = eqb; breaks = λ x e. false }
+toy = record { forms = record { ofEmpty = 0; ofTerminal = λ c. c; ofPair = λ x y. (x + y) ∷ [] }; below = eqb; starts = λ x. true; breaks = λ x e. false }
 
 -- 1 gives 5; 0 gives (nonterminal 1); 2 gives (nonterminal 0) 7
 abbrev pub rules : List Rule

@@ -33,10 +33,10 @@ module _ {E : Type 0} (A : Algebra E) (rules : List Rule) (J B : ℕ) where
     where
       by : (r : Outcome E) → Post (λ t. Q (s .rows) (t .rows)) (λ v i t. Q (s .rows) (t .rows)) r
           → ((t : Progress E) → P (t .rows) → P (passes A rules J B f (suc (suc h)) t .journal))
-          → P (close (suc h) (length (s .rows)) (passes A rules J B f (suc (suc h))) r .journal)
+          → P (close (A .starts) (suc h) (length (s .rows)) (passes A rules J B f (suc (suc h))) r .journal)
       by (stopped v i t) q next = end (s .rows) (t .rows) q
       by (going t) q next = fork (eqb (length (t .rows)) (length (s .rows)))
         where
-          fork : (b : Bool) → P (closeBy b (suc h) (passes A rules J B f (suc (suc h))) t .journal)
+          fork : (b : Bool) → P (closeBy (A .starts) b (suc h) (passes A rules J B f (suc (suc h))) t .journal)
           fork true = end (s .rows) (t .rows) q
           fork false = next t (end (s .rows) (t .rows) q)

@@ -89,14 +89,14 @@ module _ {E : Type 0} (below : E → E → Bool) where
 
 -- ---- the check
 
--- the verdict of a check whose last pass added no row
-abbrev pub finish : {E : Type 0} → List (Row E) → Verdict
-finish rows = holds
+-- the verdict of a check whose last pass added no row, from the nonterminals whose words count and the rows
+abbrev pub finish : {E : Type 0} → (ℕ → Bool) → List (Row E) → Verdict
+finish starts rows = holds
 
-module _ {E : Type 0} where
+module _ {E : Type 0} (starts : ℕ → Bool) where
   -- whether the pass added no row; next is the rest of the check
   abbrev pub closeBy : Bool → ℕ → (Progress E → Answer E) → Progress E → Answer E
-  closeBy true k next s = answer (finish (s .rows)) k absent s
+  closeBy true k next s = answer (finish starts (s .rows)) k absent s
   closeBy false k next s = next s
 
   -- pass k began with u rows and gave this
@@ -112,7 +112,7 @@ module _ {E : Type 0} (A : Algebra E) (rules : List Rule) (J B : ℕ) where
   -- passes from pass k on. The bound on their number is never reached (Counting.antt), and the answer there is not "holds"
   unfoldable pub passes : ℕ → ℕ → Progress E → Answer E
   passes zero k s = answer full k absent s
-  passes (suc f) k s = close k (length (s .rows)) (passes f (suc k)) (onePass k s)
+  passes (suc f) k s = close (A .starts) k (length (s .rows)) (passes f (suc k)) (onePass k s)
 
   -- passes count from 1, with no row used and no join made
   unfoldable pub check : Answer E

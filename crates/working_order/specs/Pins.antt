@@ -2,7 +2,7 @@
 -- (the left symbol outer, the right one inner, rows rising), what each row points to, and the passes in which rows are added and retire.
 -- Assumes nothing.
 use mathlib.Core.Path.{_≡_, refl}
-use mathlib.Core.Bool.{false}
+use mathlib.Core.Bool.{true, false}
 use mathlib.Core.List.{List, [], _∷_}
 use Prim.Native.Nat.{ℕ, _+_}
 use lib.Dec.{leb}
@@ -56,7 +56,7 @@ left-outer = refl
 -- ---- effects of one nonterminal that fall from pass to pass, where the smaller number is the smaller effect
 
 abbrev pub falling : Algebra ℕ
-falling = record { forms = record { ofEmpty = 0; ofTerminal = λ c. c; ofPair = λ x y. (x + y) ∷ [] }; below = leb; breaks = λ x e. false }
+falling = record { forms = record { ofEmpty = 0; ofTerminal = λ c. c; ofPair = λ x y. (x + y) ∷ [] }; below = leb; starts = λ x. true; breaks = λ x e. false }
 
 abbrev pub chain : List Rule
 chain =

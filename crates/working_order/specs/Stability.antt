@@ -90,19 +90,19 @@ module _ {E : Type 0} (A : Algebra E) (rules : List Rule) (J B J′ B′ : ℕ) 
       same : FirmRes (onePass A rules J B k s) → (onePass A rules J′ B′ k s ≡ onePass A rules J B k s) × HeldRes J B (onePass A rules J B k s)
       same = walk-mono k (passCandidates (A .forms) (s .rows) 0 rules) s l
 
-      fork : (b : Bool) (t : Progress E) → Firm (closeBy b k (passes A rules J B f (suc k)) t .verdict)
+      fork : (b : Bool) (t : Progress E) → Firm (closeBy (A .starts) b k (passes A rules J B f (suc k)) t .verdict)
           → (Firm (passes A rules J B f (suc k) t .verdict) → passes A rules J′ B′ f′ (suc k) t ≡ passes A rules J B f (suc k) t)
-          → closeBy b k (passes A rules J′ B′ f′ (suc k)) t ≡ closeBy b k (passes A rules J B f (suc k)) t
+          → closeBy (A .starts) b k (passes A rules J′ B′ f′ (suc k)) t ≡ closeBy (A .starts) b k (passes A rules J B f (suc k)) t
       fork true t g″ ih = refl
       fork false t g″ ih = ih g″
 
-      by : (r : Outcome E) → onePass A rules J B k s ≡ r → Firm (close k (length (s .rows)) (passes A rules J B f (suc k)) r .verdict)
+      by : (r : Outcome E) → onePass A rules J B k s ≡ r → Firm (close (A .starts) k (length (s .rows)) (passes A rules J B f (suc k)) r .verdict)
           → ((t : Progress E) → Held J B t → Firm (passes A rules J B f (suc k) t .verdict) → passes A rules J′ B′ f′ (suc k) t ≡ passes A rules J B f (suc k) t)
-          → close k (length (s .rows)) (passes A rules J′ B′ f′ (suc k)) (onePass A rules J′ B′ k s) ≡ close k (length (s .rows)) (passes A rules J B f (suc k)) r
-      by (stopped v i t) e g′ ih = ap (close k (length (s .rows)) (passes A rules J′ B′ f′ (suc k))) (same (subst FirmRes (sym e) g′) .0 ∙ e)
+          → close (A .starts) k (length (s .rows)) (passes A rules J′ B′ f′ (suc k)) (onePass A rules J′ B′ k s) ≡ close (A .starts) k (length (s .rows)) (passes A rules J B f (suc k)) r
+      by (stopped v i t) e g′ ih = ap (close (A .starts) k (length (s .rows)) (passes A rules J′ B′ f′ (suc k))) (same (subst FirmRes (sym e) g′) .0 ∙ e)
       by (going t) e g′ ih =
           let m = same (subst FirmRes (sym e) tt) in
-          ap (close k (length (s .rows)) (passes A rules J′ B′ f′ (suc k))) (m .0 ∙ e)
+          ap (close (A .starts) k (length (s .rows)) (passes A rules J′ B′ f′ (suc k))) (m .0 ∙ e)
           ∙ fork (eqb (length (t .rows)) (length (s .rows))) t g′ (ih t (subst (HeldRes J B) e (m .1)))
 
   pub check-mono : Firm (check A rules J B .verdict) → check A rules J′ B′ ≡ check A rules J B

@@ -165,7 +165,7 @@ module _ {E W : Type 0} (A : Algebra E) (L : Laws A) (S : Spelling E W) (Z : Siz
       fork : (t : Progress E) → onePass A rules J B (suc h) s ≡ going t → (x : Bool) → eqb (length (t .rows)) (length (s .rows)) ≡ x → During h (s .rows) t
           → Covers A (passCandidates (A .forms) (s .rows) 0 rules) s t
           → ((t : Progress E) → Between (suc h) (t .rows) → Says A S rules (passes A rules J B f (suc (suc h)) t))
-          → Says A S rules (closeBy x (suc h) (passes A rules J B f (suc (suc h))) t)
+          → Says A S rules (closeBy (A .starts) x (suc h) (passes A rules J B f (suc (suc h))) t)
       fork t w true e d v next =
           let same : t .rows ≡ s .rows = d .same (eqb-true (length (t .rows)) (length (s .rows)) e) in
           record {
@@ -177,7 +177,7 @@ module _ {E W : Type 0} (A : Algebra E) (L : Laws A) (S : Spelling E W) (Z : Siz
       by : (r : Outcome E) → onePass A rules J B (suc h) s ≡ r → Post (During h (s .rows)) (End (suc h)) r
           → Post (Covers A (passCandidates (A .forms) (s .rows) 0 rules) s) (λ v i t. Unit {0}) r
           → ((t : Progress E) → Between (suc h) (t .rows) → Says A S rules (passes A rules J B f (suc (suc h)) t))
-          → Says A S rules (close (suc h) (length (s .rows)) (passes A rules J B f (suc (suc h))) r)
+          → Says A S rules (close (A .starts) (suc h) (length (s .rows)) (passes A rules J B f (suc (suc h))) r)
       by (stopped v i t) w p q next = record { sound = p .0; verdict = p .1 }
       by (going t) w p q next = fork t w (eqb (length (t .rows)) (length (s .rows))) refl p q next
 

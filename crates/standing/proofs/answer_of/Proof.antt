@@ -1,20 +1,14 @@
--- `standing::answer_of` meets its contract: one case for each verdict. Assumes nothing.
-use borrow.Author.Tests.{ne-eqb}
+-- `standing::answer_of` meets its contract, by whether the search ended broken. Assumes nothing.
+use borrow.Author.Tests.{eq-eqb, ne-eqb}
 use borrow.Author.Needs.{needs}
 use Rattle.standing.proofs.answer_of.Statement.{statement}
 use Rattle.standing.proofs.answer_of.Tie as tie
 
 returns : tie.Need-returns
-returns c = rw (c .before .match .keys1, c .sum-up .ensures)
+returns c = rw (eq-eqb _ _ (c .if1 .taken), c .before .before .sum-up .ensures)
 
 returns-2 : tie.Need-returns-2
-returns-2 c = rw (c .before .match .keys2, c .sum-up2 .ensures)
-
-returns-3 : tie.Need-returns-3
-returns-3 c = rw (c .before .match .keys3, c .sum-up3 .ensures)
-
-returns-4 : tie.Need-returns-4
-returns-4 c = let r = c .before .match .rest in rw (ne-eqb _ _ (r .0 .0 .1), ne-eqb _ _ (r .0 .1), ne-eqb _ _ (r .1), c .sum-up4 .ensures)
+returns-2 c = rw (ne-eqb _ _ (c .before .if1 .left), c .before .before .before .sum-up .ensures, c .unbroken-of .ensures)
 
 pub answer-of-spec : {M : Type 1} → statement M
-answer-of-spec = tie.close (tie.spec (λ c κs. search needs) (λ c κs. search needs) (λ c κs. search needs) (λ c κs. search needs) returns returns-2 returns-3 returns-4)
+answer-of-spec = tie.close (tie.spec (λ c κs. search needs) returns (λ c κs. search needs) returns-2)

@@ -1,21 +1,14 @@
--- `standing::stop` meets its contract: one case for each outcome. Assumes nothing.
-use mathlib.Core.Path.{sym, ap, _∙_}
+-- `standing::stop` meets its contract: a verdict that shows no row, or a broken one. Assumes nothing.
+use mathlib.Core.Path.{refl}
 use borrow.Author.Needs.{needs}
-use Rattle.verdicts.specs.States.{stoppedIn}
 use Rattle.standing.proofs.stop.Statement.{statement}
 use Rattle.standing.proofs.stop.Tie as tie
 
 returns : tie.Need-returns
-returns c = c .end-with .ensures ∙ sym (ap (stoppedIn (c .before .before .before .before .before .args .state)) (c .before .before .outcome .given .1))
+returns c = rw (c .end-with .ensures, c .before .code-of .ensures, c .before .before .before .stop .given .1) refl
 
 returns-2 : tie.Need-returns-2
-returns-2 c = c .end-with2 .ensures ∙ sym (ap (stoppedIn (c .before .before .before .before .before .args .state)) (c .before .before .outcome2 .given .1))
-
-returns-3 : tie.Need-returns-3
-returns-3 c = c .end-with3 .ensures ∙ sym (ap (stoppedIn (c .before .before .before .before .before .args .state)) (c .before .before .outcome3 .given .1))
-
-returns-4 : tie.Need-returns-4
-returns-4 c = c .end-with4 .ensures ∙ sym (ap (stoppedIn (c .before .before .before .before .before .args .state)) (c .before .before .outcome4 .given .1))
+returns-2 c = rw (c .before .before .stop2 .given .1) (c .end-with2 .ensures)
 
 pub stop-spec : {M : Type 1} → statement M
-stop-spec = tie.close (tie.spec (λ c. search needs) (λ c κs. search needs) (λ c. search needs) (λ c κs. search needs) (λ c. search needs) (λ c κs. search needs) (λ c. search needs) (λ c κs. search needs) returns returns-2 returns-3 returns-4)
+stop-spec = tie.close (tie.spec (λ c. search needs) (λ c κs. search needs) (λ c κs. search needs) (λ c. search needs) (λ c κs. search needs) returns returns-2)

@@ -20,7 +20,7 @@ returns-2 c =
     let d = c .before .before .before .before .before .before .before .before .before .before .before .before .before .before .before .before .before .before .before in
     let a = d .args in
     starts (a .file .now) (a .rows) (a .budget) _ (c .before .before .before .before .before .before .before .before .before .before .before .before .letter-relations .ensures) _ (c .before .before .before .before .before .before .before .before .before .before .before .final-states .ensures)
-    _ _ _ (c .before .before .before .before .before .before .before .before .before .rule-table .ensures) _ _ (d .pre) _ (c .before .before .before .before .before .before .before .before .wait2 .ensures) _ (c .before .before .before .open-pass .ensures) _ (c .stand-or-hold .ensures) _
+    _ _ _ (c .before .before .before .before .before .before .before .before .before .rule-table .ensures) _ _ (d .pre) _ (c .before .before .before .before .before .before .before .before .wait2 .ensures) _ (c .before .before .before .open-pass .ensures) _ (c .stand-or-finish .ensures) _
     (c .before .before .before .before .before .before .before .before .before .before .before .before .before .before .before .before .refusal-for .ensures) (c .before .before .before .before .before .before .before .before .before .before .before .before .before .before .if1 .left)
 
 pub prepare-spec : {M : Type 1} → statement M

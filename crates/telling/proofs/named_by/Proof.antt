@@ -8,14 +8,8 @@ returns : tie.Need-returns
 returns c = rw (c .enum-told .given .1) refl
 
 returns-2 : tie.Need-returns-2
-returns-2 c = rw (c .enum-told2 .given .1) refl
-
-returns-3 : tie.Need-returns-3
-returns-3 c = rw (c .enum-told3 .given .1) refl
-
-returns-4 : tie.Need-returns-4
-returns-4 c = rw (c .before .answer .given .1) refl
+returns-2 c = rw (c .before .answer .given .1) refl
 
 pub named-by-spec : {M : Type 1} → statement M
 named-by-spec =
-    tie.close (tie.spec (λ c. search needs) (λ c. search needs) (λ c. search needs) (λ c. search needs) returns returns-2 returns-3 returns-4)
+    tie.close (tie.spec (λ c. search needs) (λ c. search needs) returns returns-2)

@@ -37,8 +37,9 @@ pub struct Terms {
     pub before: usize,
 }
 
-// The search stands at a place, whose two rows are left and right, over a journal of so many rows and so many rules; or it has ended with a
-// verdict, a broken one with its row.
+// The search between two candidates. While `going`, `place` is the candidate to form next, and `left` and `right` are the journal rows to
+// read for it (0 if its body has no such row). Otherwise `verdict` is the verdict's number, as hosts are told it, and `broken` the row of a
+// broken one. `rows` is the journal's length, `rules` the number of rules.
 pub struct State {
     pub going: bool,
     pub left: usize,

@@ -1,6 +1,6 @@
--- The numbers 1 to 7 that a file is refused with (document 01, "Numbers a call may refuse with"). Checks 1 and 2 come first, then 3
--- to 7 record by record; the earliest record wins, and within it the first
--- number in the order of `recordTests`, which is the lowest. Definitions only. Assumes nothing.
+-- The numbers 1 to 7 that a file is refused with (document 01, "Numbers a call may refuse with"). Checks 1 and 2 come first, then 3 to 7
+-- record by record; the earliest record wins, and within it the first number in the order of `recordTests`, which is the lowest.
+-- Definitions only. Assumes nothing.
 use mathlib.Core.Bool.{Bool, not, _&&_, _||_, cond}
 use mathlib.Core.List.{List, [], _∷_}
 use Prim.Native.Nat.{ℕ, zero, suc, _-_, _%_}

@@ -80,16 +80,27 @@ pub unused :
 unfolding faultIn
 unused = (refl, refl, refl, refl, refl)
 
+-- 3: kinds are 1 to 3
+pub kinds :
+    (faultIn (entry 0 0 0 0 0 []) ≡ refuse 3 0)
+    × (faultIn (entry 4 0 0 0 0 []) ≡ refuse 3 0)
+unfolding faultIn
+kinds = (refl, refl)
+
 -- which number, and of which record
-pub lowest-first :
+pub tests-in-order :
+    -- 3 before 6: the second record's kind is unknown, and it does not exceed the first
+    (faultIn (lone (entry 0 0 0 0 0 [])) ≡ refuse 3 1)
     -- 4 before 5
-    (faultIn (entry 1 64 0 5 0 []) ≡ refuse 4 0)
+    × (faultIn (entry 1 64 0 5 0 []) ≡ refuse 4 0)
+    -- 4 before 6
+    × (faultIn (entry 2 0 0 0 0 (entry 1 64 0 0 0 [])) ≡ refuse 4 1)
     -- 5 before 6
     × (faultIn (entry 1 5 0 0 0 (stray [])) ≡ refuse 5 1)
     -- 5 of record 1 before 3 of record 2
     × (faultIn (lone (stray (entry 0 0 0 0 0 []))) ≡ refuse 5 1)
 unfolding faultIn lone
-lowest-first = (refl, refl, refl)
+tests-in-order = (refl, refl, refl, refl, refl)
 
 -- 6 compares all eight bytes: these differ in byte 7 only
 pub eight-bytes :
@@ -127,8 +138,10 @@ pub counted-rules :
     (stepIn (copies 255 (lone []) (entry 1 1 0 0 0 [])) 255 ≡ gives (ruleRecord 1 0 0 0) 256)
     -- and after 256
     × (stepIn (copies 256 (lone []) (entry 1 1 0 0 0 [])) 256 ≡ refuses (refuse 7 256))
+    -- 6 before 7: the 257th rule is the one before it again
+    × (stepIn (copies 257 (lone []) []) 256 ≡ refuses (refuse 6 256))
 unfolding stepIn copies lone
-counted-rules = (refl, refl)
+counted-rules = (refl, refl, refl)
 
 -- and at any record its number is the one that the whole file's walk has for that record, moves before it counted as well
 pub step-checks : (bs : List ℕ) (i : ℕ) → length bs % 8 ≡ 0 → recordCount bs ≤ 1288 → i < recordCount bs → stepAt bs i ≡ stepBy (faultAt bs i) i (recordOf (recordAt bs i))

@@ -1,5 +1,5 @@
-// What each public call answers, as definitions on a file's bytes, and the theorems about them: see specs/. And the type that the calls
-// share: a row of the lent journal.
+// What each public call answers, as definitions on a file's bytes, and the theorems about them: see specs/. And the types that the calls
+// share: a row of the lent journal, and the options of a check.
 use relation::Relation;
 ghost use mathlib.Core.Path.{_≡_};
 ghost use Prim.Native.Nat.{_+_};
@@ -16,6 +16,12 @@ pub struct Row {
     pub len: u64,
     pub birth: u64,
     pub retired: u64,
+}
+
+// What a caller chooses for a check beside the file and the journal: `budget` is the number of joins that it may make. One struct, so that
+// one choice more changes the calls that make it or read the field, and no call between them.
+pub struct Options {
+    pub budget: u64,
 }
 
 // The sum of two lengths, where 65,535 means that or more.

@@ -28,7 +28,7 @@ use Rattle.plan_file.specs.Valid.{valid-passes, collect-at, transition-range}
 use Rattle.working_order.specs.Order.{check}
 use Rattle.calls.specs.Base.{base}
 use Rattle.calls.specs.Rows.{entryOf}
-use Rattle.calls.specs.Checking.{orderOn}
+use Rattle.calls.specs.Checking.{Settings, orderOn}
 use Rattle.rows.specs.Meanings.{letterIn}
 use Rattle.verdicts.specs.Contracts.{orderOf}
 use Rattle.verdicts.specs.OnAutomaton.{order-on}
@@ -66,8 +66,8 @@ module _ (bs : List ℕ) (v : fault bs .number ≡ 0) where
           List·getD-eq-default (letterTable states (transitionsOf bs)) 0 (le-trans (le-of-eq (letters-length states (transitionsOf bs))) (q refl))
           ∙ sym (letter-absent states (transitionsOf bs) c (λ t h e. let l = letter-low t h in let m = q refl in omega arith))
 
-  pub order-same : (rules : List (List ℕ)) → map entryOf rules ≡ rulesOf bs → (J B : ℕ) → orderOf (letterTable states (transitionsOf bs)) rules (number states (isFinal (automatonOf bs))) J B ≡ orderOn bs J B
+  pub order-same : (rules : List (List ℕ)) → map entryOf rules ≡ rulesOf bs → (g : Settings) → orderOf (letterTable states (transitionsOf bs)) rules (number states (isFinal (automatonOf bs))) (g .rows) (g .budget) ≡ orderOn bs g
   unfolding orderOn
-  order-same rules e J B =
-      order-on (automatonOf bs) (letterTable states (transitionsOf bs)) rules (number states (isFinal (automatonOf bs))) J B letters-all (bit-number states (isFinal (automatonOf bs)))
-      ∙ ap (λ (x : List Rule). check (base states (automatonOf bs)) x J B) e
+  order-same rules e g =
+      order-on (automatonOf bs) (letterTable states (transitionsOf bs)) rules (number states (isFinal (automatonOf bs))) (g .rows) (g .budget) letters-all (bit-number states (isFinal (automatonOf bs)))
+      ∙ ap (λ (x : List Rule). check (base states (automatonOf bs)) x (g .rows) (g .budget)) e

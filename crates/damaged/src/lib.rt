@@ -1,5 +1,6 @@
 // For the program of damaged journals: a check, one row of its journal replaced, and the run behind a row written. Its parameters and its
 // answer are plain values and lent bytes, so whoever calls it is proved by the toolchain.
+use calls::Options;
 use calls::Row;
 use telling::ROWS;
 use writer::Writing;
@@ -10,18 +11,18 @@ ghost use Rattle.damaged.specs.Contracts.{WritesDamaged};
 pub fn write_damaged(
     file: &[u8],
     rows: usize,
-    budget: u64,
+    options: Options,
     place: usize,
     row: Row,
     used: usize,
     named: usize,
     buffer: &mut [u8],
 ) -> Writing
-    ensures { λ r. ⌜ WritesDamaged (now (file .entry)) rows budget place row used named (now (buffer .entry)) (now (buffer .exit)) r ⌝ }
+    ensures { λ r. ⌜ WritesDamaged (now (file .entry)) rows options place row used named (now (buffer .entry)) (now (buffer .exit)) r ⌝ }
 {
     let mut journal = [row; ROWS];
     let n = telling::front(rows);
-    checker::check(file, &mut journal[..n], budget);
+    checker::check(file, &mut journal[..n], options);
     let at = telling::row_number(place);
     journal[at] = row;
     writer::write(file, &journal[..n], used, named, buffer)

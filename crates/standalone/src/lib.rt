@@ -1,5 +1,6 @@
 // One call for programs and hosts: the check over a journal of the library's own, and the run of a broken answer in the lent buffer. Its
 // parameters and its answer are plain values and lent bytes, so whoever calls it is proved by the toolchain.
+use calls::Options;
 use calls::Row;
 use telling::ROWS;
 use telling::Told;
@@ -12,15 +13,15 @@ pub fn checked(
     file: &[u8],
     rows: usize,
     old: Row,
-    budget: u64,
+    options: Options,
     probe: usize,
     buffer: &mut [u8],
 ) -> Told
-    ensures { λ r. ⌜ ChecksAlone (now (file .entry)) rows old budget probe (now (buffer .entry)) (now (buffer .exit)) r ⌝ }
+    ensures { λ r. ⌜ ChecksAlone (now (file .entry)) rows old options probe (now (buffer .entry)) (now (buffer .exit)) r ⌝ }
 {
     let mut journal = [old; ROWS];
     let n = telling::front(rows);
-    let checked = checker::check(file, &mut journal[..n], budget);
+    let checked = checker::check(file, &mut journal[..n], options);
     let named = telling::named_in(checked, file.len());
     let at = telling::row_number(named.row);
     let row = journal[at];

@@ -14,7 +14,7 @@ use Rattle.basics.specs.Elements.{any}
 use Rattle.plan_file.specs.Limits.{recordLimit, terminals}
 use Rattle.plan_file.specs.Records.{recordCount, ruleKind, transitionKind, countOf}
 use Rattle.plan_file.specs.Refusals.{Refusal, refuse, orNext, firstHolding, recordTests, faultBy, faultAt, faultFrom, fault, byNumber}
-use Rattle.calls.specs.Checking.{journalLimit, journalFault, checkOf}
+use Rattle.calls.specs.Checking.{Settings, journalLimit, journalFault, checkOf}
 use Rattle.calls.specs.Judging.{wordLimit, wordFault, judgeOf}
 use Rattle.calls.specs.Replies.{Reply, refused, answered, unless}
 use Rattle.calls.specs.Codes.{firstAnswerCode}
@@ -106,9 +106,9 @@ module _ {A : Type 0} where
       by zero = m
       by (suc f) = l
 
-pub check-low : (bs : List ℕ) (J B : ℕ) → LowIn (checkOf bs J B)
+pub check-low : (bs : List ℕ) (g : Settings) → LowIn (checkOf bs g)
 unfolding checkOf journalFault
-check-low bs J B = unless-low (fault bs) _ (fault-low bs) (unless-low _ _ (number-low (eqb J 0 || ltb journalLimit J) 8 (omega arith)) tt)
+check-low bs g = unless-low (fault bs) _ (fault-low bs) (unless-low _ _ (number-low (eqb (g .rows) 0 || ltb journalLimit (g .rows)) 8 (omega arith)) tt)
 
 pub judge-low : (bs w : List ℕ) → LowIn (judgeOf bs w)
 unfolding judgeOf wordFault

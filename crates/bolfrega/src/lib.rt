@@ -1,6 +1,7 @@
 // The library for hosts in C and Rust: the calls of document 01 as functions on numbers and lent bytes. No function asks anything of
 // its caller. A result from 1 to 11 is the number that refused the call; the answers have the numbers below.
 use acceptance::Judged;
+use calls::Options;
 use telling::Told;
 ghost use mathlib.Core.Path.{_≡_};
 ghost use Rattle.telling.specs.Telling.{numbersIn};
@@ -81,9 +82,10 @@ pub extern "C" fn bolfrega_check(
     details: &mut [u64; 8],
     buffer: &mut [u8],
 ) -> u64
-    ensures { λ r. ⌜ ChecksZeros (now (file .entry)) rows budget (now (details .exit)) (now (buffer .entry)) (now (buffer .exit)) r ⌝ }
+    ensures { λ r. ⌜ ChecksZeros (now (file .entry)) (record { rows = rows; budget = budget }) (now (details .exit)) (now (buffer .entry)) (now (buffer .exit)) r ⌝ }
 {
-    let told = standalone::checked(file, rows, telling::blank_row(), budget, 0, buffer);
+    let options = Options { budget };
+    let told = standalone::checked(file, rows, telling::blank_row(), options, 0, buffer);
     *details = details_of(told);
     told.code
 }

@@ -1,5 +1,6 @@
 // One file: the answer of the inclusion check held against the unpruned search, and against its answers with other journals and budgets.
 use acceptance::Judged;
+use calls::Options;
 use calls::Row;
 use random_files::Trial;
 use relation::Relation;
@@ -60,7 +61,7 @@ fn looked_at(used: u64) -> usize {
 
 fn ask(file: &[u8], rows: usize, old: Row, budget: u64, probe: usize) -> Told {
     let mut buffer = [0u8; 4096];
-    standalone::checked(file, rows, old, budget, probe, &mut buffer)
+    standalone::checked(file, rows, old, Options { budget }, probe, &mut buffer)
 }
 
 fn put(journal: &mut [[u64; 8]], i: usize, row: [u64; 8]) {
@@ -224,7 +225,7 @@ pub fn compare(
 ) -> Outcome {
     let mut buffer = [0u8; 4096];
     let old = telling::blank_row();
-    let told = standalone::checked(file, ROWS, old, BUDGET, 0, &mut buffer);
+    let told = standalone::checked(file, ROWS, old, Options { budget: BUDGET }, 0, &mut buffer);
     let mut journal = [[0u64; 8]; KEPT];
     let n = looked_at(told.used);
     collect(file, ROWS, old, BUDGET, n, &mut journal);

@@ -1,5 +1,6 @@
 // The cases that document 01 marks P, as far as the library can be given rows and a budget, each as the check program prints it.
 // What should come stands in the file stdout; the judged runs are compared by cases_judging.
+use calls::Options;
 use calls::Row;
 use libc::STDOUT_FILENO;
 use relation::Relation;
@@ -163,7 +164,7 @@ const EQUAL: [u8; 16] = [1, 0, 0, 0, 0, 0, 0, 0, 1, 0, 0, 0, 0, 0, 0, 0];
 // Prints what is rendered of a check.
 fn print(file: &[u8], rows: usize, old: Row, budget: u64) {
     let mut text = [0u8; report::TEXT];
-    let size = report::render(file, rows, old, budget, &mut text);
+    let size = report::render(file, rows, old, Options { budget }, &mut text);
     io::write_all(STDOUT_FILENO, &text[..size]);
 }
 

@@ -1,6 +1,8 @@
 // The answer of a check as document 01, "The check program", has it, rendered into a lent buffer.
+use calls::Options;
 use calls::Row;
 use telling::Told;
+ghost use Rattle.calls.specs.Rows.{settingsOf};
 ghost use Rattle.calls.specs.Printing.{textOf, programText};
 ghost use Rattle.page.specs.Contracts.{Stands};
 ghost use Rattle.lines.specs.Lines.{toldText};
@@ -24,11 +26,11 @@ fn put_whole(text: &mut [u8; TEXT], told: Told, buffer: &[u8; RUN]) -> usize
 
 // Checks the file over a journal of so many rows, each old before, with the budget, and puts what is to be printed at the front of the
 // text. Gives how many bytes that are.
-pub fn render(file: &[u8], rows: usize, old: Row, budget: u64, text: &mut [u8; TEXT]) -> usize
-    ensures { λ r. ⌜ Stands (textOf (now (file .entry)) rows budget 4096) (now (text .entry)) (now (text .exit)) r ⌝ }
+pub fn render(file: &[u8], rows: usize, old: Row, options: Options, text: &mut [u8; TEXT]) -> usize
+    ensures { λ r. ⌜ Stands (textOf (now (file .entry)) (settingsOf rows options) 4096) (now (text .entry)) (now (text .exit)) r ⌝ }
 {
     let mut buffer = [0u8; RUN];
-    let told = standalone::checked(file, rows, old, budget, 0, &mut buffer);
+    let told = standalone::checked(file, rows, old, options, 0, &mut buffer);
     put_whole(text, told, &buffer)
 }
 
@@ -36,5 +38,11 @@ pub fn render(file: &[u8], rows: usize, old: Row, budget: u64, text: &mut [u8; T
 pub fn answer(file: &[u8], text: &mut [u8; TEXT]) -> usize
     ensures { λ r. ⌜ Stands (programText (now (file .entry))) (now (text .entry)) (now (text .exit)) r ⌝ }
 {
-    render(file, ROWS, telling::blank_row(), BUDGET, text)
+    render(
+        file,
+        ROWS,
+        telling::blank_row(),
+        Options { budget: BUDGET },
+        text,
+    )
 }

@@ -1,4 +1,4 @@
--- The three lines. Assumes nothing.
+-- Putting the three lines one after the other is putting their text in one list. Assumes nothing.
 use Rattle.page.specs.PageLaws.{puts-then}
 use Rattle.lines.specs.Lines.{brokenText}
 use borrow.Author.Needs.{needs}

@@ -1,4 +1,4 @@
--- The word, the number, and the end of the line. Assumes nothing.
+-- Putting the word, the number and the end of the line is putting them in one list. Assumes nothing.
 use Rattle.calls.specs.Printing.{refusedLine}
 use Rattle.lines.specs.LineLaws.{puts-end, puts-blank, puts-word}
 use borrow.Author.Needs.{needs}

@@ -1,4 +1,4 @@
--- The three numbers, and the end of the line. Assumes nothing.
+-- Putting the three numbers, and the end of the line, is putting them in one list. Assumes nothing.
 use Rattle.lines.specs.Lines.{rowLine}
 use Rattle.lines.specs.LineLaws.{puts-end, puts-blank, puts-first}
 use borrow.Author.Needs.{needs}

@@ -1,4 +1,4 @@
--- The numbers one after the other, and the end of the line. Assumes nothing.
+-- Putting the numbers one after the other, and the end of the line, is putting them in one list. Assumes nothing.
 use Rattle.lines.specs.LineLaws.{puts-end, puts-blank}
 use borrow.Author.Needs.{needs}
 use Rattle.lines.proofs.put_three.Statement.{statement}

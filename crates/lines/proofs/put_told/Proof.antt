@@ -1,4 +1,4 @@
--- By the number that is told. Assumes nothing.
+-- The number of the answer picks the same lines in code and definition. Assumes nothing.
 use mathlib.Core.Path.{ap, _∙_}
 use mathlib.Core.List.{List}
 use Prim.Native.Nat.{ℕ}

@@ -1,4 +1,5 @@
--- The numbers from i on, put where the loop stands, are all of them put where it began. Assumes nothing.
+-- The invariant: putting the numbers from `i` on at `place` gives what putting all of them at `at` gives, and the buffer keeps its length. The
+-- measure is the numbers that are left, one fewer at each turn. Assumes nothing.
 use mathlib.Core.Path.{_≡_, sym, ap, _∙_}
 use mathlib.Core.List.{List, _∷_}
 use Prim.Native.Nat.{ℕ, _≤_, _-_}

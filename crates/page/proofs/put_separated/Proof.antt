@@ -1,4 +1,4 @@
--- No number, or the first one and then those after it. Assumes nothing.
+-- For no number nothing is stored, and else the first and then the others, each after a blank. Assumes nothing.
 use mathlib.Core.Path.{_≡_, ap, _∙_}
 use mathlib.Core.List.{List}
 use Prim.Native.Nat.{ℕ, _-_}

@@ -23,8 +23,9 @@ abbrev μ-loop : tie.MeasureT-loop
 
 loop-again : tie.Need-loop-again Inv-loop μ-loop
 loop-again c =
-    let l = c .before .before .before .before .before .before .before .loop in
-    let ns = c .before .before .before .before .before .before .before .before .before .before .args .numbers .now in
+    let at-loop = c .before .before .before .before .before .before .before in
+    let l = at-loop .loop in
+    let ns = at-loop .before .before .before .args .numbers .now in
     let p = page (l .place) (l .text) in
     let put = c .before .before .put-blanked in
     let wide = c .before .before .before .wide in

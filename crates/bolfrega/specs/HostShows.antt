@@ -49,11 +49,11 @@ module _ (bs : List ℕ) (J B : ℕ) (a : Answer ℕ) (reply : checkOf bs J B �
   field-same : (f : Row ℕ → ℕ) (x y : Row ℕ) → f (getD (a .journal) (a .row) x) ≡ f (getD (a .journal) (a .row) y)
   field-same f x y = sym (getD-map f x 0 (a .journal) (a .row) in-journal) ∙ getD-map f y 0 (a .journal) (a .row) in-journal
 
-  row-length : brokenRow a .len ≡ capped (length run)
+  pub row-length : brokenRow a .len ≡ capped (length run)
   unfolding shown wordOf
   row-length = field-same (λ x. x .len) zeroRow _ ∙ p .rows-mean (a .row) (omega (arith, p .counts .last-row v)) .length-is
 
-  row-relation : brokenRow a .effect ≡ wordRelation states (automatonOf bs .transitions) run
+  pub row-relation : brokenRow a .effect ≡ wordRelation states (automatonOf bs .transitions) run
   unfolding shown
   row-relation =
       let order = from-order bs J B a reply .2 in

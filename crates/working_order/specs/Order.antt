@@ -104,16 +104,20 @@ module _ {E : Type 0} (starts : ℕ → Bool) where
   close k u next (stopped v i s) = answer v k i s
   close k u next (going s) = closeBy (eqb (length (s .rows)) u) k next s
 
+-- a check with J rows and a budget of B joins has at most this many passes: each but the last adds a row
+abbrev pub passLimit : ℕ → ℕ → ℕ
+passLimit J B = suc J
+
 module _ {E : Type 0} (A : Algebra E) (rules : List Rule) (J B : ℕ) where
   -- pass k, over the candidates of the journal as it stands when the pass begins
   unfoldable pub onePass : ℕ → Progress E → Outcome E
   onePass k s = walk (A .below) (A .breaks) J B k (passCandidates (A .forms) (s .rows) 0 rules) s
 
-  -- passes from pass k on. The bound on their number is never reached (Counting.antt), and the answer there is not "holds"
+  -- passes from pass k on, f of them at most. A check is never cut short by f (Counting.antt), and the answer there is not "holds"
   unfoldable pub passes : ℕ → ℕ → Progress E → Answer E
   passes zero k s = answer full k absent s
   passes (suc f) k s = close (A .starts) k (length (s .rows)) (passes f (suc k)) (onePass k s)
 
   -- passes count from 1, with no row used and no join made
   unfoldable pub check : Answer E
-  check = passes (suc J) 1 start
+  check = passes (passLimit J B) 1 start

@@ -12,3 +12,7 @@
 //     LocalArrays               a local array, lent or shared as a slice
 //     Borrowed                  what a `&mut T` points to
 //     PlainData                 structs of plain data
+// The letters of a step, in every file: M, 𝓤, H and A are a model of the logic (its resources, its heap, its atoms), and W what is given of
+// it. Γ is the context, one entry for each thing that the walk holds; E the locals; C and Λ the tables of calls and of loops; p or z what is
+// owed at the end; k or f the callee's name, xs its operands, d the place of its result, and `rest` the statements that follow. κ, ν are
+// lifetimes, q a share of a lifetime's token, γ, δ the names of a `&mut`, b and o the block and the offset of an address.

@@ -17,7 +17,7 @@ use Rattle.working_order.specs.Journal.{absent, capped}
 use Rattle.working_order.specs.Order.{Answer, Verdict, full, spent}
 use Rattle.calls.specs.Base.{base}
 use Rattle.calls.specs.Checking.{Settings, journalLimit, checkOf}
-use Rattle.calls.specs.DemandThree.{Derivable, Counterexample, joinsBound}
+use Rattle.calls.specs.DemandThree.{Derivable, Counterexample, joinsBound, Extends}
 use Rattle.calls.specs.Judging.{wordFault}
 use Rattle.calls.specs.Replies.{answered}
 use Rattle.calls.specs.Writing.{longWord}
@@ -157,10 +157,24 @@ module _ (bs : List ℕ) (g : Settings) (d old new : List ℕ) (r : ℕ) where
     pub length-is : toldLength d ≡ capped (length w)
     pub in-buffer : InBuffer w
 
-  -- a call with more rows or a larger budget, and the same buffer, tells the same once the number is 100 or 101
+  -- another call, whose buffer held the same before, gave the number r′, the details d′ and the buffer new′: the verdict, the joins, the pass
+  -- and the run are the same
+  pub record TellsAlike (d′ new′ : List ℕ) (r′ : ℕ) : Type 0 where
+    pub same-number : r′ ≡ r
+    pub same-joins : toldJoins d′ ≡ toldJoins d
+    pub same-pass : toldPass d′ ≡ toldPass d
+    pub same-pairs : toldPairs d′ ≡ toldPairs d
+    pub same-length : toldLength d′ ≡ toldLength d
+    pub same-refused : toldRefused d′ ≡ toldRefused d
+    pub same-buffer : new′ ≡ new
+
+  -- once the number is 100 or 101, a call with more rows or a larger budget, and the same buffer, tells the same
   pub record Stays : Type 0 where
-    pub larger : (r ≡ holdsCode) ⊎ (r ≡ brokenCode) → (g′ : Settings) → g .rows ≤ g′ .rows → g′ .rows ≤ journalLimit → g .budget ≤ g′ .budget
-        → (d′ new′ : List ℕ) (r′ : ℕ) → ChecksZeros bs g′ d′ old new′ r′ → (r′ ≡ r) × (d′ ≡ d) × (new′ ≡ new)
+    pub larger : (r ≡ holdsCode) ⊎ (r ≡ brokenCode) → (g′ : Settings) → Extends g g′
+        → (d′ new′ : List ℕ) (r′ : ℕ) → ChecksZeros bs g′ d′ old new′ r′ → TellsAlike d′ new′ r′
+    -- and today the same used rows and the same row, so that all details are the same
+    pub same-details : (r ≡ holdsCode) ⊎ (r ≡ brokenCode) → (g′ : Settings) → Extends g g′
+        → (d′ new′ : List ℕ) (r′ : ℕ) → ChecksZeros bs g′ d′ old new′ r′ → d′ ≡ d
 
   pub record CheckTells : Type 0 where
     pub refusing : Refusing

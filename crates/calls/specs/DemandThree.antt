@@ -77,6 +77,15 @@ module _ (bs : List ℕ) where
     pub shown-within : a .verdict ≡ broken → DerivesWithin (productionsOf bs) (a .pass) initial (shown bs a)
     pub none-lower : a .verdict ≡ broken → (h : ℕ) → h < a .pass → (w : List ℕ) → DerivesWithin (productionsOf bs) h initial w → Accepts (automatonOf bs) w
 
+  -- ---- stability
+
+  -- the answer b says what a says: the verdict, the joins, the pass and the word that is shown
+  pub record Agrees (a b : Answer ℕ) : Type 0 where
+    pub verdict : b .verdict ≡ a .verdict
+    pub joins : b .joins ≡ a .joins
+    pub pass : b .pass ≡ a .pass
+    pub word : shown bs b ≡ shown bs a
+
   -- ---- the rows
 
   -- row i that the check left, and the word behind it
@@ -117,6 +126,12 @@ module _ (bs : List ℕ) where
     pub untouched : (longWord ≤ length (shown bs a)) ⊎ (length old < length (shown bs a))
         → bufferAfter bs (journalAfter bs g rows) (a .used) (a .row) old ≡ old
 
+-- the settings g′ give a check at least the rows and the joins of g, and no more rows than a journal may have
+pub record Extends (g g′ : Settings) : Type 0 where
+  pub more-rows : g .rows ≤ g′ .rows
+  pub within-limit : g′ .rows ≤ journalLimit
+  pub more-joins : g .budget ≤ g′ .budget
+
 -- ---- what a check that answers promises
 
 -- the answer a to a check of the file bs with the settings g
@@ -128,6 +143,8 @@ pub record Promises (bs : List ℕ) (g : Settings) (a : Answer ℕ) : Type 0 whe
   pub antichain : LiveAntichain bs a
   -- whatever the rows of the journal held before, and whatever the buffer holds
   pub writes-shown : a .verdict ≡ broken → (rows : List (Row ℕ)) → length rows ≡ g .rows → (old : List ℕ) → WritesShown bs g a rows old
-  -- once the verdict is neither "full" nor "spent", a longer journal or a larger budget leaves the answer as it is, with its rows and
-  -- the shown word
-  pub stable : (a .verdict ≡ full → ⊥) → (a .verdict ≡ spent → ⊥) → (g′ : Settings) → g .rows ≤ g′ .rows → g′ .rows ≤ journalLimit → g .budget ≤ g′ .budget → checkOf bs g′ ≡ answered a
+  -- once the verdict is neither "full" nor "spent", a check with a longer journal or a larger budget answers with the same verdict, joins,
+  -- pass and shown word
+  pub stable : (a .verdict ≡ full → ⊥) → (a .verdict ≡ spent → ⊥) → (g′ : Settings) → Extends g g′ → (b : Answer ℕ) × (checkOf bs g′ ≡ answered b) × Agrees bs a b
+  -- and today with the same rows too: the answer is the whole of a
+  pub same-answer : (a .verdict ≡ full → ⊥) → (a .verdict ≡ spent → ⊥) → (g′ : Settings) → Extends g g′ → checkOf bs g′ ≡ answered a

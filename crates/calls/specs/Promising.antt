@@ -11,12 +11,12 @@ use borrow.Author.Tests.{eqb-false, ltb-false, ne-eqb, le-ltb}
 use Rattle.basics.specs.Tests.{or-neither}
 use Rattle.plan_file.specs.Refusals.{refuse, fault}
 use Rattle.working_order.specs.Journal.{Row}
-use Rattle.working_order.specs.Order.{Answer, broken}
+use Rattle.working_order.specs.Order.{Answer, broken, full, spent}
 use Rattle.calls.specs.Replies.{answered, unless}
 use Rattle.calls.specs.ReplyLaws.{reply-answers, reply-none}
 use Rattle.calls.specs.Checking.{Settings, journalLimit, journalFault, orderOn, checkOf, journalAfter, shown}
-use Rattle.calls.specs.DemandThree.{Counts, WritesShown, Promises}
-use Rattle.calls.specs.Truth.{one-verdict, counted, least-height, rows-mean, antichain, stable}
+use Rattle.calls.specs.DemandThree.{Counts, WritesShown, Extends, Promises}
+use Rattle.calls.specs.Truth.{one-verdict, counted, least-height, rows-mean, antichain, same-answer}
 use Rattle.calls.specs.Writing.{roomFault, wordOf, writeOf}
 use Rattle.calls.specs.WritingTruth.{word-shown, ten-left, writes-shown}
 
@@ -59,10 +59,17 @@ module _ (bs : List ℕ) (g : Settings) (a : Answer ℕ) (e : checkOf bs g ≡ a
         writes-shown = λ b rows n old.
             subst (λ (x : Answer ℕ). WritesShown bs g x rows old) (sym (o .2))
             (writes-shown bs v g (o .1) (counted bs v g (s .0)) (sym (ap (λ (x : Answer ℕ). x .verdict) (o .2)) ∙ b) rows n old);
-        stable = λ f p g′ j l b.
-            reply-none (fault bs ∷ refuse (journalFault (g′ .rows)) 0 ∷ []) (orderOn bs g′) (v, (size-journal (g′ .rows) (omega (arith, s .0, j)) l, tt))
-            ∙ ap answered (stable bs g g′ j b (λ x. f (ap (λ (y : Answer ℕ). y .verdict) (o .2) ∙ x)) (λ x. p (ap (λ (y : Answer ℕ). y .verdict) (o .2) ∙ x)) ∙ sym (o .2));
+        stable = λ f p g′ x. (a, whole v (s .0) (o .2) f p g′ x, record { verdict = refl; joins = refl; pass = refl; word = refl });
+        same-answer = whole v (s .0) (o .2);
       }
+    where
+      -- a longer journal is not refused either, and the working order answers the same on it
+      whole : fault bs .number ≡ 0 → 1 ≤ g .rows → a ≡ orderOn bs g → (a .verdict ≡ full → ⊥) → (a .verdict ≡ spent → ⊥)
+          → (g′ : Settings) → Extends g g′ → checkOf bs g′ ≡ answered a
+      whole v s o f p g′ x =
+          reply-none (fault bs ∷ refuse (journalFault (g′ .rows)) 0 ∷ []) (orderOn bs g′) (v, (size-journal (g′ .rows) (omega (arith, s, x .more-rows)) (x .within-limit), tt))
+          ∙ ap answered
+          (same-answer bs g g′ x (λ y. f (ap (λ (z : Answer ℕ). z .verdict) o ∙ y)) (λ y. p (ap (λ (z : Answer ℕ). z .verdict) o ∙ y)) ∙ sym o)
 
 -- ---- the word of a broken check, over a journal that held these rows before
 

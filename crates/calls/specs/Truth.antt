@@ -33,7 +33,7 @@ use Rattle.working_order.specs.Stability.{Firm, check-mono}
 use Rattle.calls.specs.Base.{starts, base, words}
 use Rattle.calls.specs.BaseLaws.{base-laws, word-sizes, relation-derived, word-derived}
 use Rattle.calls.specs.Checking.{Settings, orderOn, shown}
-use Rattle.calls.specs.DemandThree.{Derivable, Counterexample, OneVerdict, Counts, LeastHeight, RowMeans, LiveAntichain}
+use Rattle.calls.specs.DemandThree.{Derivable, Counterexample, OneVerdict, Counts, LeastHeight, RowMeans, LiveAntichain, Extends}
 use Rattle.calls.specs.JournalTruth.{rowAt, wordAt, row-true, incomparable}
 use Rattle.calls.specs.Writing.{wordOf}
 
@@ -194,9 +194,10 @@ module _ (bs : List ℕ) (v : fault bs .number ≡ 0) (g : Settings) where
 
 -- once a verdict is neither "full" nor "spent", a longer journal or a larger budget leaves the whole answer as it is: verdict, joins,
 -- used rows, pass, row and the rows themselves
-pub stable : (bs : List ℕ) (g g′ : Settings) → g .rows ≤ g′ .rows → g .budget ≤ g′ .budget → (orderOn bs g .verdict ≡ full → ⊥) → (orderOn bs g .verdict ≡ spent → ⊥) → orderOn bs g′ ≡ orderOn bs g
+pub same-answer : (bs : List ℕ) (g g′ : Settings) → Extends g g′ → (orderOn bs g .verdict ≡ full → ⊥) → (orderOn bs g .verdict ≡ spent → ⊥) → orderOn bs g′ ≡ orderOn bs g
 unfolding orderOn
-stable bs g g′ j b f s = check-mono (base states (automatonOf bs)) (rulesOf bs) (g .rows) (g .budget) (g′ .rows) (g′ .budget) j b (firm (orderOn bs g .verdict) f s)
+same-answer bs g g′ x f s =
+    check-mono (base states (automatonOf bs)) (rulesOf bs) (g .rows) (g .budget) (g′ .rows) (g′ .budget) (x .more-rows) (x .more-joins) (firm (orderOn bs g .verdict) f s)
   where
     firm : (x : Verdict) → (x ≡ full → ⊥) → (x ≡ spent → ⊥) → Firm x
     firm holds f s = tt

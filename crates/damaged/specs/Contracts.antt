@@ -12,10 +12,10 @@ use Rattle.telling.specs.Fronts.{journalOf, placeOf}
 use Rattle.writer.specs.Contracts.{Writes}
 use Rattle.writer.specs.declared.Writing.{Writing}
 
--- the journal after a check with n rows, each x before, and the options o, with x as row i
+-- the journal after a check of bs over n rows, each x before, with the options o, and then with x as row i
 abbrev pub damagedRows : List ℕ → ℕ → Options → ℕ → LentRow → List (Row ℕ)
 damagedRows bs n o i x = set (journalAfter bs (settingsOver o (journalOf n x)) (map rowOf (journalOf n x))) (placeOf i) (rowOf x)
 
--- the run behind row k of it is written, with u rows used
+-- the run behind row k of that journal is written, with u rows used; old and new are the buffer before and after, r what writing answers
 abbrev pub WritesDamaged : List ℕ → ℕ → Options → ℕ → LentRow → ℕ → ℕ → List ℕ → List ℕ → Writing → Type 0
 WritesDamaged bs n o i x u k old new r = Writes bs (damagedRows bs n o i x) u k old new r

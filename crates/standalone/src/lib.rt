@@ -6,7 +6,7 @@ use telling::ROWS;
 use telling::Told;
 ghost use Rattle.standalone.specs.Contracts.{ChecksAlone};
 
-// Runs a check of `file` on a fresh journal of `rows` rows, each initialised to `old`, with a budget of `budget` joins. If the verdict is
+// Runs a check of `file` on a fresh journal of `rows` rows, each initialised to `old`, with these `options`. If the verdict is
 // broken, writes its run to `buffer`. The result also contains row `probe` of the journal after the check, for tests. The proof is a walk
 // (proofs/checked).
 pub fn checked(

@@ -7,12 +7,8 @@ use native.Mathlib.Omega.{arith}
 use lib.Dec.{T}
 use lib.ListN.{length, take, drop, take-append-drop}
 use Rattle.basics.specs.Lists.{drop-map}
-use Rattle.relation.specs.Digits.{number}
-use Rattle.relation.specs.Relation.{states}
-use Rattle.language.specs.WordRelation.{isFinal}
 use Rattle.plan_file.specs.Refusals as refusals
 use Rattle.plan_file.specs.Refusals.{refuse, fault, byNumber}
-use Rattle.plan_file.specs.Views.{automatonOf}
 use Rattle.working_order.specs.Order as order
 use Rattle.working_order.specs.Journal.{Row}
 use Rattle.calls.specs.Checking.{Settings, journalFault, orderOn, checkOf, keptBy, journalAfter}
@@ -27,6 +23,7 @@ use Rattle.deciding.specs.declared.State.{State}
 use Rattle.deciding.specs.declared.Terms.{Terms}
 use Rattle.verdicts.specs.Contracts as search
 use Rattle.verdicts.specs.Contracts.{orderOf}
+use Rattle.verdicts.specs.Problems.{Letters, RuleBytes, Problem, problemIn}
 use Rattle.verdicts.specs.Meanings.{answerIn, answerOf, totalsIn}
 use Rattle.verdicts.specs.Running.{Ran}
 use Rattle.verdicts.specs.declared.Answer.{Answer}
@@ -38,7 +35,7 @@ use Rattle.checker.specs.Answers.{checkedBy, checkedOf, usedIn}
 use Rattle.checker.specs.Contracts.{settingsOver, Checks}
 use Rattle.checker.specs.OrderLaws.{order-same}
 use Rattle.requests.specs.Refusing.{refusalFor}
-use Rattle.starting.specs.Starting.{Starts}
+use Rattle.starting.specs.Starting.{problemOf, Starts}
 use Rattle.requests.proofs.Refusals.{none-refused}
 
 -- ---- what an answer says of the journal
@@ -87,12 +84,12 @@ module _ (bs : List ℕ) (o : Options) (old : Journal) where
       (front-rest (totalsIn a .used) old new (x .beyond) ∙ sym (ap₂ (λ (l : List (Row ℕ)) (u : ℕ). l ++ drop u (map rowOf old)) (answer-journal a new) (answer-used a new)))
       (subst (λ (u : ℕ). drop u new ≡ drop u old) (sym (answer-used a new)) (x .beyond))
 
-  module _ (letters : List ℕ) (rules : List (List ℕ)) (t t′ : List ℕ) (r : Start) (h : Starts bs g letters rules t r) (new : Journal) (last : State) (ran : Ran letters rules (r .state) old new t′ last) where
+  module _ (letters : Letters) (rules : RuleBytes) (t t′ : List ℕ) (r : Start) (h : Starts bs g letters rules t r) (new : Journal) (last : State) (ran : Ran letters rules (r .state) old new t′ last) where
     abbrev s : State
     s = r .state
 
-    abbrev finals : ℕ
-    finals = number states (isFinal (automatonOf bs))
+    abbrev P : Problem
+    P = problemOf bs letters (take (s .rules) rules)
 
     -- ---- something refused: the search did nothing
     module _ (z : r .refusal .number ≡ 0 → ⊥) where
@@ -109,22 +106,22 @@ module _ (bs : List ℕ) (o : Options) (old : Journal) where
     -- ---- nothing refused
     module _ (z : r .refusal .number ≡ 0) where
       -- it ended, or it did not begin
-      ended : search.Checked (orderOf letters (take (s .rules) rules) finals (g .rows) (g .budget)) old new (answerIn last)
+      ended : search.Checked (orderOf P g) old new (answerIn last)
       ended = by (s .going) refl
         where
-          by : (b : Bool) → s .going ≡ b → search.Checked (orderOf letters (take (s .rules) rules) finals (g .rows) (g .budget)) old new (answerIn last)
+          by : (b : Bool) → s .going ≡ b → search.Checked (orderOf P g) old new (answerIn last)
           by true e =
               let on : T (s .going) = subst T (sym e) tt in
               let stood = h .begins z .stands old refl in
-              subst (λ (x : Terms). search.Checked (orderOf letters (take (s .rules) rules) (x .finals) (g .rows) (x .budget)) old new (answerIn last)) (stood .goes on .begun .terms) (ran .1 .stands on .ends (ran .0))
+              subst (λ (x : Terms). search.Checked (orderOf (problemIn x letters (take (s .rules) rules)) (record { rows = g .rows; budget = x .budget })) old new (answerIn last)) (stood .goes on .begun .terms) (ran .1 .stands on .ends (ran .0))
           by false e =
               let off : T (not (s .going)) = subst (λ (b : Bool). T (not b)) (sym e) tt in
               let i = ran .1 .idle off in
-              subst₂ (λ (x : State) (j : Journal). search.Checked (orderOf letters (take (s .rules) rules) finals (g .rows) (g .budget)) old j (answerIn x)) (sym (i .0)) (sym (i .1)) (h .begins z .stands old refl .ends off)
+              subst₂ (λ (x : State) (j : Journal). search.Checked (orderOf P g) old j (answerIn x)) (sym (i .0)) (sym (i .1)) (h .begins z .stands old refl .ends off)
 
-      on-file : orderOf letters (take (s .rules) rules) finals (g .rows) (g .budget) ≡ orderOn bs g
+      on-file : orderOf P g ≡ orderOn bs g
       on-file =
-          ap (λ (l : List ℕ). orderOf l (take (s .rules) rules) finals (g .rows) (g .budget)) (h .begins z .relations)
+          ap (λ (l : Letters). orderOf (problemOf bs l (take (s .rules) rules)) g) (h .begins z .relations)
           ∙ order-same bs (none-refused bs (length old) (r .refusal) (h .refusal) z .0) (take (s .rules) rules) (h .begins z .entries) g
 
       answered-so : Checks bs o old new (checked.Answered (answerIn last))

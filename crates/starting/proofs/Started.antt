@@ -27,6 +27,7 @@ use Rattle.covers.specs.Rows.{Journal}
 use Rattle.deciding.specs.declared.State.{State}
 use Rattle.deciding.specs.declared.Terms.{Terms}
 use Rattle.verdicts.specs.Passes.{pass-first}
+use Rattle.verdicts.specs.Problems.{Letters, RuleBytes, Problem, problemIn}
 use Rattle.verdicts.specs.Running.{Stands, Running, MayOpen, Opens, Onward}
 use Rattle.verdicts.specs.States.{opening}
 use Rattle.verdicts.specs.declared.Reached.{Reached}
@@ -37,7 +38,7 @@ use Rattle.requests.specs.Refusing.{refusalFor}
 use Rattle.requests.specs.RuleLaws.{rules-fit, rules-in}
 use Rattle.requests.proofs.Refusals.{none-refused}
 use Rattle.starting.specs.declared.Start.{Start}
-use Rattle.starting.specs.Starting.{waiting, Starts}
+use Rattle.starting.specs.Starting.{waiting, problemOf, Starts}
 
 -- a journal that 8 does not refuse
 journal-size : (J : ℕ) → journalFault J ≡ 0 → (0 < J) × (J ≤ journalLimit)
@@ -55,23 +56,26 @@ module _ (bs : List ℕ) (g : Settings) where
   B = g .budget
 
   -- ---- at the ends
-  pub starts-refused : (letters : List ℕ) (rules : List (List ℕ)) (t : List ℕ) (r : Refusal) → refusalOf r ≡ refusalFor bs J → (r .number ≡ 0 → ⊥) → (s : State) → s ≡ waiting g 0 0 → Starts bs g letters rules t (record { refusal = r; state = s })
+  pub starts-refused : (letters : Letters) (rules : RuleBytes) (t : List ℕ) (r : Refusal) → refusalOf r ≡ refusalFor bs J → (r .number ≡ 0 → ⊥) → (s : State) → s ≡ waiting g 0 0 → Starts bs g letters rules t (record { refusal = r; state = s })
   starts-refused letters rules t r e z s w = record { refusal = e; refused = λ _. ap (λ (x : State). x .going) w; begins = λ q. absurd (z q) }
 
-  pub may-open : (finals : ℕ) (before rules : List (List ℕ)) (n : ℕ) → RuleTable bs before rules n → (t : List ℕ) → t ≡ replicate tableCells end → (w : State) → w ≡ waiting g n finals → MayOpen rules n (w .counts) t
+  pub may-open : (finals : ℕ) (before rules : RuleBytes) (n : ℕ) → RuleTable bs before rules n → (t : List ℕ) → t ≡ replicate tableCells end → (w : State) → w ≡ waiting g n finals → MayOpen rules n (w .counts) t
   may-open finals before rules n en t et w ew =
       subst (λ (x : State). MayOpen rules n (x .counts) t) (sym ew) (record { table = ap length et ∙ length-replicate tableCells end; count = rules-fit bs before rules n en; used = omega arith })
 
-  module _ (letters : List ℕ) (el : letters ≡ letterTable states (transitionsOf bs)) (finals : ℕ) (ef : finals ≡ number states (isFinal (automatonOf bs))) (before rules : List (List ℕ)) (n : ℕ) (en : RuleTable bs before rules n) (t t′ : List ℕ)
+  module _ (letters : Letters) (el : letters ≡ letterTable states (transitionsOf bs)) (finals : ℕ) (ef : finals ≡ number states (isFinal (automatonOf bs))) (before rules : RuleBytes) (n : ℕ) (en : RuleTable bs before rules n) (t t′ : List ℕ)
       (et : t ≡ replicate tableCells end) (w : State) (ew : w ≡ waiting g n finals) (x : Reached) (o : Opens rules t n (w .terms) (w .counts) t′ x) (s : State) (es : s ≡ opening w (w .terms) x) (r : Refusal) (e : refusalOf r ≡ refusalFor bs J) (z : r .number ≡ 0) where
+    abbrev P : Problem
+    P = problemIn (waiting g n finals .terms) letters (take n rules)
+
     quiet : (fault bs .number ≡ 0) × (journalFault J ≡ 0)
     quiet = none-refused bs J r e z
 
-    opened : (j : Journal) → length j ≡ J → Onward letters (take n rules) finals B j (record { used = 0; joins = 0 }) s j t′
+    opened : (j : Journal) → length j ≡ J → Onward P B j (record { used = 0; joins = 0 }) s j t′
     opened j l =
         let k = journal-size J (quiet .1) in
-        subst (λ (y : State). Onward letters (take n rules) finals B j (record { used = 0; joins = 0 }) y j t′) (sym (es ∙ ap (λ (y : State). opening y (y .terms) x) ew))
-        (subst (λ (y : State). Opens rules t n (y .terms) (y .counts) t′ x) ew o letters finals B j j 1 0 (waiting g n finals) refl (record { all = omega (arith, ap length el, letters-length states (transitionsOf bs)); some = omega (arith, l, k .0); limit = omega (arith, l, k .1) }) (sym l) (pass-first letters (take n rules) finals B j) refl (omega arith) (λ q. absurd (omega (arith, q)))
+        subst (λ (y : State). Onward P B j (record { used = 0; joins = 0 }) y j t′) (sym (es ∙ ap (λ (y : State). opening y (y .terms) x) ew))
+        (subst (λ (y : State). Opens rules t n (y .terms) (y .counts) t′ x) ew o P B j j 1 0 (waiting g n finals) refl (record { all = omega (arith, ap length el, letters-length states (transitionsOf bs)); some = omega (arith, l, k .0); limit = omega (arith, l, k .1) }) (sym l) (pass-first P B j) refl (omega arith) (λ q. absurd (omega (arith, q)))
         (subst (λ (rows : List Row). Covering rows t) (sym (rows-none j)) (subst (Covering []) (sym et) covering-none)))
 
     fit : n ≤ length rules
@@ -88,12 +92,12 @@ module _ (bs : List ℕ) (g : Settings) where
         relations = el;
         whole = subst (λ (k : ℕ). k ≤ length rules) count fit;
         entries = subst (λ (k : ℕ). map entryOf (take k rules) ≡ rulesOf bs) count (rules-in bs (quiet .0) before rules n en);
-        stands = λ j l. subst (λ (k : ℕ). Stands letters (take k rules) (number states (isFinal (automatonOf bs))) B j s j t′) count (subst (λ (f : ℕ). Stands letters (take n rules) f B j s j t′) ef (opened j l .stands));
+        stands = λ j l. subst (λ (k : ℕ). Stands (problemOf bs letters (take k rules)) B j s j t′) count (subst (λ (f : ℕ). Stands (problemIn (waiting g n f .terms) letters (take n rules)) B j s j t′) ef (opened j l .stands));
       };
     }
 
   -- ---- then the search may run, over every journal of J rows
-  module _ (letters : List ℕ) (rules : List (List ℕ)) (t : List ℕ) (r : Start) (h : Starts bs g letters rules t r) (j : Journal) (l : length j ≡ J) where
+  module _ (letters : Letters) (rules : RuleBytes) (t : List ℕ) (r : Start) (h : Starts bs g letters rules t r) (j : Journal) (l : length j ≡ J) where
     abbrev s : State
     s = r .state
 
@@ -108,7 +112,7 @@ module _ (bs : List ℕ) (g : Settings) where
               idle = λ _. (refl, refl);
               sized = λ _. record { all = omega (arith, ap length (b .relations), letters-length states (transitionsOf bs)); some = omega (arith, l, k .0); limit = omega (arith, l, k .1) };
               whole = λ _. b .whole;
-              stands = λ g. subst (λ (x : Terms). Stands letters (take (s .rules) rules) (x .finals) (x .budget) j s j t) (sym (b .stands j l .goes g .begun .terms)) (b .stands j l);
+              stands = λ g. subst (λ (x : Terms). Stands (problemIn x letters (take (s .rules) rules)) (x .budget) j s j t) (sym (b .stands j l .goes g .begun .terms)) (b .stands j l);
             }
         by (suc k) z =
             let none : T (s .going) → ⊥ = λ g. subst T (h .refused (λ q. let y : ⊥ = omega (arith, sym z ∙ q) in y)) g in

@@ -13,6 +13,7 @@ use Rattle.calls.specs.Checking.{Settings}
 use Rattle.calls.specs.Rows.{entryOf}
 use Rattle.covers.specs.Rows.{Journal}
 use Rattle.deciding.specs.declared.State.{State}
+use Rattle.verdicts.specs.Problems.{Letters, RuleBytes, Problem}
 use Rattle.verdicts.specs.Running.{Stands}
 use Rattle.tables.specs.Tables.{letterTable}
 use Rattle.requests.specs.Refusing.{refusalFor}
@@ -34,14 +35,18 @@ waiting g n finals =
       broken = 0;
     }
 
+-- what a check of the file bs works on, with these tables
+abbrev pub problemOf : List ℕ → Letters → RuleBytes → Problem
+problemOf bs letters rules = record { letters = letters; rules = rules; finals = number states (isFinal (automatonOf bs)) }
+
 -- the tables are the file's, and over every journal of so many rows the search stands in s
-pub record Begins (bs : List ℕ) (g : Settings) (letters : List ℕ) (rules : List (List ℕ)) (t : List ℕ) (s : State) : Type 0 where
+pub record Begins (bs : List ℕ) (g : Settings) (letters : Letters) (rules : RuleBytes) (t : List ℕ) (s : State) : Type 0 where
   pub relations : letters ≡ letterTable states (transitionsOf bs)
   pub whole : s .rules ≤ length rules
   pub entries : map entryOf (take (s .rules) rules) ≡ rulesOf bs
-  pub stands : (j : Journal) → length j ≡ g .rows → Stands letters (take (s .rules) rules) (number states (isFinal (automatonOf bs))) (g .budget) j s j t
+  pub stands : (j : Journal) → length j ≡ g .rows → Stands (problemOf bs letters (take (s .rules) rules)) (g .budget) j s j t
 
-pub record Starts (bs : List ℕ) (g : Settings) (letters : List ℕ) (rules : List (List ℕ)) (t : List ℕ) (r : Start) : Type 0 where
+pub record Starts (bs : List ℕ) (g : Settings) (letters : Letters) (rules : RuleBytes) (t : List ℕ) (r : Start) : Type 0 where
   pub refusal : refusalOf (r .refusal) ≡ refusalFor bs (g .rows)
   -- nothing is done where something refuses
   pub refused : (r .refusal .number ≡ 0 → ⊥) → r .state .going ≡ false

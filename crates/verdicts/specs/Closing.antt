@@ -8,7 +8,6 @@ use lib.ListN.{length}
 use borrow.Author.Tests.{eqb-false}
 use Rattle.working_order.specs.Journal.{absent}
 use Rattle.working_order.specs.Order.{Verdict, holds, broken, answer as answerWith, closeBy, close}
-use Rattle.calls.specs.Base.{starts}
 use Rattle.rows.specs.Base as order
 use Rattle.covers.specs.Rows.{Journal, firstRows}
 use Rattle.verdicts.specs.Meanings.{progressOf, verdictOf, outcomeOf, countsIn, totalsOf, answerBy, answerOf, totalsIn, answerTo}
@@ -44,7 +43,7 @@ abbrev pub endUsed : PassEnd → ℕ
 endUsed (Again w) = w .used
 endUsed (Done a) = totalsIn a .used
 
-module _ (u k : ℕ) (j : Journal) (N : order.Progress → order.Answer) where
+module _ (starts : ℕ → Bool) (u k : ℕ) (j : Journal) (N : order.Progress → order.Answer) where
   answer-given : (v : Verdict) (i : ℕ) (w : Counts) → w .used ≤ length j → answerBy v i (totalsOf w k) j ≡ answerWith v k i (progressOf w j)
   unfolding answerWith
   answer-given v i w h = ap (λ (n : ℕ). record { verdict = v; joins = w .joins; used = n; pass = k; row = i; journal = firstRows (w .used) j }) (sym (rows-length (w .used) j h))

@@ -9,6 +9,7 @@ use Rattle.rows.specs.Base as order
 use Rattle.covers.specs.Rows.{Journal, firstRows}
 use Rattle.deciding.specs.declared.Counts.{Counts}
 use Rattle.deciding.specs.declared.State.{State}
+use Rattle.verdicts.specs.Problems.{breakingIn}
 use Rattle.verdicts.specs.declared.Answer.the-variants as answer
 use Rattle.verdicts.specs.declared.Answer.{Answer}
 use Rattle.verdicts.specs.declared.Outcome.the-variants as outcome
@@ -61,7 +62,7 @@ decidedBy true f b u n = outcome.Going (record { used = u; joins = n })
 decidedBy false f b u n = fullBy f b u n
 
 abbrev pub decidedIn : State → order.Candidate → Bool → Outcome
-decidedIn s c k = decidedBy k (eqb (s .counts .used) (s .rows)) (order.breaking (s .terms .finals) c) (s .counts .used) (s .counts .joins + 1)
+decidedIn s c k = decidedBy k (eqb (s .counts .used) (s .rows)) (breakingIn (s .terms) c) (s .counts .used) (s .counts .joins + 1)
 
 -- ---- answers
 

@@ -13,19 +13,15 @@ use borrow.Author.Tests.{eqb-true, ltb-true, ltb-false}
 use Rattle.basics.specs.Lists.{getD-map}
 use Rattle.basics.specs.Tests.{and-fst, and-snd}
 use Rattle.language.specs.Grammar.{terminal, nonterminal, Body, empty, one, two, Rule}
-use Rattle.relation.specs.Digits.{bit}
-use Rattle.relation.specs.Relation.{states, contained}
-use Rattle.relation.specs.Representation.{value}
+use Rattle.relation.specs.Relation.{contained}
 use Rattle.working_order.specs.Candidates.{sole, paired, bare}
 use Rattle.working_order.specs.Coverage.{dropped-added}
 use Rattle.working_order.specs.Journal.{absent}
 use Rattle.working_order.specs.Order.{Verdict, going, andThen, dropped, walk, retire, born, added}
 use Rattle.working_order.specs.Repeating.{PointsBelow, Repeats}
 use Rattle.working_order.specs.Walking.{Post, step-post}
-use Rattle.calls.specs.BaseLaws.{base-by-laws}
 use Rattle.calls.specs.Rows.{rowOf, blank}
 use Rattle.rows.specs.Base as order
-use Rattle.rows.specs.Meanings.{letterIn, baseOf}
 use Rattle.rows.specs.Forming.{Part, none, some, rowChoice, leftPart, rightPart, partChoice, combined, formedBy}
 use Rattle.rows.specs.declared.Place.{Place}
 use Rattle.places.specs.Lists.{rowIn, Listed}
@@ -34,6 +30,8 @@ use Rattle.covers.specs.Covers.{Covering}
 use Rattle.covers.specs.Rows.{Journal, firstRows}
 use Rattle.covers.specs.RowLaws.{rows-length, rows-at}
 use Rattle.verdicts.specs.Meanings.{progressOf, countsIn}
+use Rattle.verdicts.specs.Problems.{Letters, Problem, algebraOf, problemIn}
+use Rattle.verdicts.specs.ProblemLaws.{problem-laws}
 use Rattle.verdicts.specs.Walks.{considerIn, walkIn, candidatesIn, isBefore, repeatsAt, Known}
 use Rattle.verdicts.specs.Contracts.{Ready, Answers}
 use Rattle.verdicts.specs.Deciding.{answers-dropped}
@@ -65,14 +63,14 @@ consider-goes : (t : Terms) (J : ℕ) (P : order.Progress → Type 0) (c : order
     → P (record { rows = s .rows; joins = suc (s .joins) }) → P (record { rows = added contained (t .pass) c (s .rows); joins = suc (s .joins) }) → P s′
 consider-goes t J P c s s′ e p q =
     subst (Post P R) (sym e)
-    (step-post (baseOf [] (t .finals)) J (t .budget) (t .pass) P R c s (λ e₁. tt) (λ e₁ e₂. p) (λ e₁ e₂ e₃. tt) (λ e₁ e₂ e₃ e₄. tt) (λ e₁ e₂ e₃ e₄. q))
+    (step-post (algebraOf (problemIn t [] [])) J (t .budget) (t .pass) P R c s (λ e₁. tt) (λ e₁ e₂. p) (λ e₁ e₂ e₃. tt) (λ e₁ e₂ e₃ e₄. tt) (λ e₁ e₂ e₃ e₄. q))
   where
     R : Verdict → ℕ → order.Progress → Type 0
     R v i u = Unit
 
 -- ---- what is formed from them
 
-part-same : (letters : List ℕ) (p : Part) (i : ℕ) (r r′ : order.Row) → rowChoice i r ≡ rowChoice i r′ → partChoice letters p i r ≡ partChoice letters p i r′
+part-same : (letters : Letters) (p : Part) (i : ℕ) (r r′ : order.Row) → rowChoice i r ≡ rowChoice i r′ → partChoice letters p i r ≡ partChoice letters p i r′
 part-same letters none i r r′ e = refl
 part-same letters (some (terminal c)) i r r′ e = refl
 part-same letters (some (nonterminal x)) i r r′ e = e
@@ -94,7 +92,7 @@ module _ (A : List order.Row) (u : ℕ) (j : Journal) (room : u ≤ length j) (k
           ap (rowChoice i)
           (List·getD-eq-default (firstRows (length A) j) (rowOf blank) (subst (λ (m : ℕ). m ≤ i) (sym (rows-length (length A) j n)) l) ∙ sym (List·getD-eq-default A (rowOf blank) l))
 
-  formed-same : (letters : List ℕ) (x : Rule) (p : Place) → formedBy letters x p (rowIn (firstRows (length A) j) (p .left)) (rowIn (firstRows (length A) j) (p .right)) ≡ formedBy letters x p (rowIn A (p .left)) (rowIn A (p .right))
+  formed-same : (letters : Letters) (x : Rule) (p : Place) → formedBy letters x p (rowIn (firstRows (length A) j) (p .left)) (rowIn (firstRows (length A) j) (p .right)) ≡ formedBy letters x p (rowIn A (p .left)) (rowIn A (p .right))
   formed-same letters x p =
       ap₂ (combined (x .head) (p .rule) (x .body))
       (part-same letters (leftPart (x .body)) (p .left) (rowIn (firstRows (length A) j) (p .left)) (rowIn A (p .left)) (row-same (p .left)))
@@ -108,12 +106,12 @@ before-below n i e = by (ltb i n) refl e
     by true l h = inl (ltb-true i n l)
     by false l h = inr (eqb-true i absent h)
 
-part-below : (letters : List ℕ) (p : Part) (n i : ℕ) (r : order.Row) → PointsBelow n i → PointsBelow n (partChoice letters p i r .pointer)
+part-below : (letters : Letters) (p : Part) (n i : ℕ) (r : order.Row) → PointsBelow n i → PointsBelow n (partChoice letters p i r .pointer)
 part-below letters none n i r h = inr refl
 part-below letters (some (terminal c)) n i r h = inr refl
 part-below letters (some (nonterminal x)) n i r h = h
 
-formed-repeats : (n : ℕ) (letters : List ℕ) (x : Rule) (p : Place) (l r : order.Row) → repeatsAt n p ≡ true → (0 < n) × Repeats n (formedBy letters x p l r)
+formed-repeats : (n : ℕ) (letters : Letters) (x : Rule) (p : Place) (l r : order.Row) → repeatsAt n p ≡ true → (0 < n) × Repeats n (formedBy letters x p l r)
 unfolding bare sole paired
 formed-repeats n letters x p l r e =
     let both = and-snd (ltb 0 n) (isBefore n (p .left) && isBefore n (p .right)) e in
@@ -126,48 +124,48 @@ formed-repeats n letters x p l r e =
 
 -- ---- the loop
 
-module _ (t : Terms) (letters lists : List ℕ) (rules : List (List ℕ)) (w₀ : Counts) (j₀ : Journal) where
+module _ (t : Terms) (P : Problem) (lists : List ℕ) (w₀ : Counts) (j₀ : Journal) where
   -- the rows that the pass begins with
   abbrev first : List order.Row
   first = firstRows (w₀ .used) j₀
 
   abbrev whole : order.Outcome
-  whole = walkIn t (length j₀) (onward letters first lists rules 0) (progressOf w₀ j₀)
+  whole = walkIn t (length j₀) (onward (P .letters) first lists (P .rules) 0) (progressOf w₀ j₀)
 
   -- the invariant
   pub record InPass (covers : List ℕ) (w : Counts) (j : Journal) (p : Place) : Type 0 where
     pub candidates : List order.Candidate
     pub known : Known (t .before) candidates (firstRows (w .used) j)
-    pub stands : Stands letters first lists rules p candidates
+    pub stands : Stands (P .letters) first lists (P .rules) p candidates
     pub left : Remaining (t .budget) whole (walkIn t (length j₀) candidates (progressOf w j)) w₀ j₀ w j
     pub kept : Kept first (firstRows (w .used) j)
     pub covering : Covering (firstRows (w .used) j) covers
 
   module _ (listed : Listed first lists) where
-    pub pass-start : (covers : List ℕ) (p : Place) → Ready t w₀ j₀ covers → Known (t .before) (candidatesIn letters rules first) first → Opens lists rules 0 p → InPass covers w₀ j₀ p
+    pub pass-start : (covers : List ℕ) (p : Place) → Ready t w₀ j₀ covers → Known (t .before) (candidatesIn P first) first → Opens lists (P .rules) 0 p → InPass covers w₀ j₀ p
     pass-start covers p r k o =
         record {
-          candidates = onward letters first lists rules 0;
+          candidates = onward (P .letters) first lists (P .rules) 0;
           known = k;
-          stands = o letters first listed;
+          stands = o (P .letters) first listed;
           left = remaining-start (r .room) (r .paid);
           kept = (le-refl (length first), λ i l. refl);
           covering = r .covering;
         }
 
     module _ {covers : List ℕ} {w : Counts} {j : Journal} {p : Place} (g : InPass covers w j p) where
-      pub pass-end : length rules ≤ p .rule → Answers (t .budget) whole w₀ j₀ j (Going w)
+      pub pass-end : length (P .rules) ≤ p .rule → Answers (t .budget) whole w₀ j₀ j (Going w)
       unfolding walk
       pass-end h = by (g .candidates) (g .stands) (g .left)
         where
-          by : (cs : List order.Candidate) → Stands letters first lists rules p cs → Remaining (t .budget) whole (walkIn t (length j₀) cs (progressOf w j)) w₀ j₀ w j → Answers (t .budget) whole w₀ j₀ j (Going w)
+          by : (cs : List order.Candidate) → Stands (P .letters) first lists (P .rules) p cs → Remaining (t .budget) whole (walkIn t (length j₀) cs (progressOf w j)) w₀ j₀ w j → Answers (t .budget) whole w₀ j₀ j (Going w)
           by [] s l = remaining-none l
           by (c ∷ cs) s l = absurd (omega (arith, h, s .0))
 
-      module _ (hs : t .start ≡ w₀ .used) (h : p .rule < length rules) {c : order.Candidate} (e : c ≡ formedBy letters (ruleAt rules (p .rule)) p (rowIn (firstRows (t .start) j) (p .left)) (rowIn (firstRows (t .start) j) (p .right))) where
+      module _ (hs : t .start ≡ w₀ .used) (h : p .rule < length (P .rules)) {c : order.Candidate} (e : c ≡ formedBy (P .letters) (ruleAt (P .rules) (p .rule)) p (rowIn (firstRows (t .start) j) (p .left)) (rowIn (firstRows (t .start) j) (p .right))) where
         -- the candidate is the first that is left
         abbrev Next : order.Candidate → List order.Candidate → Type 0
-        Next d ds = (d ≡ c) × ((q : Place) → Follows lists rules p q → Stands letters first lists rules q ds)
+        Next d ds = (d ≡ c) × ((q : Place) → Follows lists (P .rules) p q → Stands (P .letters) first lists (P .rules) q ds)
             × Remaining (t .budget) whole (walkIn t (length j₀) (d ∷ ds) (progressOf w j)) w₀ j₀ w j
             × Known (t .before) (d ∷ ds) (firstRows (w .used) j)
 
@@ -177,17 +175,17 @@ module _ (t : Terms) (letters lists : List ℕ) (rules : List (List ℕ)) (w₀ 
         next : (d : order.Candidate) × (ds : List order.Candidate) × Next d ds
         next = by (g .candidates) (g .stands) (g .left) (g .known)
           where
-            by : (cs : List order.Candidate) → Stands letters first lists rules p cs → Remaining (t .budget) whole (walkIn t (length j₀) cs (progressOf w j)) w₀ j₀ w j → Known (t .before) cs (firstRows (w .used) j) → (d : order.Candidate) × (ds : List order.Candidate) × Next d ds
+            by : (cs : List order.Candidate) → Stands (P .letters) first lists (P .rules) p cs → Remaining (t .budget) whole (walkIn t (length j₀) cs (progressOf w j)) w₀ j₀ w j → Known (t .before) cs (firstRows (w .used) j) → (d : order.Candidate) × (ds : List order.Candidate) × Next d ds
             by [] z l k = absurd (z h)
             by (d ∷ ds) z l k = (
               d,
               ds,
               (
                 z .1
-                    ∙ sym (formed-same first (w .used) j (omega (arith, g .left .room, g .left .same)) (g .kept) letters (ruleAt rules (p .rule)) p)
-                    ∙ ap (λ (n : ℕ). formedBy letters (ruleAt rules (p .rule)) p (rowIn (firstRows n j) (p .left)) (rowIn (firstRows n j) (p .right))) (sym start-length)
+                    ∙ sym (formed-same first (w .used) j (omega (arith, g .left .room, g .left .same)) (g .kept) (P .letters) (ruleAt (P .rules) (p .rule)) p)
+                    ∙ ap (λ (n : ℕ). formedBy (P .letters) (ruleAt (P .rules) (p .rule)) p (rowIn (firstRows n j) (p .left)) (rowIn (firstRows n j) (p .right))) (sym start-length)
                     ∙ sym e,
-                λ q f. f letters first listed d ds z,
+                λ q f. f (P .letters) first listed d ds z,
                 l,
                 k,
               ),
@@ -212,12 +210,12 @@ module _ (t : Terms) (letters lists : List ℕ) (rules : List (List ℕ)) (w₀ 
           gone : {w′ : Counts} → r ≡ Going w′ → Answers (t .budget) (considerIn t (length j) c (progressOf w j)) w j j′ (Going w′)
           gone z = subst (λ (o : Outcome). Answers (t .budget) (considerIn t (length j) c (progressOf w j)) w j j′ o) z a
 
-          pub pass-going : {w′ : Counts} → r ≡ Going w′ → {covers′ : List ℕ} → Covering (firstRows (countsIn r .used) j′) covers′ → {q : Place} → Follows lists rules p q → InPass covers′ w′ j′ q
+          pub pass-going : {w′ : Counts} → r ≡ Going w′ → {covers′ : List ℕ} → Covering (firstRows (countsIn r .used) j′) covers′ → {q : Place} → Follows lists (P .rules) p q → InPass covers′ w′ j′ q
           pass-going {w′} z {covers′} v {q} f =
               let x = gone z in
               record {
                 candidates = next .1;
-                known = consider-goes t (length j) (λ u. Known (t .before) (next .1) (u .rows)) c (progressOf w j) (progressOf w′ j′) (x .answer) others (λ z d m e. dropped-added (baseOf [] (t .finals)) (base-by-laws states (λ d. value (letterIn [] d)) (bit (t .finals))) (t .pass) c d (firstRows (w .used) j) (others z d m e));
+                known = consider-goes t (length j) (λ u. Known (t .before) (next .1) (u .rows)) c (progressOf w j) (progressOf w′ j′) (x .answer) others (λ z d m e. dropped-added (algebraOf P) (problem-laws P) (t .pass) c d (firstRows (w .used) j) (others z d m e));
                 stands = next .2 .1 q f;
                 left = remaining-going (next .2 .2) (considerIn t (length j) c (progressOf w j)) (walkIn t (length j₀) (next .1)) split j′ s w′ x;
                 kept = consider-goes t (length j) (λ u. Kept first (u .rows)) c (progressOf w j) (progressOf w′ j′) (x .answer) (g .kept) (kept-added (t .pass) c first (firstRows (w .used) j) (g .kept));
@@ -225,10 +223,10 @@ module _ (t : Terms) (letters lists : List ℕ) (rules : List (List ℕ)) (w₀ 
               }
 
       -- a candidate that the pass before formed is one join, and nothing else
-      pub pass-over : t .start ≡ w₀ .used → p .rule < length rules → w .joins < t .budget → repeatsAt (t .before) p ≡ true → {q : Place} → Follows lists rules p q
+      pub pass-over : t .start ≡ w₀ .used → p .rule < length (P .rules) → w .joins < t .budget → repeatsAt (t .before) p ≡ true → {q : Place} → Follows lists (P .rules) p q
           → InPass covers (record { used = w .used; joins = w .joins + 1 }) j q
       pass-over hs h paid e {q} f =
-          let c : order.Candidate = formedBy letters (ruleAt rules (p .rule)) p (rowIn (firstRows (t .start) j) (p .left)) (rowIn (firstRows (t .start) j) (p .right)) in
+          let c : order.Candidate = formedBy (P .letters) (ruleAt (P .rules) (p .rule)) p (rowIn (firstRows (t .start) j) (p .left)) (rowIn (firstRows (t .start) j) (p .right)) in
           let room : w .used ≤ length j = omega (arith, g .left .room, g .left .same) in
-          let z = formed-repeats (t .before) letters (ruleAt rules (p .rule)) p (rowIn (firstRows (t .start) j) (p .left)) (rowIn (firstRows (t .start) j) (p .right)) e in
+          let z = formed-repeats (t .before) (P .letters) (ruleAt (P .rules) (p .rule)) p (rowIn (firstRows (t .start) j) (p .left)) (rowIn (firstRows (t .start) j) (p .right)) e in
           pass-going hs h {c = c} refl refl (answers-dropped t c w j room (g .left .paid) (λ y. omega (arith, y, paid)) (there hs h {c = c} refl (z .0) (z .1))) refl (g .covering) f

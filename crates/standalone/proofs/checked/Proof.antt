@@ -88,7 +88,7 @@ use Rattle.writer.proofs.write.Met as write-thm
 use Rattle.telling.proofs.tell as tell
 use Rattle.telling.proofs.tell.Symbol as tell-def
 use Rattle.telling.proofs.tell.Met as tell-thm
-use Rattle.standalone.proofs.Lending.{row, rows-room, row-offset, row-typed, to-front, asks-front, to-number, asks-number, Checks, to-checks, For-checks, asks-checks, Back, back, Writes, to-write, For-write, asks-write, Wrote, wrote}
+use Rattle.standalone.proofs.Lending.{row, rowSize, rows-room, row-offset, row-typed, to-front, asks-front, to-number, asks-number, Checks, to-checks, For-checks, asks-checks, Back, back, Writes, to-write, For-write, asks-write, Wrote, wrote}
 use Rattle.standalone.proofs.checked.Key.{name as #checked}
 use Rattle.standalone.proofs.checked as f
 use Rattle.standalone.proofs.checked.Statement as stated
@@ -188,7 +188,7 @@ module _ {M : Type 1} (𝓤 : URA M) (H : Heap 𝓤) (A : Atoms 𝓤) (W : Given
         sets ! (bin ! (its ! 38 refl) (lit ! tt) (record { fits = row-offset i (ei .1) })) (store ! 22 refl (tt, record { fits = row-offset i (ei .1) })) $
         sets ! (addr ! (from ! (stop !))) (init ! 20 refl (tt, tt)) $
         sets ! (bin ! (its ! 20 refl) (its ! 22 refl) tt) (init ! 18 refl (tt, tt)) $
-        elem-loads ! T.the-row tt T′.lowered (T′.lowers .val-is) (zs ++ rest) l₇ i blank (in-all i (ei .1)) 46 refl (i * 64 + 0) (place-is 64 0 i) (λ r. load ! (from ! (hop ! (look ! 18 refl) (stop !))) r) (λ is. init ! 16 refl (row-typed 𝓤 H A W mem run _ is)) (λ i-row.
+        elem-loads ! T.the-row tt T′.lowered (T′.lowers .val-is) (zs ++ rest) l₇ i blank (in-all i (ei .1)) 46 refl (i * rowSize + 0) (place-is rowSize 0 i) (λ r. load ! (from ! (hop ! (look ! 18 refl) (stop !))) r) (λ is. init ! 16 refl (row-typed 𝓤 H A W mem run _ is)) (λ i-row.
         sets ! (of-opd ! (its ! 16 refl)) (init ! 36 refl (row-typed 𝓤 H A W mem run (getD (zs ++ rest) i blank) i-row)) $
         -- the row that is asked for
         calls-plain row-number.ended (row-number.clauses 𝓤 H A mem run) (to-number 𝓤 H A W mem run probe gp) tt (asks-number 𝓤 H A W mem run probe gp) (λ r. (r ≡ placeOf probe) × (r < 4096)) (λ r us. id⊢ 𝓤 _) (vint w64) (uint-tells w64) ! fm (known .1 .1 .0) (and-then ! (its ! 50 refl) (no-more !)) (λ j ej j-is.
@@ -196,7 +196,7 @@ module _ {M : Type 1} (𝓤 : URA M) (H : Heap 𝓤) (A : Atoms 𝓤) (W : Given
         sets ! (bin ! (its ! 34 refl) (lit ! tt) (record { fits = row-offset j (ej .1) })) (store ! 22 refl (tt, record { fits = row-offset j (ej .1) })) $
         sets ! (addr ! (from ! (stop !))) (init ! 14 refl (tt, tt)) $
         sets ! (bin ! (its ! 14 refl) (its ! 22 refl) tt) (init ! 12 refl (tt, tt)) $
-        elem-loads ! T.the-row tt T′.lowered (T′.lowers .val-is) (zs ++ rest) l₇ j blank (in-all j (ej .1)) 46 refl (j * 64 + 0) (place-is 64 0 j) (λ r. load ! (from ! (hop ! (look ! 12 refl) (stop !))) r) (λ is. store ! 16 refl (row-typed 𝓤 H A W mem run _ is)) (λ j-row.
+        elem-loads ! T.the-row tt T′.lowered (T′.lowers .val-is) (zs ++ rest) l₇ j blank (in-all j (ej .1)) 46 refl (j * rowSize + 0) (place-is rowSize 0 j) (λ r. load ! (from ! (hop ! (look ! 12 refl) (stop !))) r) (λ is. store ! 16 refl (row-typed 𝓤 H A W mem run _ is)) (λ j-row.
         sets ! (of-opd ! (its ! 16 refl)) (init ! 32 refl (row-typed 𝓤 H A W mem run (getD (zs ++ rest) j blank) j-row)) $
         -- the writing
         sets ! (of-opd ! (field-of ! 40 refl refl refl)) (init ! 30 refl (tt, record { fits = gm })) $

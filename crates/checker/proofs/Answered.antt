@@ -106,22 +106,22 @@ module _ (bs : List ℕ) (o : Options) (old : Journal) where
     -- ---- nothing refused
     module _ (z : r .refusal .number ≡ 0) where
       -- it ended, or it did not begin
-      ended : search.Checked (orderOf P g) old new (answerIn last)
+      ended : search.Checked (orderOf P (g .rows) (g .budget)) old new (answerIn last)
       ended = by (s .going) refl
         where
-          by : (b : Bool) → s .going ≡ b → search.Checked (orderOf P g) old new (answerIn last)
+          by : (b : Bool) → s .going ≡ b → search.Checked (orderOf P (g .rows) (g .budget)) old new (answerIn last)
           by true e =
               let on : T (s .going) = subst T (sym e) tt in
               let stood = h .begins z .stands old refl in
-              subst (λ (x : Terms). search.Checked (orderOf (problemIn x letters (take (s .rules) rules)) (record { rows = g .rows; budget = x .budget })) old new (answerIn last)) (stood .goes on .begun .terms) (ran .1 .stands on .ends (ran .0))
+              subst (λ (x : Terms). search.Checked (orderOf (problemIn x letters (take (s .rules) rules)) (g .rows) (x .budget)) old new (answerIn last)) (stood .goes on .begun .terms) (ran .1 .stands on .ends (ran .0))
           by false e =
               let off : T (not (s .going)) = subst (λ (b : Bool). T (not b)) (sym e) tt in
               let i = ran .1 .idle off in
-              subst₂ (λ (x : State) (j : Journal). search.Checked (orderOf P g) old j (answerIn x)) (sym (i .0)) (sym (i .1)) (h .begins z .stands old refl .ends off)
+              subst₂ (λ (x : State) (j : Journal). search.Checked (orderOf P (g .rows) (g .budget)) old j (answerIn x)) (sym (i .0)) (sym (i .1)) (h .begins z .stands old refl .ends off)
 
-      on-file : orderOf P g ≡ orderOn bs g
+      on-file : orderOf P (g .rows) (g .budget) ≡ orderOn bs g
       on-file =
-          ap (λ (l : Letters). orderOf (problemOf bs l (take (s .rules) rules)) g) (h .begins z .relations)
+          ap (λ (l : Letters). orderOf (problemOf bs l (take (s .rules) rules)) (g .rows) (g .budget)) (h .begins z .relations)
           ∙ order-same bs (none-refused bs (length old) (r .refusal) (h .refusal) z .0) (take (s .rules) rules) (h .begins z .entries) g
 
       answered-so : Checks bs o old new (checked.Answered (answerIn last))

@@ -67,8 +67,8 @@ module _ (bs : List ℕ) (v : fault bs .number ≡ 0) where
           List·getD-eq-default (letterTable states (transitionsOf bs)) 0 (le-trans (le-of-eq (letters-length states (transitionsOf bs))) (q refl))
           ∙ sym (letter-absent states (transitionsOf bs) c (λ t h e. let l = letter-low t h in let m = q refl in omega arith))
 
-  pub order-same : (rules : RuleBytes) → map entryOf rules ≡ rulesOf bs → (g : Settings) → orderOf (problemOf bs (letterTable states (transitionsOf bs)) rules) g ≡ orderOn bs g
+  pub order-same : (rules : RuleBytes) → map entryOf rules ≡ rulesOf bs → (g : Settings) → orderOf (problemOf bs (letterTable states (transitionsOf bs)) rules) (g .rows) (g .budget) ≡ orderOn bs g
   unfolding orderOn
   order-same rules e g =
-      order-on (automatonOf bs) (problemOf bs (letterTable states (transitionsOf bs)) rules) g letters-all (bit-number states (isFinal (automatonOf bs)))
+      order-on (automatonOf bs) (problemOf bs (letterTable states (transitionsOf bs)) rules) (g .rows) (g .budget) letters-all (bit-number states (isFinal (automatonOf bs)))
       ∙ ap (λ (x : List Rule). check (base states (automatonOf bs)) x (g .rows) (g .budget)) e

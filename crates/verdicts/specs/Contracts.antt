@@ -4,7 +4,7 @@ use mathlib.Core.List.{List}
 use Prim.Native.Nat.{ℕ, _≤_, _<_}
 use lib.ListN.{length, drop}
 use Rattle.working_order.specs.Order.{check}
-use Rattle.calls.specs.Checking.{Settings, journalLimit}
+use Rattle.calls.specs.Checking.{journalLimit}
 use Rattle.rows.specs.Base as order
 use Rattle.covers.specs.Covers.{Covering}
 use Rattle.covers.specs.Rows.{Journal, firstRows}
@@ -37,6 +37,6 @@ pub record Checked (given : order.Answer) (old new : Journal) (r : Answer) : Typ
   pub beyond : drop (totalsIn r .used) new ≡ drop (totalsIn r .used) old
   pub room : totalsIn r .used ≤ length old
 
--- the working order on a problem, with the settings g
-unfoldable pub orderOf : Problem → Settings → order.Answer
-orderOf P g = check (algebraOf P) (rulesIn P) (g .rows) (g .budget)
+-- the working order on a problem, with J rows and a budget of B joins
+unfoldable pub orderOf : Problem → ℕ → ℕ → order.Answer
+orderOf P J B = check (algebraOf P) (rulesIn P) J B

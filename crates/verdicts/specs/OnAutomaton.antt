@@ -11,16 +11,15 @@ use Rattle.language.specs.Automaton.{Automaton}
 use Rattle.language.specs.WordRelation.{letterRelation, isFinal}
 use Rattle.working_order.specs.Order.{check}
 use Rattle.calls.specs.Base.{baseBy, base}
-use Rattle.calls.specs.Checking.{Settings}
 use Rattle.rows.specs.Meanings.{letterIn}
 use Rattle.verdicts.specs.Contracts.{orderOf}
 use Rattle.verdicts.specs.Problems.{Problem, rulesIn}
 
-pub order-on : (A : Automaton) (P : Problem) (g : Settings) → ((c : ℕ) → value (letterIn (P .letters) c) ≡ letterRelation states (A .transitions) c)
-    → ((f : ℕ) → f < states → bit (P .finals) f ≡ isFinal A f) → orderOf P g ≡ check (base states A) (rulesIn P) (g .rows) (g .budget)
+pub order-on : (A : Automaton) (P : Problem) (J B : ℕ) → ((c : ℕ) → value (letterIn (P .letters) c) ≡ letterRelation states (A .transitions) c)
+    → ((f : ℕ) → f < states → bit (P .finals) f ≡ isFinal A f) → orderOf P J B ≡ check (base states A) (rulesIn P) J B
 unfolding orderOf rejects
-order-on A P g h k =
-    ap₂ (λ (letter : ℕ → ℕ) (reject : ℕ → Bool). check (baseBy states letter reject) (rulesIn P) (g .rows) (g .budget)) (fun-ext h)
+order-on A P J B h k =
+    ap₂ (λ (letter : ℕ → ℕ) (reject : ℕ → Bool). check (baseBy states letter reject) (rulesIn P) J B) (fun-ext h)
     (fun-ext
     (λ e.
     ap not

@@ -40,7 +40,7 @@ module _ (P : Problem) (B : ℕ) where
     pub first : 1 ≤ k
     pub count : k ≤ w .used + 1
 
-  pub pass-first : (j : Journal) → AtPass (orderOf P (record { rows = length j; budget = B })) j (record { used = 0; joins = 0 }) j 1
+  pub pass-first : (j : Journal) → AtPass (orderOf P (length j) B) j (record { used = 0; joins = 0 }) j 1
   unfolding orderOf check firstRows
   pass-first j =
       record {

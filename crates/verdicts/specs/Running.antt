@@ -37,7 +37,7 @@ use Rattle.verdicts.specs.declared.Reached.{Reached}
 module _ (P : Problem) (B : ℕ) (j₀ : Journal) where
   -- what it is to give
   abbrev pub target : order.Answer
-  target = orderOf P (record { rows = length j₀; budget = B })
+  target = orderOf P (length j₀) B
 
   pub record Sized : Type 0 where
     pub all : 128 ≤ length (P .letters)

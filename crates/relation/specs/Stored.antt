@@ -1,13 +1,13 @@
--- Relations in a table, each in `words` entries that stand side by side. Definitions only. Assumes nothing.
+-- Relations in a table of words, each in `relationWords` words that stand side by side. Definitions only. Assumes nothing.
 use mathlib.Core.List.{List}
 use Prim.Native.Nat.{ℕ}
 use lib.ListN.{getD, set}
 use Rattle.basics.specs.Elements.{every}
 use Rattle.relation.specs.declared.Relation.{Relation}
 
--- how many entries of a table hold one relation
-abbrev pub words : ℕ
-words = 1
+-- how many words hold one relation
+abbrev pub relationWords : ℕ
+relationWords = 1
 
 -- relation i of the table; the relation without pairs where the table ends before it
 unfoldable pub relationIn : List ℕ → ℕ → Relation

@@ -1,5 +1,5 @@
--- Relations in a table, read and stored. No law here says how many entries hold a relation, so those who cite them do not change with that
--- number. Assumes nothing.
+-- Relations in a table of words, read and stored. No law says how many words hold a relation, so those who cite them do not change with
+-- that number. Assumes nothing.
 use mathlib.Core.Path.{_≡_, refl, sym, ap, _∙_}
 use mathlib.Core.Bool.{Bool, true, false}
 use mathlib.Core.List.{List}
@@ -14,19 +14,19 @@ use Rattle.basics.specs.Elements.{every}
 use Rattle.basics.specs.Lists.{length-every, getD-every, every-one}
 use Rattle.relation.specs.Relation.{states}
 use Rattle.relation.specs.Representation.{value}
-use Rattle.relation.specs.Stored.{words, relationIn, withRelation, relationsOf}
+use Rattle.relation.specs.Stored.{relationWords, relationIn, withRelation, relationsOf}
 
 -- nothing is stored past the table's end
-pub with-past : (table : List ℕ) (i x : ℕ) → length table ≤ i * words → withRelation table i x ≡ table
+pub with-past : (table : List ℕ) (i x : ℕ) → length table ≤ i * relationWords → withRelation table i x ≡ table
 unfolding withRelation
 with-past table i x h = set-out table i x (omega arith)
 
 module _ (f : ℕ → ℕ) (k : ℕ) where
-  pub relations-length : length (relationsOf f k) ≡ k * words
+  pub relations-length : length (relationsOf f k) ≡ k * relationWords
   unfolding relationsOf
   relations-length = length-every f k 0 ∙ sym (mul-one k)
 
-  -- relation c of the table; it fits its entries
+  -- relation c of the table, which fits its words
   pub relations-at : (c : ℕ) → c < k → f c < 2 ^ (states * states) → value (relationIn (relationsOf f k) c) ≡ f c
   unfolding relationsOf relationIn value
   relations-at c h fits = let z : 0 + c ≡ c = omega arith in getD-every f 0 k 0 c h ∙ ap f z
@@ -37,7 +37,7 @@ module _ (f : ℕ → ℕ) (k : ℕ) where
   relations-past c h = List·getD-eq-default (every f k 0) 0 (omega (arith, length-every f k 0))
 
   -- without a pair in any of them: a table of zeros
-  pub relations-none : ((c : ℕ) → f c ≡ 0) → replicate (k * words) 0 ≡ relationsOf f k
+  pub relations-none : ((c : ℕ) → f c ≡ 0) → replicate (k * relationWords) 0 ≡ relationsOf f k
   unfolding relationsOf
   relations-none h = ap (λ (m : ℕ). replicate m 0) (mul-one k) ∙ every-one f 0 h k 0
 

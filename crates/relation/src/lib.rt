@@ -6,7 +6,7 @@ ghost use lib.ListN.{length};
 ghost use Rattle.relation.specs.Digits.{bit};
 ghost use Rattle.relation.specs.Relation.{states, identity, compose, contained, single, insert, pairs, digest, rejects};
 ghost use Rattle.relation.specs.Representation.{value, none};
-ghost use Rattle.relation.specs.Stored.{words, relationIn, withRelation};
+ghost use Rattle.relation.specs.Stored.{relationWords, relationIn, withRelation};
 
 // How many states an automaton has.
 pub const STATES: u8 = 8;
@@ -17,7 +17,7 @@ const SIDE: u32 = STATES as u32;
 // A set of states: state `s` is in it where bit `s` is set.
 pub type StateSet = u8;
 
-// One entry of a table of relations, and how many entries one relation takes there.
+// One word of a table of letters' relations, and how many words one relation takes there.
 pub type Letter = u64;
 
 pub const WORDS: usize = 1;
@@ -84,7 +84,7 @@ impl Relation {
 
     // Reads relation `i` of `table`.
     pub fn read(table: &[Letter], i: usize) -> Relation
-        requires { ⌜ (i + 1) * words ≤ length (now table) ⌝ }
+        requires { ⌜ (i + 1) * relationWords ≤ length (now table) ⌝ }
         ensures { λ r. ⌜ r ≡ relationIn (now (table .entry)) i ⌝ }
     {
         Relation { bits: table[i] }
@@ -92,7 +92,7 @@ impl Relation {
 
     // Stores the relation in `table` as relation `i`.
     pub fn store(self, table: &mut [Letter], i: usize)
-        requires { ⌜ (i + 1) * words ≤ length (now table) ⌝ }
+        requires { ⌜ (i + 1) * relationWords ≤ length (now table) ⌝ }
         ensures { λ _. ⌜ now (table .exit) ≡ withRelation (now (table .entry)) i (value self) ⌝ }
     {
         table[i] = self.bits;

@@ -23,7 +23,8 @@ listsFrom = 41472
 abbrev pub listsIn : List ℕ → List ℕ
 listsIn table = drop listsFrom table
 
--- a cell of the nonterminal x, before the rows from n on: its own, or that of a live row
+-- `cell` is a link of the list of x, and the rows it can lead to start at n: either the list's head (n = 0) or the cell of a live row
+-- (n = that row + 1)
 abbrev pub Cell : ℕ → List Row → ℕ → ℕ → Type 0
 Cell x rows cell n = ((cell ≡ headCell x) × (n ≡ 0)) ⊎ ((cell < length rows) × (liveOf x (rowIn rows cell) ≡ true) × (n ≡ suc cell))
 

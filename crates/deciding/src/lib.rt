@@ -100,8 +100,10 @@ pub fn form(letters: &[u64], rules: &[[u8; 4]], state: State, left: Row, right: 
 
 // ---- looking for a cover
 
-// Where looking stands: at a row that was noted for the relation, or at a linked row, which the cell leads to; whether a row that was passed is
-// larger; and the slot of the relation, where it is known. It has ended at a row that covers, or at no row.
+// The cursor of the search for a covering row. While `walking`, `at` is the row to test next: if `linked`, it was reached through `cell` of the
+// links, and otherwise it is the hint stored for this relation. Once the search has ended, `covers` says whether row `at` covers the candidate.
+// `larger` records whether a linked row tested so far is strictly larger than the candidate (then `retiring` has rows to retire), and `slot` is
+// the cell of the relation's hint.
 pub struct Look {
     pub walking: bool,
     pub covers: bool,

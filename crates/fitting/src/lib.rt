@@ -93,7 +93,7 @@ pub struct Fit {
     pub len: u64,
 }
 
-// The same with row i.
+// Adds row `i` to the test: `fits` stays true only if row `i` fits as well, and `len` becomes the length in row `i`.
 fn fit_after(fit: Fit, rules: &[[u8; 4]], i: usize, row: Row, left: Row, right: Row) -> Fit
     ensures { λ r. ⌜ (r .fits ≡ (fit .fits && rowBy (map entryOf (now (rules .entry))) i (rowOf row) (rowOf left) (rowOf right))) × (r .len ≡ row .len) ⌝ }
 {

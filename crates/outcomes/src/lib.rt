@@ -14,7 +14,8 @@ ghost use Rattle.verdicts.specs.Running.{MayNote, Notes, MayDecide};
 // Where the table has the row that covered last (crate covers).
 const LASTS: usize = 4352;
 
-// The row that covered is noted for its nonterminal and its relation, and a new row for its relation.
+// Updates the hints: a covering row found through the links becomes the last-cover hint of its nonterminal and the hint of its relation; a
+// new row becomes the hint of its relation.
 pub fn note(table: &mut [u32], state: State, candidate: Candidate, look: Look)
     requires { ⌜ MayNote state look (now table) ⌝ }
     ensures { λ r. ⌜ Notes (now (table .entry)) (now (table .exit)) ⌝ }

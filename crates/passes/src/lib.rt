@@ -64,8 +64,8 @@ fn go_from(rules: &[[u8; 4]], table: &mut [u32], state: State, from: Reached) ->
     close_pass(rules, table, state, counts)
 }
 
-// The next place that needs work, or the end of the pass. The search stands at no place that needs none, and rows rise, so a right after
-// this one does.
+// Moves the search to the next place whose candidate must be formed, or ends the pass. The current candidate was formed, so its rows are not
+// both old. Later rights are younger, so their candidates must be formed too: no test is necessary.
 fn go_on(rules: &[[u8; 4]], table: &mut [u32], state: State, counts: Counts) -> State
     requires { ⌜ MayGoOn (now rules) state counts (now table) ⌝ }
     ensures { λ r. ⌜ GoesOn (now (rules .entry)) (now (table .entry)) state counts (now (table .exit)) r ⌝ }

@@ -1,4 +1,4 @@
--- A place and the one after it: what is left to form falls by the candidate of the place. Assumes nothing.
+-- Stepping from one place to the next removes exactly one candidate from those that are left: the one formed at the place we leave. Assumes nothing.
 use mathlib.Core.Path.{_≡_, refl, sym, ap, ap₂, _∙_, subst}
 use mathlib.Core.Bool.{Bool, true, false, not, _&&_}
 use mathlib.Core.Logic.{_⊎_, inl, inr}

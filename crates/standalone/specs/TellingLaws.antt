@@ -152,7 +152,8 @@ shown-told (checked.Answered (answer.Broken i n)) x y f = refl
 -- ---- as the code has it all in hand
 
 module _ (bs : List ℕ) (n : ℕ) (old : LentRow) (B p : ℕ) (before after : List ℕ) where
-  -- of the array xs the first m rows were lent, and are zs then; d is named and stands at row i, and row k is asked for
+  -- xs: the array before the check. m: the rows lent. zs: its first m rows after it. c: what the check answered. d: what is to be written,
+  -- and i: the row to show. k: the row asked for. w: what writing answered. r: the result
   pub tells-alone : (xs : Journal) → xs ≡ replicate journalLimit old → (m : ℕ) → (m ≡ frontOf n) × (m ≤ journalLimit) → length (take m xs) ≡ m
       → (zs : Journal) → length zs ≡ m → length (zs ++ drop m xs) ≡ journalLimit → (c : Checked) → Checks bs B (take m xs) zs c
       → (d : Named) → d ≡ nameIn c (length bs) → (i : ℕ) → i ≡ placeOf (d .row) → (k : ℕ) → (k ≡ placeOf p) × (k < journalLimit) → (w : Writing) → Writes (take (d .bytes) bs) (map rowOf zs) (d .used) (d .row) before after w

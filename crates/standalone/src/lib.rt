@@ -5,8 +5,9 @@ use telling::ROWS;
 use telling::Told;
 ghost use Rattle.standalone.specs.Contracts.{ChecksAlone};
 
-// Checks the file over a journal of so many rows, each old before, with a budget of joins, writes the run of a broken answer, and tells what
-// came, with the row at the probe: proved by hand.
+// Runs a check of `file` on a fresh journal of `rows` rows, each initialised to `old`, with a budget of `budget` joins. If the verdict is
+// broken, writes its run to `buffer`. The result also contains row `probe` of the journal after the check, for tests. The proof is a walk
+// (proofs/checked).
 pub fn checked(
     file: &[u8],
     rows: usize,

@@ -67,7 +67,7 @@ pub fn blank_row() -> Row
     }
 }
 
-// So many rows, or none where a journal may not have them: number 8 refuses both no rows and too many.
+// The number of rows to lend: `rows`, or 0 if the array is too short. Refusal 8 covers both cases, so the caller sees no difference.
 pub fn front(rows: usize) -> usize
     ensures { λ r. ⌜ (r ≡ frontOf rows) × (r ≤ 4096) ⌝ }
 {
@@ -183,7 +183,8 @@ fn tell_answer(answer: Answer, row: Row, shown: Row, writing: Writing) -> Told
     }
 }
 
-// With the row that is named, and the one that is asked for.
+// Builds the host's result. `row` is the journal row of a broken answer and is ignored for every other; `shown` is passed through; `writing`
+// says whether the run of a broken answer was written.
 pub fn tell(checked: Checked, row: Row, shown: Row, writing: Writing) -> Told
     ensures { λ r. ⌜ r ≡ toldBy checked row shown (refusedBy (writingOf writing)) ⌝ }
 {

@@ -150,7 +150,7 @@ pub record MayAdvance (rules : List (List ℕ)) (s : State) (c : Candidate) (l :
   pub room : s .counts .used ≤ s .rows
   pub limit : s .rows ≤ rowCells
 
--- so many joins have been made at least, and the search stands on
+-- what every step between candidates keeps: the invariant `Stands`, at least the joins of `w`, the same budget
 pub record Onward (letters : List ℕ) (rules : List (List ℕ)) (finals B : ℕ) (j₀ : Journal) (w : Counts) (r : State) (j : Journal) (t : List ℕ) : Type 0 where
   pub stands : Stands letters rules finals B j₀ r j t
   pub joins : w .joins ≤ r .counts .joins
@@ -171,7 +171,7 @@ pub record Counted (x r : Reached) : Type 0 where
   pub joins : x .counts .joins ≤ r .counts .joins
   pub used : r .counts .used ≡ x .counts .used
 
--- from a candidate that is done to one that is, of the same left
+-- if the candidate of x has been handled, then so have all up to that of r, which has the same rule and left row
 pub record PassesRights (t : List ℕ) (b : Terms) (x r : Reached) : Type 0 where
   pub counted : Counted x r
   pub done : (letters : List ℕ) (rules : List (List ℕ)) (first : Counts) (j₁ j : Journal) → x .place .rule < length rules → repeatsAt (b .before) (x .place) ≡ true

@@ -45,6 +45,6 @@ isBefore n i = ltb i n || eqb i absent
 abbrev pub repeatsAt : ℕ → Place → Bool
 repeatsAt n p = ltb 0 n && (isBefore n (p .left) && isBefore n (p .right))
 
--- of these candidates those of the first n rows alone would be dropped
+-- every candidate of `cs` whose rows are all below n is already covered by a live row of `rows`
 abbrev pub Known : ℕ → List Candidate → List Row → Type 0
 Known n cs rows = 0 < n → (c : Candidate) → In c cs → Repeats n c → dropped contained c rows ≡ true

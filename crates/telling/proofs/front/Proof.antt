@@ -1,4 +1,4 @@
--- So many rows, or none. Assumes nothing.
+-- The number of rows to lend is `rows` or 0, by the test that was taken. Assumes nothing.
 use mathlib.Core.Path.{sym, ap}
 use mathlib.Core.Bool.{Bool, cond}
 use native.Mathlib.Omega.{arith}

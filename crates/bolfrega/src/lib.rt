@@ -1,6 +1,7 @@
 // The library for hosts in C and Rust: the calls of document 01 as functions on numbers and lent bytes. No function asks anything of
 // its caller. A result from 1 to 11 is the number that refused the call; the answers have the numbers below.
 use acceptance::Judged;
+use calls::Row;
 use telling::Told;
 ghost use mathlib.Core.Path.{_≡_};
 ghost use Rattle.telling.specs.Telling.{numbersIn};
@@ -83,7 +84,7 @@ pub extern "C" fn bolfrega_check(
 ) -> u64
     ensures { λ r. ⌜ ChecksZeros (now (file .entry)) rows budget (now (details .exit)) (now (buffer .entry)) (now (buffer .exit)) r ⌝ }
 {
-    let told = standalone::checked(file, rows, telling::blank_row(), budget, 0, buffer);
+    let told = standalone::checked(file, rows, Row::blank(), budget, 0, buffer);
     *details = details_of(told);
     told.code
 }

@@ -1,6 +1,6 @@
 // What each public call answers, as definitions on a file's bytes, and the theorems about them: see specs/. And what the calls share in code:
 // a row of the lent journal, with its limits.
-use relation::Relation;
+use relation::Effect;
 ghost use mathlib.Core.Path.{_≡_};
 ghost use Prim.Native.Nat.{_+_};
 ghost use Rattle.working_order.specs.Journal.{capped};
@@ -19,7 +19,7 @@ pub const LONG_WORD: u64 = 65535;
 pub struct Row {
     pub head: u64,
     pub rule: u64,
-    pub relation: Relation,
+    pub relation: Effect,
     pub left: u64,
     pub right: u64,
     pub len: u64,
@@ -35,7 +35,7 @@ impl Row {
         Row {
             head: 0,
             rule: 0,
-            relation: Relation::empty(),
+            relation: Effect::empty(),
             left: 0,
             right: 0,
             len: 0,

@@ -19,13 +19,15 @@ const KEPT: usize = 64;
 
 // ---- rows as numbers
 
-// A row as eight numbers.
+// A row as eight numbers: its relation as one word.
 fn numbers(row: Row) -> [u64; 8] {
     let relation = row.relation;
+    let mut words = [0; relation::WORDS];
+    relation.store(&mut words, 0);
     [
         row.head,
         row.rule,
-        relation.bits,
+        words[0],
         row.left,
         row.right,
         row.len,
@@ -36,10 +38,11 @@ fn numbers(row: Row) -> [u64; 8] {
 
 // And back.
 fn row_of(x: [u64; 8]) -> Row {
+    let words = [x[2]; relation::WORDS];
     Row {
         head: x[0],
         rule: x[1],
-        relation: Relation { bits: x[2] },
+        relation: Relation::read(&words, 0),
         left: x[3],
         right: x[4],
         len: x[5],
@@ -142,12 +145,12 @@ fn accounted(journal: &[[u64; 8]], told: Told, found: &[[u64; 2]; 512], count: u
 // A longer journal and a larger budget give the same answer and the same rows.
 fn same_with_more(file: &[u8], journal: &[[u64; 8]], told: Told) -> bool {
     let mut longer = [[0u64; 8]; KEPT];
-    let again = ask(file, MORE_ROWS, telling::blank_row(), LARGER_BUDGET, 0);
+    let again = ask(file, MORE_ROWS, Row::blank(), LARGER_BUDGET, 0);
     let n = looked_at(again.used);
     collect(
         file,
         MORE_ROWS,
-        telling::blank_row(),
+        Row::blank(),
         LARGER_BUDGET,
         n,
         &mut longer,
@@ -223,7 +226,7 @@ pub fn compare(
     trial: Trial,
 ) -> Outcome {
     let mut buffer = [0u8; 4096];
-    let old = telling::blank_row();
+    let old = Row::blank();
     let told = standalone::checked(file, ROWS, old, BUDGET, 0, &mut buffer);
     let mut journal = [[0u64; 8]; KEPT];
     let n = looked_at(told.used);

@@ -1,6 +1,8 @@
 // Whether the rows of a journal fit the rules (document 01, "Numbers a call may refuse with", 9). One loop holds the journal; each test is
 // on rows by value. A rule: head, body length, the bytes of its symbols.
+use calls::ABSENT;
 use calls::Row;
+use plan_file::TERMINALS;
 ghost use mathlib.Core.Bool.{_&&_};
 ghost use mathlib.Core.Path.{_≡_};
 ghost use lib.Dec.{eqb};
@@ -24,25 +26,25 @@ fn lower(pointer: u64, i: usize) -> usize
     i
 }
 
-// The pointer of a symbol in row i: a lower row of its nonterminal, or 65,535 at a terminal.
+// Returns whether `pointer` fits `symbol` in row `i`: a lower row of its nonterminal, which is `named`, or ABSENT at a terminal.
 fn pointer_fits(i: usize, symbol: u8, pointer: u64, named: Row) -> bool
     ensures { λ r. ⌜ r ≡ pointerBy i (symbolOf symbol) pointer (rowOf named) ⌝ }
 {
-    if symbol < 128 {
-        return pointer == 65535;
+    if symbol < TERMINALS {
+        return pointer == ABSENT;
     }
     let p = pointer as usize;
     if p < i {
-        return named.head == (symbol - 128) as u64;
+        return named.head == (symbol - TERMINALS) as u64;
     }
     false
 }
 
-// The length of a symbol: of a nonterminal the length in the row that it points to.
+// Returns the length of `symbol`: of a nonterminal the length in the row that it points to, which is `named`.
 fn symbol_length(symbol: u8, named: Row) -> u64
     ensures { λ r. ⌜ r ≡ lengthBy (symbolOf symbol) (rowOf named) ⌝ }
 {
-    if symbol < 128 {
+    if symbol < TERMINALS {
         return 1;
     }
     named.len
@@ -54,13 +56,13 @@ fn body_fits(i: usize, rule: [u8; 4], row: Row, left: Row, right: Row) -> bool
 {
     let symbols = rule[1];
     if symbols == 0 {
-        return ((row.left == 65535) & (row.right == 65535)) & (row.len == 0);
+        return ((row.left == ABSENT) & (row.right == ABSENT)) & (row.len == 0);
     }
     let a = rule[2];
     let first = pointer_fits(i, a, row.left, left);
     let n = symbol_length(a, left);
     if symbols == 1 {
-        return (first & (row.right == 65535)) & (row.len == calls::capped_sum(n, 0));
+        return (first & (row.right == ABSENT)) & (row.len == calls::capped_sum(n, 0));
     }
     let b = rule[3];
     let second = pointer_fits(i, b, row.right, right);

@@ -36,5 +36,5 @@ pub fn render(file: &[u8], rows: usize, old: Row, budget: u64, text: &mut [u8; T
 pub fn answer(file: &[u8], text: &mut [u8; TEXT]) -> usize
     ensures { λ r. ⌜ Stands (programText (now (file .entry))) (now (text .entry)) (now (text .exit)) r ⌝ }
 {
-    render(file, ROWS, telling::blank_row(), BUDGET, text)
+    render(file, ROWS, Row::blank(), BUDGET, text)
 }

@@ -1,5 +1,6 @@
 // Writing the word behind a journal row (document 01, "Writing a run").
 use calls::Row;
+use plan_file::TERMINALS;
 ghost use mathlib.Core.Path.{_≡_};
 ghost use Prim.Native.Nat.{_≤_, _<_};
 ghost use mathlib.Core.List.{map};
@@ -24,7 +25,8 @@ struct Parts {
     second: Part,
 }
 
-fn no_part() -> Part
+// Returns the part that nothing is written for.
+pub fn no_part() -> Part
     ensures { λ r. ⌜ r ≡ nothing ⌝ }
 {
     Part {
@@ -38,7 +40,7 @@ fn no_part() -> Part
 fn symbol_part(symbol: u8, pointer: u64) -> Part
     ensures { λ r. ⌜ r ≡ partOf (symbolOf symbol) pointer ⌝ }
 {
-    if symbol < 128 {
+    if symbol < TERMINALS {
         return Part {
             older: false,
             terminal: true,

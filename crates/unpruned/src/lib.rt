@@ -2,11 +2,43 @@
 // pairs of a symbol, as a rule's body spells it, and the relation of a word of that symbol. A relation has pair (a, b) at bit a * 8 + b.
 pub mod rows;
 
+// The numbers of document 01 that this search needs, written anew here so that nothing is shared with the check.
+const STATES: u64 = 8;
+
+pub const TERMINALS: u64 = 128;
+
+pub const NONTERMINALS: u64 = 64;
+
+const RECORD_BYTES: usize = 8;
+
+// Pairs of states, and triples.
+const PAIRS: u64 = STATES * STATES;
+
+const TRIPLES: u64 = PAIRS * STATES;
+
+// Records that are read of a file, and records that a file has room for.
+const RECORDS: usize = 24;
+
+const ROOM: usize = 32;
+
+// The most pairs of the list.
+pub const LIMIT: usize = 512;
+
+pub type Found = [[u64; 2]; LIMIT];
+
+// Turns of the search: one to begin, and one for each pair of the list.
+const TURNS: usize = LIMIT + 1;
+
+// A row of the journal as numbers, in document 01's order: nonterminal, rule, relation, left and right pointer, length, birth, retired.
+pub const FIELDS: usize = 8;
+
+pub type Numbers = [u64; FIELDS];
+
 // ---- the file
 
 // Byte i of a record; 0 past the end.
 fn byte(file: &[u8], record: usize, i: usize) -> u64 {
-    let at = record % 32 * 8 + i % 8;
+    let at = record % ROOM * RECORD_BYTES + i % RECORD_BYTES;
     if at < file.len() { wide(file[at]) } else { 0 }
 }
 
@@ -17,11 +49,11 @@ fn wide(x: u8) -> u64 {
 // ---- relations
 
 fn has(relation: u64, a: u64, b: u64) -> bool {
-    (relation >> (a % 8 * 8 + b % 8)) % 2 == 1
+    (relation >> (a % STATES * STATES + b % STATES)) % 2 == 1
 }
 
 fn with(relation: u64, a: u64, b: u64) -> u64 {
-    relation | (1u64 << (a % 8 * 8 + b % 8))
+    relation | (1u64 << (a % STATES * STATES + b % STATES))
 }
 
 // A relation with the pair of record r, where that is a transition by the letter.
@@ -35,7 +67,7 @@ fn with_transition(relation: u64, file: &[u8], code: u64, r: usize) -> u64 {
 // The pairs (a, b) for which the letter has a transition from a to b.
 fn letter(file: &[u8], code: u64) -> u64 {
     let mut relation: u64 = 0;
-    for r in 0..24usize {
+    for r in 0..RECORDS {
         relation = with_transition(relation, file, code, r);
     }
     relation
@@ -51,8 +83,8 @@ fn with_linked(relation: u64, x: u64, y: u64, a: u64, b: u64, c: u64) -> u64 {
 
 fn compose(x: u64, y: u64) -> u64 {
     let mut relation: u64 = 0;
-    for i in 0..512u64 {
-        relation = with_linked(relation, x, y, i / 64, i / 8 % 8, i % 8);
+    for i in 0..TRIPLES {
+        relation = with_linked(relation, x, y, i / PAIRS, i / STATES % STATES, i % STATES);
     }
     relation
 }
@@ -86,7 +118,7 @@ fn accepting(file: &[u8], relation: u64, r: usize) -> bool {
 
 // No pair leads from state 0 to a final state.
 fn rejecting(file: &[u8], relation: u64) -> bool {
-    for r in 0..24usize {
+    for r in 0..RECORDS {
         if accepting(file, relation, r) {
             return false;
         }
@@ -96,9 +128,9 @@ fn rejecting(file: &[u8], relation: u64) -> bool {
 
 // ---- the list
 
-// Pair i of the list, which has at most 512.
-fn pair_at(found: &[[u64; 2]; 512], i: usize) -> [u64; 2] {
-    found[i % 512]
+// Pair i of the list, which has at most LIMIT.
+fn pair_at(found: &Found, i: usize) -> [u64; 2] {
+    found[i % LIMIT]
 }
 
 fn same_pair(x: [u64; 2], y: [u64; 2]) -> bool {
@@ -106,7 +138,7 @@ fn same_pair(x: [u64; 2], y: [u64; 2]) -> bool {
 }
 
 // The pair is among the first ones, of which there are so many.
-pub fn listed(found: &[[u64; 2]; 512], count: usize, pair: [u64; 2]) -> bool {
+pub fn listed(found: &Found, count: usize, pair: [u64; 2]) -> bool {
     for i in 0..count {
         if same_pair(pair_at(found, i), pair) {
             return true;
@@ -116,11 +148,11 @@ pub fn listed(found: &[[u64; 2]; 512], count: usize, pair: [u64; 2]) -> bool {
 }
 
 // Puts a pair on the list where it is new, and says how many there are then.
-fn add(found: &mut [[u64; 2]; 512], count: usize, symbol: u64, relation: u64) -> usize {
+fn add(found: &mut Found, count: usize, symbol: u64, relation: u64) -> usize {
     if listed(found, count, [symbol, relation]) {
         return count;
     }
-    if count < 512 {
+    if count < LIMIT {
         found[count] = [symbol, relation];
         return count + 1;
     }
@@ -128,8 +160,8 @@ fn add(found: &mut [[u64; 2]; 512], count: usize, symbol: u64, relation: u64) ->
 }
 
 // A letter with its own relation; nothing for a nonterminal.
-fn add_letter(found: &mut [[u64; 2]; 512], count: usize, file: &[u8], symbol: u64) -> usize {
-    if symbol < 128 {
+fn add_letter(found: &mut Found, count: usize, file: &[u8], symbol: u64) -> usize {
+    if symbol < TERMINALS {
         return add(found, count, symbol, letter(file, symbol));
     }
     count
@@ -146,7 +178,7 @@ struct Rule {
 // Record r read as a rule.
 fn read_rule(file: &[u8], r: usize) -> Rule {
     Rule {
-        head: 128 + byte(file, r, 1) % 64,
+        head: TERMINALS + byte(file, r, 1) % NONTERMINALS,
         size: byte(file, r, 2),
         first: byte(file, r, 3),
         second: byte(file, r, 4),
@@ -154,7 +186,7 @@ fn read_rule(file: &[u8], r: usize) -> Rule {
 }
 
 // What stands on the list before any rule is used twice: the empty word of a rule with no symbol, and the letters of a rule's body.
-fn begin(found: &mut [[u64; 2]; 512], count: usize, file: &[u8], rule: Rule) -> usize {
+fn begin(found: &mut Found, count: usize, file: &[u8], rule: Rule) -> usize {
     if rule.size == 0 {
         return add(found, count, rule.head, identity());
     }
@@ -167,7 +199,7 @@ fn begin(found: &mut [[u64; 2]; 512], count: usize, file: &[u8], rule: Rule) -> 
 
 // The rule's head with the composition of two relations, where their symbols are those of the body.
 fn spelled(
-    found: &mut [[u64; 2]; 512],
+    found: &mut Found,
     count: usize,
     rule: Rule,
     left: [u64; 2],
@@ -181,7 +213,7 @@ fn spelled(
 
 // A body of two symbols: a pair of the list with pair j, in both orders.
 fn spelled_both(
-    found: &mut [[u64; 2]; 512],
+    found: &mut Found,
     count: usize,
     rule: Rule,
     pair: [u64; 2],
@@ -194,7 +226,7 @@ fn spelled_both(
 
 // The same with each of the first pairs, of which there are so many.
 fn spelled_with(
-    found: &mut [[u64; 2]; 512],
+    found: &mut Found,
     count: usize,
     rule: Rule,
     pair: [u64; 2],
@@ -208,8 +240,8 @@ fn spelled_with(
 }
 
 // What a rule gives with pair k of the list and those before it.
-fn by_rule(found: &mut [[u64; 2]; 512], count: usize, rule: Rule, k: usize) -> usize {
-    if 512 <= k {
+fn by_rule(found: &mut Found, count: usize, rule: Rule, k: usize) -> usize {
+    if LIMIT <= k {
         return count;
     }
     let pair = found[k];
@@ -225,7 +257,7 @@ fn by_rule(found: &mut [[u64; 2]; 512], count: usize, rule: Rule, k: usize) -> u
 // What record r gives at a turn, where it is a rule: at turn 0 what begin puts on the list, and at turn k + 1 what the rule gives with
 // pair k and those before it.
 fn by_record(
-    found: &mut [[u64; 2]; 512],
+    found: &mut Found,
     count: usize,
     file: &[u8],
     turn: usize,
@@ -242,18 +274,18 @@ fn by_record(
 }
 
 // What the records of the file give at a turn.
-fn by_records(found: &mut [[u64; 2]; 512], count: usize, file: &[u8], turn: usize) -> usize {
+fn by_records(found: &mut Found, count: usize, file: &[u8], turn: usize) -> usize {
     let mut count = count;
-    for r in 0..24usize {
+    for r in 0..RECORDS {
         count = by_record(found, count, file, turn, r);
     }
     count
 }
 
 // Lists every symbol with every relation of its words, and says how many pairs these are. Where the list is full, some may be missing.
-pub fn search(file: &[u8], found: &mut [[u64; 2]; 512]) -> usize {
+pub fn search(file: &[u8], found: &mut Found) -> usize {
     let mut count: usize = 0;
-    for turn in 0..513usize {
+    for turn in 0..TURNS {
         if turn <= count {
             count = by_records(found, count, file, turn);
         }
@@ -270,17 +302,17 @@ pub struct Verdict {
 
 // What a list says that has one pair more.
 fn with_pair(said: Verdict, file: &[u8], pair: [u64; 2]) -> Verdict {
-    if pair[0] < 128 {
+    if pair[0] < TERMINALS {
         return said;
     }
     Verdict {
-        words: said.words | (pair[0] == 128),
-        broken: said.broken | ((pair[0] == 128) & rejecting(file, pair[1])),
+        words: said.words | (pair[0] == TERMINALS),
+        broken: said.broken | ((pair[0] == TERMINALS) & rejecting(file, pair[1])),
         relations: std::num::wrapping_add_u64(said.relations, 1),
     }
 }
 
-pub fn decide(file: &[u8], found: &[[u64; 2]; 512], count: usize) -> Verdict {
+pub fn decide(file: &[u8], found: &Found, count: usize) -> Verdict {
     let mut said = Verdict {
         words: false,
         broken: false,

@@ -1,4 +1,7 @@
-// Relations on the states of an automaton as one word: the pair (a, b) is bit a * 8 + b. No other crate knows that.
+// Relations on the states of an automaton as one word: the pair (a, b) is bit a * 8 + b. No other crate knows that. Definitions in specs/:
+// Digits (binary digits), Relation (pairs, identity, composition, containment, rejecting), Representation (how the code holds one), Stored
+// (relations in a table). Laws, for every number of states: DigitLaws, RelationLaws, Product (composition by words), Counting (pairs), Masks
+// (final states).
 ghost use mathlib.Core.Path.{_≡_};
 ghost use Prim.Native.Nat.{_+_, _*_, _≤_};
 ghost use lib.Dec.{eqb};

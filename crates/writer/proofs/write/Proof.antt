@@ -58,7 +58,7 @@ use Rattle.fitting.specs.ByValue.{lastLen}
 use Rattle.fitting.specs.declared.Fit.{Fit}
 use Rattle.fitting.proofs.Fit as Ft
 use Rattle.fitting.proofs.Fit.Laws as Ft′
-use Rattle.fitting.proofs.Rows.{RowType}
+use Rattle.calls.proofs.Types.{RowType, Entry}
 use Rattle.fitting.proofs.rows_fit as rows-fit
 use Rattle.fitting.proofs.rows_fit.Symbol as rows-fit-def
 use Rattle.fitting.proofs.rows_fit.Met as rows-fit-thm
@@ -75,7 +75,7 @@ use Rattle.writer.specs.Answers.{writingBy}
 use Rattle.writer.specs.Asking.{AskedFor, refusalBy, partBy}
 use Rattle.writer.specs.Contracts.{Writes}
 use Rattle.writer.proofs.Written.{rows-low, ready-for, writes}
-use Rattle.requests.proofs.Walks.{Entry, zeros, zeros-is, tok, entry-lawful, entry-makes, zeros-typed, typed}
+use Rattle.requests.proofs.Walks.{zeros, zeros-is, tok, entry-lawful, entry-makes, zeros-typed, typed}
 use Rattle.writer.proofs.Asked as Ask
 use Rattle.writer.proofs.Asked.Laws as Ask′
 use Rattle.writer.proofs.Writing as Wr

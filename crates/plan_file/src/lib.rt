@@ -14,12 +14,13 @@ pub const TRANSITION_KIND: u8 = 2;
 
 pub const FINAL_KIND: u8 = 3;
 
-// The most records, rules and transitions of a file (document 01: rules, and moves).
-pub const RECORD_LIMIT: usize = 1288;
-
+// The most rules and transitions of a file (document 01: rules, and moves), and the most records: a file has each state as a final one at most
+// once.
 pub const RULE_LIMIT: usize = 256;
 
 pub const TRANSITION_LIMIT: usize = 1024;
+
+pub const RECORD_LIMIT: usize = RULE_LIMIT + TRANSITION_LIMIT + relation::STATES as usize;
 
 // Terminals are below this (document 01: step codes), and so are nonterminals (procedures) and the bytes of symbols, terminals first.
 pub const TERMINALS: u8 = 128;

@@ -9,12 +9,15 @@ ghost use Rattle.calls.specs.Judging.{wordFault};
 ghost use Rattle.acceptance.specs.Answers.{Judging};
 ghost use Rattle.acceptance.specs.Letters.{strays};
 ghost use Rattle.acceptance.specs.TableRelation.{tableRelation};
+use calls::LONG_WORD;
+use plan_file::LETTER_WORDS;
+use plan_file::Letters;
 use plan_file::Refusal;
+use plan_file::TERMINALS;
 use relation::Relation;
 
-const WORD_LIMIT: usize = 65534;
-
-const TERMINALS: u8 = 128;
+// The most letters of a word that is judged.
+const WORD_LIMIT: usize = LONG_WORD as usize - 1;
 
 // A refusal has a number from 1 to 7 or 11.
 pub enum Judged {
@@ -40,8 +43,8 @@ fn word_fault(word: &[u8]) -> u64
     0
 }
 
-// The relation of a word of terminals, by the table of their relations: one composition for each letter.
-fn relation_by(table: &[u64; 128], word: &[u8]) -> Relation
+// Returns the relation of `word`, all of whose letters are terminals, by the `table` of their relations: one composition for each letter.
+fn relation_by(table: &Letters, word: &[u8]) -> Relation
     requires { ⌜ strays (now word) ≡ false ⌝ }
     ensures { λ r. ⌜ value r ≡ tableRelation states (now (table .entry)) (now (word .entry)) ⌝ }
 {
@@ -49,7 +52,7 @@ fn relation_by(table: &[u64; 128], word: &[u8]) -> Relation
     let mut i: usize = 0;
     while i < word.len() {
         let c = word[i] as usize;
-        let letter = Relation { bits: table[c] };
+        let letter = Relation::read(table, c);
         r = r.compose(letter);
         i += 1;
     }
@@ -61,7 +64,7 @@ fn turns_away(file: &[u8], word: &[u8]) -> bool
     requires { ⌜ strays (now word) ≡ false ⌝ }
     ensures { λ r. ⌜ r ≡ rejected states (automatonOf (now (file .entry))) (now (word .entry)) ⌝ }
 {
-    let mut table = [0u64; 128];
+    let mut table: Letters = [0; LETTER_WORDS];
     tables::letter_relations(file, &mut table);
     let r = relation_by(&table, word);
     let finals = tables::final_states(file);

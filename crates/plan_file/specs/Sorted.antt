@@ -7,13 +7,14 @@ use Prim.Native.Nat.{ℕ, zero, suc, _+_, _-_, _≤_, _<_}
 use native.Mathlib.Omega.{arith}
 use lib.Dec.{eqb, leb, ltb}
 use borrow.Author.Tests.{ltb-true, lt-ltb, le-ltb, leb-true, leb-false, eqb-true, eqb-false, eq-eqb, ne-eqb}
+use Rattle.basics.specs.Elements.{every}
 use Rattle.basics.specs.Tests.{and-fst, or-neither}
 use Rattle.plan_file.specs.Limits.{ruleLimit, transitionLimit}
 use Rattle.plan_file.specs.Records.{recordCount, recordAt, byte, kindAt, ruleKind, transitionKind, finalKind, countOf}
 use Rattle.plan_file.specs.Refusals.{kindKnown, risesFrom, rises, exceeds, overLimit, fault}
 use Rattle.plan_file.specs.Views.{ruleOf, transitionOf, finalOf, consIf, collect, rulesOf, transitionsOf, finalsOf}
 use Rattle.plan_file.specs.Valid.{valid-passes}
-use Rattle.plan_file.specs.Entries.{ruleCount, transitionCount, finalCount, every}
+use Rattle.plan_file.specs.Entries.{ruleCount, transitionCount, finalCount}
 use Rattle.plan_file.specs.Rising.{upTo, upTo-le, upTo-none, first-ones}
 
 -- ---- the counts of the kinds

@@ -14,6 +14,26 @@ pub const TRANSITION_KIND: u8 = 2;
 
 pub const FINAL_KIND: u8 = 3;
 
+// The most rules and transitions of a file (document 01: rules, and moves), and the most records: a file has each state as a final one at most
+// once.
+pub const RULE_LIMIT: usize = 256;
+
+pub const TRANSITION_LIMIT: usize = 1024;
+
+pub const RECORD_LIMIT: usize = RULE_LIMIT + TRANSITION_LIMIT + relation::STATES as usize;
+
+// Terminals are below this (document 01: step codes), and so are nonterminals (procedures) and the bytes of symbols, terminals first.
+pub const TERMINALS: u8 = 128;
+
+pub const NONTERMINALS: u8 = 64;
+
+pub const SYMBOL_BYTES: u8 = TERMINALS + NONTERMINALS;
+
+// The table of the terminals' relations, in their order: how many words it has, and its type.
+pub const LETTER_WORDS: usize = TERMINALS as usize * relation::WORDS;
+
+pub type Letters = [relation::Letter; LETTER_WORDS];
+
 // A number from 1 to 7 with the record's number for 3 to 7; number 0: nothing is refused.
 pub struct Refusal {
     pub number: u64,

@@ -4,20 +4,14 @@ ghost use mathlib.Core.Bool.{cond};
 ghost use Rattle.plan_file.specs.Refusals as refusals;
 ghost use Rattle.record_checks.specs.BigEndian.{bigEndian};
 use plan_file::FINAL_KIND;
+use plan_file::NONTERMINALS;
 use plan_file::RULE_KIND;
+use plan_file::RULE_LIMIT;
+use plan_file::SYMBOL_BYTES;
+use plan_file::TERMINALS;
 use plan_file::TRANSITION_KIND;
-
-const RULE_LIMIT: usize = 256;
-
-const TRANSITION_LIMIT: usize = 1024;
-
-const TERMINALS: u8 = 128;
-
-const NONTERMINALS: u8 = 64;
-
-const SYMBOL_BYTES: u8 = 192;
-
-const STATES: u8 = 8;
+use plan_file::TRANSITION_LIMIT;
+use relation::STATES;
 
 // Check 3.
 pub fn kind_known(r: [u8; 8]) -> bool

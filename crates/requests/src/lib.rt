@@ -1,15 +1,16 @@
 // What the two calls on a file share: what refuses each of them, the file's rules in their table, and steps of their proofs by hand.
+use calls::JOURNAL_LIMIT;
 use plan_file::Refusal;
 ghost use mathlib.Core.Path.{_≡_};
 ghost use Rattle.calls.specs.Checking.{journalFault};
 ghost use Rattle.plan_file.specs.Answers.{refusalOf};
 ghost use Rattle.requests.specs.Refusing.{refusalFor};
 
-// 8: the journal has no row or too many.
+// Returns 8 where a journal of `rows` rows has none or too many, else 0.
 fn journal_fault(rows: usize) -> u64
     ensures { λ r. ⌜ r ≡ journalFault rows ⌝ }
 {
-    if (rows == 0) | (4096 < rows) {
+    if (rows == 0) | (JOURNAL_LIMIT < rows) {
         return 8;
     }
     0

@@ -1,6 +1,8 @@
 // Writing a word on a file and a journal. It asks nothing of its caller; a refused call does not change the buffer.
+use calls::LONG_WORD;
 use calls::Row;
 use fitting::Fit;
+use plan_file::RULE_LIMIT;
 use plan_file::Refusal;
 use witness::Part;
 ghost use mathlib.Core.Path.{_≡_};
@@ -39,7 +41,7 @@ fn count_fault(rows: usize, used: usize, row: usize) -> u64
 fn too_long(n: u64, room: usize) -> bool
     ensures { λ r. ⌜ r ≡ tooLong n room ⌝ }
 {
-    (65535 <= n) | ((room as u64) < n)
+    (LONG_WORD <= n) | ((room as u64) < n)
 }
 
 // Nothing is to be looked at where something refuses.
@@ -54,7 +56,7 @@ fn refused(refusal: Refusal) -> Asked
 }
 
 // Fills in the table of rules where nothing refuses.
-fn ask(file: &[u8], rules: &mut [[u8; 4]; 256], rows: usize, used: usize, row: usize) -> Asked
+fn ask(file: &[u8], rules: &mut [[u8; 4]; RULE_LIMIT], rows: usize, used: usize, row: usize) -> Asked
     ensures { λ r. ⌜ AskedFor (now (file .entry)) rows used row (now (rules .exit)) r ⌝ }
 {
     let of_start = requests::refusal_for(file, rows);
@@ -107,12 +109,7 @@ fn part_of(refusal: Refusal, row: usize) -> Part
     ensures { λ r. ⌜ r ≡ partBy (refusal .number) row ⌝ }
 {
     if refusal.number != 0 {
-        return Part {
-            older: false,
-            terminal: false,
-            symbol: 0,
-            row: 0,
-        };
+        return witness::no_part();
     }
     Part {
         older: true,
@@ -135,7 +132,7 @@ fn as_writing(said: Refusal, n: usize) -> Writing
 pub fn write(file: &[u8], journal: &[Row], used: usize, row: usize, buffer: &mut [u8]) -> Writing
     ensures { λ r. ⌜ Writes (now (file .entry)) (map rowOf (now (journal .entry))) used row (now (buffer .entry)) (now (buffer .exit)) r ⌝ }
 {
-    let mut rules = [[0u8; 4]; 256];
+    let mut rules = [[0u8; 4]; RULE_LIMIT];
     let asked = ask(file, &mut rules, journal.len(), used, row);
     let known = &rules[..asked.rules];
     let fit = fitting::rows_fit(journal, known, asked.rows);

@@ -49,7 +49,7 @@ use Rattle.plan_file.specs.declared.Refusal.{Refusal}
 use Rattle.plan_file.proofs.Refusal as F
 use Rattle.plan_file.proofs.Refusal.Laws as F′
 use Rattle.calls.specs.declared.Row.{Row}
-use Rattle.fitting.proofs.Rows.{RowType}
+use Rattle.calls.proofs.Types.{RowType, Entry}
 use Rattle.deciding.specs.declared.State.{State}
 use Rattle.deciding.proofs.State as S
 use Rattle.deciding.proofs.State.Laws as S′
@@ -67,7 +67,7 @@ use Rattle.checker.specs.Contracts.{Checks}
 use Rattle.starting.specs.Starting.{Starts}
 use Rattle.checker.proofs.Answered.{checks-by}
 use Rattle.starting.proofs.Started.{may-run}
-use Rattle.requests.proofs.Walks.{Entry, zeros, zeros-is, tok, entry-lawful, entry-makes, zeros-typed, typed}
+use Rattle.requests.proofs.Walks.{zeros, zeros-is, tok, entry-lawful, entry-makes, zeros-typed, typed}
 use Rattle.checker.proofs.Checked as Ck
 use Rattle.checker.proofs.Checked.Laws as Ck′
 use Rattle.starting.proofs.Start as B

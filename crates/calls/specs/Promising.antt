@@ -14,7 +14,7 @@ use Rattle.working_order.specs.Journal.{Row}
 use Rattle.working_order.specs.Order.{Answer, broken}
 use Rattle.calls.specs.Replies.{answered, unless}
 use Rattle.calls.specs.ReplyLaws.{reply-answers, reply-none}
-use Rattle.calls.specs.Checking.{journalLimit, journalFault, orderOn, checkOf, journalAfter, shown}
+use Rattle.calls.specs.Checking.{journalLimit, journalFault, orderOn, checkOf, journalAfter, shown, checkRefusals}
 use Rattle.calls.specs.DemandThree.{Counts, WritesShown, Promises}
 use Rattle.calls.specs.Truth.{one-verdict, counted, least-height, rows-mean, antichain, stable}
 use Rattle.calls.specs.Writing.{roomFault, wordOf, writeOf}
@@ -41,7 +41,7 @@ module _ (bs : List ℕ) (J B : ℕ) (a : Answer ℕ) (e : checkOf bs J B ≡ an
   pub from-order : (fault bs .number ≡ 0) × (journalFault J ≡ 0) × (a ≡ orderOn bs J B)
   unfolding checkOf
   from-order =
-      let p = reply-answers (fault bs ∷ refuse (journalFault J) 0 ∷ []) (orderOn bs J B) a e in
+      let p = reply-answers (checkRefusals bs J) (orderOn bs J B) a e in
       (p .0 .0, p .0 .1 .0, sym (p .1))
 
   pub promises : Promises bs J B a
@@ -58,7 +58,7 @@ module _ (bs : List ℕ) (J B : ℕ) (a : Answer ℕ) (e : checkOf bs J B ≡ an
         antichain = rw (o .2) (antichain bs v J B (s .0));
         writes-shown = shows v (o .1) (s .0) (o .2);
         stable = λ f g J′ B′ j l b.
-            reply-none (fault bs ∷ refuse (journalFault J′) 0 ∷ []) (orderOn bs J′ B′) (v, (size-journal J′ (omega (arith, s .0)) l, tt))
+            reply-none (checkRefusals bs J′) (orderOn bs J′ B′) (v, (size-journal J′ (omega (arith, s .0)) l, tt))
             ∙ ap answered (stable bs J B J′ B′ j b (λ x. f (ap (λ (y : Answer ℕ). y .verdict) (o .2) ∙ x)) (λ x. g (ap (λ (y : Answer ℕ). y .verdict) (o .2) ∙ x)) ∙ sym (o .2));
       }
     where

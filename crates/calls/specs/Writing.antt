@@ -6,7 +6,7 @@ use Prim.Native.Nat.{ℕ, _+_}
 use lib.Dec.{leb, ltb}
 use lib.ListN.{length, getD, take, drop}
 use Rattle.relation.specs.Relation.{states}
-use Rattle.plan_file.specs.Refusals.{refuse, fault}
+use Rattle.plan_file.specs.Refusals.{Refusal, refuse, fault}
 use Rattle.plan_file.specs.Views.{rulesOf, productionsOf, automatonOf}
 use Rattle.language.specs.Grammar.{Rule}
 use Rattle.language.specs.Rewriting.{Language}
@@ -18,7 +18,7 @@ use Rattle.calls.specs.Base.{base, words}
 use Rattle.calls.specs.Checking.{journalFault}
 use Rattle.calls.specs.Replies.{Reply, refused, answered, reply}
 
--- a word of so many steps is not written
+-- a word of this many steps or more is not written
 abbrev pub longWord : ℕ
 longWord = 65535
 
@@ -37,17 +37,18 @@ rowOn bs rows i = getD rows i (noRow (base states (automatonOf bs) .forms))
 unfoldable pub wordOf : List ℕ → List (Row ℕ) → ℕ → List ℕ
 wordOf bs rows i = wordBehind words (rulesOf bs) rows i
 
--- the file's refusal, then 8, 9 and 10, then the word's length
-unfoldable pub writeOf : List ℕ → List (Row ℕ) → ℕ → ℕ → ℕ → Reply ℕ
-writeOf bs rows used i room =
-    let w = wordOf bs rows i in
-    reply
-    (fault bs
+-- what may refuse to write, in its order: the file's refusal, then 8, 9 and 10
+abbrev pub writeRefusals : List ℕ → List (Row ℕ) → ℕ → ℕ → ℕ → List Refusal
+writeRefusals bs rows used i room =
+    fault bs
     ∷ refuse (journalFault (length rows)) 0
     ∷ refuse (rowFault (base states (automatonOf bs) .forms) (rulesOf bs) rows used i) 0
-    ∷ refuse (roomFault w room) 0
-    ∷ [])
-    (length w)
+    ∷ refuse (roomFault (wordOf bs rows i) room) 0
+    ∷ []
+
+-- the first of them, and else the word's length
+unfoldable pub writeOf : List ℕ → List (Row ℕ) → ℕ → ℕ → ℕ → Reply ℕ
+writeOf bs rows used i room = reply (writeRefusals bs rows used i room) (length (wordOf bs rows i))
 
 -- the word, and then the old bytes; the old bytes whole on a refusal
 abbrev pub writtenBy : List ℕ → List ℕ → Reply ℕ → List ℕ

@@ -9,7 +9,7 @@ use lib.ListN.{length}
 use lib.Seq.{take-all}
 use borrow.Author.Tests.{lt-ltb, le-ltb, ltb-true, ltb-false}
 use Rattle.plan_file.specs.Limits.{recordLimit}
-use Rattle.plan_file.specs.Refusals.{Refusal, refuse, fault}
+use Rattle.plan_file.specs.Refusals.{Refusal, refuse, fault, faultIn, lengthFaultIn}
 use Rattle.calls.specs.Checking.{checkOf}
 use Rattle.calls.specs.Printing.{refusedLine, textOf, programRows, programBudget, programRoom, programText}
 use Rattle.input.specs.Held.{most, heldOf, Handed}
@@ -61,7 +61,7 @@ abbrev refusalAt : Bool → Refusal
 refusalAt whole = cond (not whole) (refuse 1 0) (refuse 2 0)
 
 long-fault : (bs : List ℕ) → most ≤ length bs → fault bs ≡ refusalAt (eqb (length bs % 8) 0)
-unfolding fault
+unfolding faultIn lengthFaultIn
 long-fault bs h = rw (lt-ltb recordLimit (length bs / 8) (omega arith))
 
 -- what is handed over of a long input is long, and as long by 8

@@ -12,7 +12,7 @@ use lib.Seq.{getD-take}
 use borrow.Author.Tests.{leb-true, leb-false, eqb-true, eq-eqb, ne-eqb, le-leb}
 use Rattle.plan_file.specs.Limits.{recordLimit}
 use Rattle.plan_file.specs.Records.{recordCount, recordAt, kindAt, ruleKind, transitionKind, countOf, countIn, Record, ruleRecord, transitionRecord, finalRecord, recordBy, recordOf}
-use Rattle.plan_file.specs.Refusals.{Refusal, refuse, byNumber, lengthFault, faultBy, faultAt, faultAtIn, orNext, faultFrom, faultFromIn, fault, faultIn}
+use Rattle.plan_file.specs.Refusals.{Refusal, refuse, lengthFault, faultBy, faultAt, faultAtIn, orNext, faultFrom, faultFromIn, fault, faultIn}
 use Rattle.plan_file.specs.Reading.{Step, gives, refuses, ended, unlessRefused, stepFrom}
 use Rattle.plan_file.specs.RefusalLaws.{number-some}
 use Rattle.plan_file.specs.Walk.{rulesIn, transitionsIn, refusalIn, rest, after}

@@ -13,7 +13,7 @@ use Rattle.basics.specs.Tests.{and-fst, and-snd}
 use Rattle.basics.specs.Elements.{any}
 use Rattle.plan_file.specs.Limits.{recordLimit, terminals}
 use Rattle.plan_file.specs.Records.{recordCount, ruleKind, transitionKind, countOf}
-use Rattle.plan_file.specs.Refusals.{Refusal, refuse, orNext, firstHolding, recordTests, faultBy, faultAt, faultFrom, fault, byNumber}
+use Rattle.plan_file.specs.Refusals.{Refusal, refuse, orNext, firstHolding, recordTests, faultAt, faultFrom, fault, byNumber, faultAtIn, faultByIn, faultFromIn, faultIn, lengthFaultIn}
 use Rattle.calls.specs.Checking.{journalLimit, journalFault, checkOf}
 use Rattle.calls.specs.Judging.{wordLimit, wordFault, judgeOf}
 use Rattle.calls.specs.Replies.{Reply, refused, answered, unless}
@@ -52,11 +52,11 @@ next-refusal zero i next h l = l
 next-refusal (suc f) i next h l = record { number = h .low; no-record = λ e. absurd (let z : ⊥ = omega (arith, e, h .high (omega arith)) in z) }
 
 at-number : (bs : List ℕ) (i : ℕ) → RecordNumber (faultAt bs i)
-unfolding faultAt faultBy
+unfolding faultAtIn faultByIn
 at-number bs i = first-number (recordTests bs i (countOf bs ruleKind i) (countOf bs transitionKind i)) refl
 
 from-refusal : (bs : List ℕ) (m i : ℕ) → FileRefusal (faultFrom bs m i)
-unfolding faultFrom
+unfolding faultFromIn
 from-refusal bs zero i = record { number = omega arith; no-record = λ e. refl }
 from-refusal bs (suc m) i = next-refusal (faultAt bs i) i (faultFrom bs m (suc i)) (at-number bs i) (from-refusal bs m (suc i))
 
@@ -65,7 +65,7 @@ either-refusal true x y l m = l
 either-refusal false x y l m = m
 
 pub file-refusal : (bs : List ℕ) → FileRefusal (fault bs)
-unfolding fault
+unfolding faultIn lengthFaultIn
 file-refusal bs =
     let records = faultFrom bs (recordCount bs) 0 in
     let many = ltb recordLimit (recordCount bs) in

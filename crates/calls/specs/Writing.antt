@@ -1,6 +1,6 @@
 -- What writing the word behind a journal row answers, and what the lent buffer holds afterwards (document 01, "Writing a run").
 -- Definitions only. Assumes nothing.
-use mathlib.Core.Bool.{not, _||_, cond}
+use mathlib.Core.Bool.{Bool, not, _||_, cond}
 use mathlib.Core.List.{List, [], _∷_, _++_}
 use Prim.Native.Nat.{ℕ, _+_}
 use lib.Dec.{leb, ltb}
@@ -26,9 +26,13 @@ longWord = 65535
 unfoldable pub rowFault : Forms ℕ → List Rule → List (Row ℕ) → ℕ → ℕ → ℕ
 rowFault M rules rows used i = cond (not (ltb i used) || (ltb (length rows) used || not (rowsFit M rows rules (i + 1)))) 9 0
 
--- 10: the word is too long, or longer than the buffer
+-- a word of n steps is too long to be written, or longer than a buffer of `room` bytes
+abbrev pub tooLong : ℕ → ℕ → Bool
+tooLong n room = leb longWord n || ltb room n
+
+-- 10: so is the word
 unfoldable pub roomFault : List ℕ → ℕ → ℕ
-roomFault w room = cond (leb longWord (length w) || ltb room (length w)) 10 0
+roomFault w room = cond (tooLong (length w) room) 10 0
 
 -- row i of the journal, and the word behind it
 abbrev pub rowOn : List ℕ → List (Row ℕ) → ℕ → Row ℕ

@@ -11,14 +11,11 @@ use lib.ListN.{length}
 use borrow.Author.Tests.{leb-true}
 use Rattle.basics.specs.Tests.{and-fst, and-snd}
 use Rattle.basics.specs.Elements.{any}
-use Rattle.relation.specs.Relation.{states}
-use Rattle.language.specs.WordRelation.{rejected}
-use Rattle.plan_file.specs.Views.{automatonOf}
 use Rattle.plan_file.specs.Limits.{recordLimit, terminals}
 use Rattle.plan_file.specs.Records.{recordCount, ruleKind, transitionKind, countOf}
 use Rattle.plan_file.specs.Refusals.{Refusal, refuse, orNext, firstHolding, recordTests, faultAt, faultFrom, fault, byNumber, faultAtIn, faultByIn, faultFromIn, faultIn, lengthFaultIn, lengthFault}
-use Rattle.calls.specs.Checking.{journalLimit, journalFault, orderOn, checkRefusals, checkOf}
-use Rattle.calls.specs.Judging.{wordLimit, wordFault, judgementBy, judgeRefusals, judgeOf}
+use Rattle.calls.specs.Checking.{journalLimit, journalFault, checkRefusals, checkOf}
+use Rattle.calls.specs.Judging.{wordLimit, wordFault, judgeRefusals, judgeOf}
 use Rattle.calls.specs.Replies.{Reply, refused, answered, unless, reply}
 use Rattle.calls.specs.Codes.{firstAnswerCode}
 
@@ -138,9 +135,9 @@ reply-low (x ∷ xs) a l = unless-low x (reply xs a) (l .0) (reply-low xs a (l .
 
 pub check-low : (bs : List ℕ) (J B : ℕ) → LowIn (checkOf bs J B)
 unfolding checkOf journalFault
-check-low bs J B = reply-low (checkRefusals bs J) (orderOn bs J B) (fault-low bs, (number-low (eqb J 0 || ltb journalLimit J) 8 (omega arith), tt))
+check-low bs J B = reply-low (checkRefusals bs J) _ (fault-low bs, (number-low (eqb J 0 || ltb journalLimit J) 8 (omega arith), tt))
 
 pub judge-low : (bs w : List ℕ) → LowIn (judgeOf bs w)
 unfolding judgeOf wordFault
 judge-low bs w =
-    reply-low (judgeRefusals bs w) (judgementBy (rejected states (automatonOf bs) w)) (fault-low bs, (number-low (ltb wordLimit (length w) || any (λ c. leb terminals c) w) 11 (omega arith), tt))
+    reply-low (judgeRefusals bs w) _ (fault-low bs, (number-low (ltb wordLimit (length w) || any (λ c. leb terminals c) w) 11 (omega arith), tt))

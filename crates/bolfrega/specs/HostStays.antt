@@ -33,7 +33,8 @@ module _ (bs old : List ℕ) where
   of-run g a reply p v =
       ap₂ (λ (e n : ℕ). pairs states e ∷ n ∷ refusedBy (writing bs old a) ∷ []) (row-relation bs g a reply v p) (row-length bs g a reply v p)
 
--- the call with the settings g told d, new and r of its answer a, and the call with g′ told d′, new′ and r′ of a′
+-- a: the answer of the call with the settings g, which gave the details d, the buffer new and the number r. The letters with a prime: the
+-- same of the call with the settings g′
 module _ (bs : List ℕ) (g g′ : Settings) (d d′ old new new′ : List ℕ) (r r′ : ℕ) (a a′ : Answer ℕ) (p : Promises bs g a) (p′ : Promises bs g′ a′)
     (t : ToldAnswer bs g d old new r a) (t′ : ToldAnswer bs g′ d′ old new′ r′ a′) (same : Agrees bs a a′) where
   last-same : lastThree (a′ .verdict) (brokenRow a′) (writing bs old a′) ≡ lastThree (a .verdict) (brokenRow a) (writing bs old a)

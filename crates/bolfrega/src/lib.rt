@@ -3,6 +3,7 @@
 // telling). `include/bolfrega.h` says the same to C.
 use acceptance::Judged;
 use calls::Options;
+use calls::Row;
 use telling::Told;
 ghost use mathlib.Core.Path.{_≡_};
 ghost use Rattle.telling.specs.Telling.{numbersIn};
@@ -89,7 +90,7 @@ pub extern "C" fn bolfrega_check(
     ensures { λ r. ⌜ ChecksZeros (now (file .entry)) (record { rows = rows; budget = budget }) (now (details .exit)) (now (buffer .entry)) (now (buffer .exit)) r ⌝ }
 {
     let options = Options { budget };
-    let told = standalone::checked(file, rows, telling::blank_row(), options, 0, buffer);
+    let told = standalone::checked(file, rows, Row::blank(), options, 0, buffer);
     *details = details_of(told);
     told.code
 }

@@ -6,7 +6,7 @@ use Prim.Native.Nat.{ℕ}
 use lib.Dec.{eqb, ltb}
 use lib.ListN.{drop}
 use Rattle.relation.specs.Relation.{states}
-use Rattle.plan_file.specs.Refusals.{refuse, fault}
+use Rattle.plan_file.specs.Refusals.{Refusal, refuse, fault}
 use Rattle.plan_file.specs.Views.{rulesOf, automatonOf}
 use Rattle.working_order.specs.Journal.{Row}
 use Rattle.working_order.specs.Order.{Answer, check}
@@ -31,9 +31,13 @@ journalFault J = cond (eqb J 0 || ltb journalLimit J) 8 0
 unfoldable pub orderOn : List ℕ → Settings → Answer ℕ
 orderOn bs g = check (base states (automatonOf bs)) (rulesOf bs) (g .rows) (g .budget)
 
--- the file's refusal, then 8, then the answer
+-- what may refuse a check, in its order: the file's refusal, then 8
+abbrev pub checkRefusals : List ℕ → ℕ → List Refusal
+checkRefusals bs J = fault bs ∷ refuse (journalFault J) 0 ∷ []
+
+-- the first of them, and else the answer
 unfoldable pub checkOf : List ℕ → Settings → Reply (Answer ℕ)
-checkOf bs g = let a = orderOn bs g in reply (fault bs ∷ refuse (journalFault (g .rows)) 0 ∷ []) a
+checkOf bs g = let a = orderOn bs g in reply (checkRefusals bs (g .rows)) a
 
 -- the used rows, and then the old contents; the old contents whole on a refusal
 abbrev pub keptBy : List (Row ℕ) → Reply (Answer ℕ) → List (Row ℕ)

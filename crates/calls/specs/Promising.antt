@@ -14,7 +14,7 @@ use Rattle.working_order.specs.Journal.{Row}
 use Rattle.working_order.specs.Order.{Answer, broken, full, spent}
 use Rattle.calls.specs.Replies.{answered, unless}
 use Rattle.calls.specs.ReplyLaws.{reply-answers, reply-none}
-use Rattle.calls.specs.Checking.{Settings, journalLimit, journalFault, orderOn, checkOf, journalAfter, shown}
+use Rattle.calls.specs.Checking.{Settings, journalLimit, journalFault, orderOn, checkOf, journalAfter, shown, checkRefusals}
 use Rattle.calls.specs.DemandThree.{Counts, WritesShown, Extends, Promises}
 use Rattle.calls.specs.Truth.{one-verdict, counted, least-height, rows-mean, antichain, same-answer}
 use Rattle.calls.specs.Writing.{roomFault, wordOf, writeOf}
@@ -41,7 +41,7 @@ module _ (bs : List ℕ) (g : Settings) (a : Answer ℕ) (e : checkOf bs g ≡ a
   pub from-order : (fault bs .number ≡ 0) × (journalFault (g .rows) ≡ 0) × (a ≡ orderOn bs g)
   unfolding checkOf
   from-order =
-      let p = reply-answers (fault bs ∷ refuse (journalFault (g .rows)) 0 ∷ []) (orderOn bs g) a e in
+      let p = reply-answers (checkRefusals bs (g .rows)) (orderOn bs g) a e in
       (p .0 .0, p .0 .1 .0, sym (p .1))
 
   pub promises : Promises bs g a
@@ -67,7 +67,7 @@ module _ (bs : List ℕ) (g : Settings) (a : Answer ℕ) (e : checkOf bs g ≡ a
       whole : fault bs .number ≡ 0 → 1 ≤ g .rows → a ≡ orderOn bs g → (a .verdict ≡ full → ⊥) → (a .verdict ≡ spent → ⊥)
           → (g′ : Settings) → Extends g g′ → checkOf bs g′ ≡ answered a
       whole v s o f p g′ x =
-          reply-none (fault bs ∷ refuse (journalFault (g′ .rows)) 0 ∷ []) (orderOn bs g′) (v, (size-journal (g′ .rows) (omega (arith, s, x .more-rows)) (x .within-limit), tt))
+          reply-none (checkRefusals bs (g′ .rows)) (orderOn bs g′) (v, (size-journal (g′ .rows) (omega (arith, s, x .more-rows)) (x .within-limit), tt))
           ∙ ap answered
           (same-answer bs g g′ x (λ y. f (ap (λ (z : Answer ℕ). z .verdict) o ∙ y)) (λ y. p (ap (λ (z : Answer ℕ). z .verdict) o ∙ y)) ∙ sym o)
 

@@ -8,13 +8,13 @@ use lib.Dec.{T}
 use lib.ListN.{length, take, drop, take-append-drop}
 use Rattle.basics.specs.Lists.{drop-map}
 use Rattle.plan_file.specs.Refusals as refusals
-use Rattle.plan_file.specs.Refusals.{refuse, fault, byNumber}
+use Rattle.plan_file.specs.Refusals.{byNumber, firstOf}
 use Rattle.working_order.specs.Order as order
 use Rattle.working_order.specs.Journal.{Row}
-use Rattle.calls.specs.Checking.{Settings, journalFault, orderOn, checkOf, keptBy, journalAfter}
+use Rattle.calls.specs.Checking.{Settings, checkRefusals, orderOn, checkOf, keptBy, journalAfter}
 use Rattle.calls.specs.Promising.{promises}
 use Rattle.calls.specs.declared.Options.{Options}
-use Rattle.calls.specs.ReplyLaws.{one-refusal}
+use Rattle.calls.specs.ReplyLaws.{reply-first}
 use Rattle.plan_file.specs.RefusalLaws.{number-some}
 use Rattle.calls.specs.Replies.{Reply, refused, answered, unless}
 use Rattle.calls.specs.Rows.{rowOf}
@@ -34,7 +34,6 @@ use Rattle.starting.specs.declared.Start.{Start}
 use Rattle.checker.specs.Answers.{checkedBy, checkedOf, usedIn}
 use Rattle.checker.specs.Contracts.{settingsOver, Checks}
 use Rattle.checker.specs.OrderLaws.{order-same}
-use Rattle.requests.specs.Refusing.{refusalFor}
 use Rattle.starting.specs.Starting.{problemOf, Starts}
 use Rattle.requests.proofs.Refusals.{none-refused}
 
@@ -61,9 +60,13 @@ module _ (bs : List ℕ) (o : Options) (old : Journal) where
 
   -- ---- the reply
 
-  reply : checkOf bs g ≡ unless (refusalFor bs (length old)) (answered (orderOn bs g))
+  -- the first of what may refuse it
+  abbrev refusal : refusals.Refusal
+  refusal = firstOf (checkRefusals bs (g .rows))
+
+  reply : checkOf bs g ≡ unless refusal (answered (orderOn bs g))
   unfolding checkOf
-  reply = one-refusal (fault bs) (refuse (journalFault (length old)) 0) (answered (orderOn bs g))
+  reply = reply-first (checkRefusals bs (g .rows)) (orderOn bs g)
 
   -- whatever it is
   checks : (x : Reply (order.Answer ℕ)) → checkOf bs g ≡ x → (new : Journal) (c : Checked) → checkedOf c new ≡ x → map rowOf new ≡ keptBy (map rowOf old) x
@@ -99,8 +102,8 @@ module _ (bs : List ℕ) (o : Options) (old : Journal) where
       refuses : Checks bs o old new (checked.Refused (r .refusal))
       refuses =
           subst (λ (j : Journal). Checks bs o old j (checked.Refused (r .refusal))) (sym same)
-          (checks (refused (refusalFor bs (length old)))
-          (reply ∙ number-some (refused (refusalFor bs (length old))) (answered (orderOn bs g)) (refusalFor bs (length old) .number) (λ q. z (ap (λ (x : refusals.Refusal). x .number) (h .refusal) ∙ q)))
+          (checks (refused refusal)
+          (reply ∙ number-some (refused refusal) (answered (orderOn bs g)) (refusal .number) (λ q. z (ap (λ (x : refusals.Refusal). x .number) (h .refusal) ∙ q)))
           old (checked.Refused (r .refusal)) (ap refused (h .refusal)) refl refl)
 
     -- ---- nothing refused
@@ -127,11 +130,11 @@ module _ (bs : List ℕ) (o : Options) (old : Journal) where
       answered-so : Checks bs o old new (checked.Answered (answerIn last))
       answered-so =
           answers (answerIn last) new (subst (λ (a : order.Answer ℕ). search.Checked a old new (answerIn last)) on-file ended)
-          (reply ∙ ap (λ (n : ℕ). byNumber n (refused (refusalFor bs (length old))) (answered (orderOn bs g))) (sym (ap (λ (x : refusals.Refusal). x .number) (h .refusal)) ∙ z))
+          (reply ∙ ap (λ (n : ℕ). byNumber n (refused refusal) (answered (orderOn bs g))) (sym (ap (λ (x : refusals.Refusal). x .number) (h .refusal)) ∙ z))
 
-    pub checks-by : (c : Checked) → c ≡ checkedBy (r .refusal .number) (r .refusal) (answerIn last) → Checks bs o old new c
+    pub checks-by : (c : Checked) → c ≡ checkedBy (r .refusal) (answerIn last) → Checks bs o old new c
     checks-by c e = subst (Checks bs o old new) (sym e) (by (r .refusal .number) refl)
       where
-        by : (k : ℕ) → r .refusal .number ≡ k → Checks bs o old new (checkedBy k (r .refusal) (answerIn last))
+        by : (k : ℕ) → r .refusal .number ≡ k → Checks bs o old new (byNumber k (checked.Refused (r .refusal)) (checked.Answered (answerIn last)))
         by zero z = answered-so z
         by (suc k) z = refuses (λ q. let y : ⊥ = omega (arith, sym z ∙ q) in y)

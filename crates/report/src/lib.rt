@@ -3,7 +3,7 @@ use calls::Options;
 use calls::Row;
 use telling::Told;
 ghost use Rattle.calls.specs.Rows.{settingsOf};
-ghost use Rattle.calls.specs.Printing.{textOf, programText};
+ghost use Rattle.calls.specs.Printing.{textOf, programRoom, programText};
 ghost use Rattle.page.specs.Contracts.{Stands};
 ghost use Rattle.lines.specs.Lines.{toldText};
 
@@ -28,7 +28,7 @@ fn put_whole(text: &mut [u8; TEXT], told: Told, buffer: &[u8; RUN]) -> usize
 // Checks `file` over a journal of `rows` rows, each initialised to `old`, with these `options`, and stores what is to be printed
 // at the front of `text`. Returns its length.
 pub fn render(file: &[u8], rows: usize, old: Row, options: Options, text: &mut [u8; TEXT]) -> usize
-    ensures { λ r. ⌜ Stands (textOf (now (file .entry)) (settingsOf rows options) 4096) (now (text .entry)) (now (text .exit)) r ⌝ }
+    ensures { λ r. ⌜ Stands (textOf (now (file .entry)) (settingsOf rows options) programRoom) (now (text .entry)) (now (text .exit)) r ⌝ }
 {
     let mut buffer = [0u8; RUN];
     let told = standalone::checked(file, rows, old, options, 0, &mut buffer);
@@ -39,11 +39,5 @@ pub fn render(file: &[u8], rows: usize, old: Row, options: Options, text: &mut [
 pub fn answer(file: &[u8], text: &mut [u8; TEXT]) -> usize
     ensures { λ r. ⌜ Stands (programText (now (file .entry))) (now (text .entry)) (now (text .exit)) r ⌝ }
 {
-    render(
-        file,
-        ROWS,
-        telling::blank_row(),
-        Options { budget: BUDGET },
-        text,
-    )
+    render(file, ROWS, Row::blank(), Options { budget: BUDGET }, text)
 }

@@ -21,7 +21,6 @@ use contract.Monad.{Fun}
 use types.Kit.{Given, Item, ‵, raw, given, _⊛_, ⋆, mean, _$_, _∵_, !, qed, move, keep, drop, split, join, use1, fsplit, fjoin, feqL, check, frame, done}
 use denote.Builtin.{u8, u64, usize}
 use denote.Laws.{Is}
-use denote.Memory.{mem as rowMemory}
 use denote.Plain.{uint-makes}
 use denote.Ref.{RefT}
 use denote.Slice.{sliceVal, MutSlice, ShrSlice, Room, finally, slice-vals}
@@ -34,29 +33,23 @@ use denote.Triple.Statement.{Contract}
 use Rattle.lent.proofs.CallPlain.{asks-plain}
 use Rattle.lent.proofs.CallStep.{Called}
 use Rattle.lent.proofs.LocalArrays.{from-start}
-use Rattle.lent.proofs.PlainData.{Data, Row as RowOf, val, Means, makes}
+use Rattle.lent.proofs.PlainData.{Row as RowOf, val, Means, makes}
 use Rattle.calls.specs.declared.Options.{Options}
 use Rattle.calls.specs.declared.Row.{Row}
+use Rattle.calls.specs.Checking.{journalLimit}
+use Rattle.calls.proofs.Types.{rowBytes, options}
 use Rattle.calls.proofs.Row as T
 use Rattle.calls.proofs.Row.Laws as T′
 use Rattle.checker.proofs.check as checks
-use Rattle.checker.proofs.Values.{options}
 use Rattle.telling.proofs.front as front
 use Rattle.telling.proofs.row_number as row-number
 use Rattle.writer.proofs.write as write
 
-abbrev pub row : Data
-row = record { type = T.the-type; laws = T′.the-laws; plain = T′.the-plain; copy = T′.the-copy; low = T′.lowers }
-
--- the bytes of a row in memory
-abbrev pub rowSize : ℕ
-rowSize = rowMemory T.the-row .size
-
 -- so few rows have room
-pub rows-room : (n : ℕ) → n ≤ 4096 → Room T.the-row n
+pub rows-room : (n : ℕ) → n ≤ journalLimit → Room T.the-row n
 rows-room n le = (omega arith, omega arith)
 
-pub row-offset : (i : ℕ) → i < 4096 → i * rowSize < 2 ^ 64
+pub row-offset : (i : ℕ) → i < journalLimit → i * rowBytes < 2 ^ 64
 row-offset i lt = omega arith
 
 module _ {M : Type 1} (𝓤 : URA M) (H : Heap 𝓤) (A : Atoms 𝓤) (W : Given 𝓤 H A) (mem : Memory → SProp 𝓤) (run : Routine → Fun 𝓤) where

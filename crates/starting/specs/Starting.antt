@@ -9,14 +9,14 @@ use Rattle.relation.specs.Relation.{states}
 use Rattle.language.specs.WordRelation.{isFinal}
 use Rattle.plan_file.specs.Views.{rulesOf, transitionsOf, automatonOf}
 use Rattle.plan_file.specs.Answers.{refusalOf}
-use Rattle.calls.specs.Checking.{Settings}
+use Rattle.plan_file.specs.Refusals.{firstOf}
+use Rattle.calls.specs.Checking.{Settings, checkRefusals}
 use Rattle.calls.specs.Rows.{entryOf}
 use Rattle.covers.specs.Rows.{Journal}
 use Rattle.deciding.specs.declared.State.{State}
 use Rattle.verdicts.specs.Problems.{Letters, RuleBytes, Problem}
 use Rattle.verdicts.specs.Running.{Stands}
 use Rattle.tables.specs.Tables.{letterTable}
-use Rattle.requests.specs.Refusing.{refusalFor}
 use Rattle.starting.specs.declared.Start.{Start}
 
 -- before the first pass, over n rules, with the settings g and these final states
@@ -27,7 +27,7 @@ waiting g n finals =
       left = 0;
       right = 0;
       terms = record { budget = g .budget; finals = finals; pass = 1; start = 0; before = 0 };
-      counts = record { used = 0; joins = 0 };
+      counts = record { used = 0; joins = 0; added = 0 };
       place = record { rule = 0; left = 0; right = 0 };
       rows = g .rows;
       rules = n;
@@ -47,7 +47,7 @@ pub record Begins (bs : List ℕ) (g : Settings) (letters : Letters) (rules : Ru
   pub stands : (j : Journal) → length j ≡ g .rows → Stands (problemOf bs letters (take (s .rules) rules)) (g .budget) j s j t
 
 pub record Starts (bs : List ℕ) (g : Settings) (letters : Letters) (rules : RuleBytes) (t : List ℕ) (r : Start) : Type 0 where
-  pub refusal : refusalOf (r .refusal) ≡ refusalFor bs (g .rows)
+  pub refusal : refusalOf (r .refusal) ≡ firstOf (checkRefusals bs (g .rows))
   -- nothing is done where something refuses
   pub refused : (r .refusal .number ≡ 0 → ⊥) → r .state .going ≡ false
   pub begins : r .refusal .number ≡ 0 → Begins bs g letters rules t (r .state)

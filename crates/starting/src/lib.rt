@@ -3,7 +3,10 @@ use calls::Options;
 use deciding::Counts;
 use deciding::State;
 use deciding::Terms;
+use plan_file::Letters;
+use plan_file::RULE_LIMIT;
 use plan_file::Refusal;
+use relation::StateSet;
 use rows::Place;
 ghost use mathlib.Core.Path.{_≡_};
 ghost use lib.ListN.{replicate};
@@ -19,7 +22,7 @@ pub struct Start {
 }
 
 // The state before the first pass, over a journal of `rows` rows and `rules` rules, where `finals` is the set of final states.
-fn wait(rows: usize, rules: usize, options: Options, finals: u8) -> State
+fn wait(rows: usize, rules: usize, options: Options, finals: StateSet) -> State
     ensures { λ r. ⌜ r ≡ waiting (settingsOf rows options) rules finals ⌝ }
 {
     State {
@@ -33,7 +36,11 @@ fn wait(rows: usize, rules: usize, options: Options, finals: u8) -> State
             start: 0,
             before: 0,
         },
-        counts: Counts { used: 0, joins: 0 },
+        counts: Counts {
+            used: 0,
+            joins: 0,
+            added: 0,
+        },
         place: Place {
             rule: 0,
             left: 0,
@@ -50,8 +57,8 @@ fn wait(rows: usize, rules: usize, options: Options, finals: u8) -> State
 // `rules`, and begins the first pass, for which it sets up `table`. Returns the refusal and the state then.
 pub fn prepare(
     file: &[u8],
-    letters: &mut [u64; 128],
-    rules: &mut [[u8; 4]; 256],
+    letters: &mut Letters,
+    rules: &mut [[u8; 4]; RULE_LIMIT],
     table: &mut [u32],
     rows: usize,
     options: Options,

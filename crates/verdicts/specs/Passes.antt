@@ -5,14 +5,14 @@ use Prim.Native.Nat.{ℕ, suc, _+_, _-_, _≤_, _<_}
 use native.Mathlib.Numerals.{add-one}
 use native.Mathlib.Omega.{arith}
 use lib.Arith.{lt-of-le-ne}
-use lib.ListN.{length, drop}
+use lib.ListN.{length}
 use Rattle.basics.specs.Lists.{drop-later-same}
-use Rattle.working_order.specs.Order.{close, onePass, passes, check}
+use Rattle.working_order.specs.Order.{close, passLimit, onePass, passes, check}
 use Rattle.working_order.specs.Repeating.{Repeats, repeated-dropped}
 use Rattle.calls.specs.Checking.{journalLimit}
 use Rattle.rows.specs.Base as order
-use Rattle.covers.specs.Rows.{Journal, firstRows}
-use Rattle.verdicts.specs.Meanings.{progressOf, countsIn, totalsIn}
+use Rattle.covers.specs.Rows.{Journal, firstRows, KeptBeyond}
+use Rattle.verdicts.specs.Meanings.{progressOf, countsIn, inNextPass, totalsIn}
 use Rattle.verdicts.specs.Problems.{Problem, algebraOf, rulesIn, termsOf}
 use Rattle.verdicts.specs.ProblemLaws.{problem-laws}
 use Rattle.verdicts.specs.Walks.{walkIn, candidatesIn, passIn, Known}
@@ -32,15 +32,18 @@ module _ (P : Problem) (B : ℕ) where
 
   -- pass k is to begin at w over the journal j
   pub record AtPass (target : order.Answer) (j₀ : Journal) (w : Counts) (j : Journal) (k : ℕ) : Type 0 where
-    pub left : rest (length j₀) (suc (suc (length j₀)) - k) k (progressOf w j) ≡ target
+    -- what the passes from k on give
+    pub left : rest (length j₀) (suc (passLimit (length j₀) B) - k) k (progressOf w j) ≡ target
     pub same : length j ≡ length j₀
-    pub beyond : drop (w .used) j ≡ drop (w .used) j₀
+    pub beyond : KeptBeyond (w .used) j₀ j
     pub room : w .used ≤ length j₀
     pub paid : w .joins ≤ B
     pub first : 1 ≤ k
     pub count : k ≤ w .used + 1
+    -- none of its rows is added yet
+    pub none-added : w .added ≡ 0
 
-  pub pass-first : (j : Journal) → AtPass (orderOf P (length j) B) j (record { used = 0; joins = 0 }) j 1
+  pub pass-first : (j : Journal) → AtPass (orderOf P (length j) B) j (record { used = 0; joins = 0; added = 0 }) j 1
   unfolding orderOf check firstRows
   pass-first j =
       record {
@@ -51,6 +54,7 @@ module _ (P : Problem) (B : ℕ) where
         paid = omega arith;
         first = omega arith;
         count = omega arith;
+        none-added = refl;
       }
 
 module _ {P : Problem} {B : ℕ} {target : order.Answer} {j₀ : Journal} {w : Counts} {j : Journal} {k : ℕ} (a : AtPass P B target j₀ w j k) where
@@ -71,40 +75,40 @@ module _ {P : Problem} {B : ℕ} {target : order.Answer} {j₀ : Journal} {w : C
     N : order.Progress → order.Answer
     N = rest P B (length j₀) (suc (length j₀) - k) (suc k)
 
-    turned : endAnswer (endOf (w .used) k r) j′ N ≡ target
+    turned : endAnswer (endOf k r) j′ N ≡ target
     unfolding passes N
     turned =
-        close-end (algebraOf P .starts) (w .used) k j′ N r (subst (λ (n : ℕ). countsIn r .used ≤ n) (sym s) (x .room))
+        close-end (algebraOf P .starts) (w .used) k j′ N r (subst (λ (n : ℕ). countsIn r .used ≤ n) (sym s) (x .room)) (omega (arith, x .adds, a .none-added))
         ∙ ap₂ (λ (u : ℕ) (y : order.Outcome). close (algebraOf P .starts) k u N y) (sym (rows-length (w .used) j hu)) (x .answer ∙ pass-eq)
         ∙ ap (λ (f : ℕ). rest P B (length j₀) f k (progressOf w j)) (let e : suc (suc (length j₀) - k) ≡ suc (suc (length j₀)) - k = omega (arith, a .count, a .room) in e)
         ∙ a .left
 
-    kept : drop (countsIn r .used) j′ ≡ drop (countsIn r .used) j₀
+    kept : KeptBeyond (countsIn r .used) j₀ j′
     kept = x .beyond ∙ drop-later-same (w .used) (countsIn r .used) j j₀ (x .grows) (a .beyond)
 
-    pub pass-done : {y : Answer} → endOf (w .used) k r ≡ Done y → Checked target j₀ j′ y
+    pub pass-done : {y : Answer} → endOf k r ≡ Done y → Checked target j₀ j′ y
     pass-done {y} e =
-        let n : countsIn r .used ≡ totalsIn y .used = sym (close-used (w .used) k r) ∙ ap endUsed e in
+        let n : countsIn r .used ≡ totalsIn y .used = sym (close-used k r) ∙ ap endUsed e in
         record {
           answer = ap (λ (z : PassEnd). endAnswer z j′ N) (sym e) ∙ turned;
-          beyond = subst (λ (m : ℕ). drop m j′ ≡ drop m j₀) n kept;
+          beyond = subst (λ (m : ℕ). KeptBeyond m j₀ j′) n kept;
           room = subst₂ (λ (m l : ℕ). m ≤ l) n (a .same) (x .room);
         }
 
-    module _ {w′ : Counts} (e : endOf (w .used) k r ≡ Again w′) where
+    module _ {w′ : Counts} (e : endOf k r ≡ Again w′) where
       went : r ≡ outcome.Going w′
-      went = again-going (w .used) k r w′ e .0
+      went = again-going k r w′ e .0
 
       abbrev xg : Answers B res w j j′ (outcome.Going w′)
       xg = subst (λ (z : Outcome). Answers B res w j j′ z) went x
 
       pub pass-grew : w .used < w′ .used
-      pass-grew = lt-of-le-ne (xg .grows) (λ p. again-going (w .used) k r w′ e .1 (sym p))
+      pass-grew = lt-of-le-ne (xg .grows) (λ p. again-going k r w′ e .1 (omega (arith, p, xg .adds, a .none-added)))
 
       pub pass-room : w′ .used ≤ length j₀
       pass-room = subst (λ (n : ℕ). w′ .used ≤ n) (a .same) (xg .room)
 
-      pub pass-again : AtPass P B target j₀ w′ j′ (k + 1)
+      pub pass-again : AtPass P B target j₀ (inNextPass w′) j′ (k + 1)
       unfolding N
       pass-again =
           record {
@@ -117,6 +121,7 @@ module _ {P : Problem} {B : ℕ} {target : order.Answer} {j₀ : Journal} {w : C
             paid = xg .paid;
             first = omega arith;
             count = omega (arith, pass-grew, a .count);
+            none-added = refl;
           }
 
       -- what this pass formed is known in the next

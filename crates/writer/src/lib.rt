@@ -56,7 +56,13 @@ fn refused(refusal: Refusal) -> Asked
 }
 
 // Fills in the table of rules where nothing refuses.
-fn ask(file: &[u8], rules: &mut [[u8; 4]; RULE_LIMIT], rows: usize, used: usize, row: usize) -> Asked
+fn ask(
+    file: &[u8],
+    rules: &mut [[u8; 4]; RULE_LIMIT],
+    rows: usize,
+    used: usize,
+    row: usize,
+) -> Asked
     ensures { λ r. ⌜ AskedFor (now (file .entry)) rows used row (now (rules .exit)) r ⌝ }
 {
     let of_start = requests::refusal_for(file, rows);

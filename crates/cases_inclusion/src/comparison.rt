@@ -75,14 +75,7 @@ fn put(journal: &mut [Numbers], i: usize, row: Numbers) {
 }
 
 // Stores the first `count` rows that a check leaves in `journal`, each from a check of its own.
-fn collect(
-    file: &[u8],
-    rows: usize,
-    old: Row,
-    budget: u64,
-    count: usize,
-    journal: &mut [Numbers],
-) {
+fn collect(file: &[u8], rows: usize, old: Row, budget: u64, count: usize, journal: &mut [Numbers]) {
     for i in 0..count {
         let told = ask(file, rows, old, budget, i);
         let row = numbers(told.shown);
@@ -149,14 +142,7 @@ fn same_with_more(file: &[u8], journal: &[Numbers], told: Told) -> bool {
     let mut longer = [[0u64; 8]; KEPT];
     let again = ask(file, MORE_ROWS, Row::blank(), LARGER_BUDGET, 0);
     let n = looked_at(again.used);
-    collect(
-        file,
-        MORE_ROWS,
-        Row::blank(),
-        LARGER_BUDGET,
-        n,
-        &mut longer,
-    );
+    collect(file, MORE_ROWS, Row::blank(), LARGER_BUDGET, n, &mut longer);
     same(told, again) & rows::same(journal, &longer, 0, told.used as usize)
 }
 
@@ -220,13 +206,7 @@ pub struct Outcome {
 }
 
 // Makes the comparisons of `file`, of which the unpruned search has listed the first `count` pairs of `found`, and said whether it is `broken`.
-pub fn compare(
-    file: &[u8],
-    found: &Found,
-    count: usize,
-    broken: bool,
-    trial: Trial,
-) -> Outcome {
+pub fn compare(file: &[u8], found: &Found, count: usize, broken: bool, trial: Trial) -> Outcome {
     let mut buffer = [0u8; 4096];
     let old = Row::blank();
     let told = standalone::checked(file, ROWS, old, BUDGET, 0, &mut buffer);

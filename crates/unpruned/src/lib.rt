@@ -200,13 +200,7 @@ fn begin(found: &mut Found, count: usize, file: &[u8], rule: Rule) -> usize {
 }
 
 // Appends the head of `rule` with the composition of the two relations, if the symbols of `left` and `right` are its body.
-fn spelled(
-    found: &mut Found,
-    count: usize,
-    rule: Rule,
-    left: [u64; 2],
-    right: [u64; 2],
-) -> usize {
+fn spelled(found: &mut Found, count: usize, rule: Rule, left: [u64; 2], right: [u64; 2]) -> usize {
     if (left[0] == rule.first) & (right[0] == rule.second) {
         return add(found, count, rule.head, compose(left[1], right[1]));
     }
@@ -214,13 +208,7 @@ fn spelled(
 }
 
 // For a body of two symbols: tries `pair` with pair `j` of the list, in both orders.
-fn spelled_both(
-    found: &mut Found,
-    count: usize,
-    rule: Rule,
-    pair: [u64; 2],
-    j: usize,
-) -> usize {
+fn spelled_both(found: &mut Found, count: usize, rule: Rule, pair: [u64; 2], j: usize) -> usize {
     let other = pair_at(found, j);
     let more = spelled(found, count, rule, pair, other);
     spelled(found, more, rule, other, pair)
@@ -258,13 +246,7 @@ fn by_rule(found: &mut Found, count: usize, rule: Rule, k: usize) -> usize {
 
 // Appends what record `r` gives at turn `turn`, if it is a rule: at turn 0 what `begin` appends, and at turn k + 1 what the rule gives with
 // pair k and those before it.
-fn by_record(
-    found: &mut Found,
-    count: usize,
-    file: &[u8],
-    turn: usize,
-    r: usize,
-) -> usize {
+fn by_record(found: &mut Found, count: usize, file: &[u8], turn: usize, r: usize) -> usize {
     if byte(file, r, 0) != 1 {
         return count;
     }

@@ -35,13 +35,7 @@ fn has_below(journal: &[Numbers], used: usize, left_out: usize, pair: [u64; 2]) 
 }
 
 // Tests whether the relation of row `i` is on the list for its nonterminal, and, if the row is live, that no other live row is below it.
-fn sound_at(
-    journal: &[Numbers],
-    used: usize,
-    i: usize,
-    found: &Found,
-    count: usize,
-) -> bool {
+fn sound_at(journal: &[Numbers], used: usize, i: usize, found: &Found, count: usize) -> bool {
     if journal.len() <= i {
         return true;
     }

@@ -43,7 +43,13 @@ fn too_long(n: u64, room: usize) -> bool
 }
 
 // Returns what refuses the call by `file` and the counts, and reads the rules of `file` into `rules` where nothing does.
-fn ask(file: &[u8], rules: &mut [[u8; 4]; RULE_LIMIT], rows: usize, used: usize, row: usize) -> Asked
+fn ask(
+    file: &[u8],
+    rules: &mut [[u8; 4]; RULE_LIMIT],
+    rows: usize,
+    used: usize,
+    row: usize,
+) -> Asked
     ensures { λ r. ⌜ AskedFor (now (file .entry)) rows used row (now (rules .exit)) r ⌝ }
 {
     let of_start = requests::refusal_for(file, rows);

@@ -62,10 +62,10 @@ module _ (bs : List ℕ) (J : ℕ) where
       quiet : (fault bs .number ≡ 0) × (journalFault J ≡ 0)
       quiet = none-refused bs J r e z
 
-      opened : (j : Journal) → length j ≡ J → Onward letters (take n rules) finals B j (record { used = 0; joins = 0 }) s j t′
+      opened : (j : Journal) → length j ≡ J → Onward letters (take n rules) finals B j (record { used = 0; joins = 0; added = 0 }) s j t′
       opened j l =
           let k = journal-size J (quiet .1) in
-          subst (λ (y : State). Onward letters (take n rules) finals B j (record { used = 0; joins = 0 }) y j t′) (sym (es ∙ ap (λ (y : State). opening y (y .terms) x) ew))
+          subst (λ (y : State). Onward letters (take n rules) finals B j (record { used = 0; joins = 0; added = 0 }) y j t′) (sym (es ∙ ap (λ (y : State). opening y (y .terms) x) ew))
           (subst (λ (y : State). Opens rules t n (y .terms) (y .counts) t′ x) ew o letters finals B j j 1 0 (waiting J n B finals) refl (record { all = omega (arith, ap length el, letters-length states (transitionsOf bs)); some = omega (arith, l, k .0); limit = omega (arith, l, k .1) }) (sym l) (pass-first letters (take n rules) finals B j) refl (omega arith) (λ q. absurd (omega (arith, q)))
           (subst (λ (rows : List Row). Covering rows t) (sym (rows-none j)) (subst (Covering []) (sym et) covering-none)))
 

@@ -25,7 +25,7 @@ waiting J n B finals =
       left = 0;
       right = 0;
       terms = record { budget = B; finals = finals; pass = 1; start = 0; before = 0 };
-      counts = record { used = 0; joins = 0 };
+      counts = record { used = 0; joins = 0; added = 0 };
       place = record { rule = 0; left = 0; right = 0 };
       rows = J;
       rules = n;

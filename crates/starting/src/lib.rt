@@ -31,7 +31,11 @@ fn wait(rows: usize, rules: usize, budget: u64, finals: u8) -> State
             start: 0,
             before: 0,
         },
-        counts: Counts { used: 0, joins: 0 },
+        counts: Counts {
+            used: 0,
+            joins: 0,
+            added: 0,
+        },
         place: Place {
             rule: 0,
             left: 0,

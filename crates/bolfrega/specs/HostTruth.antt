@@ -139,7 +139,7 @@ module _ (bs : List ℕ) (J B : ℕ) (d old new : List ℕ) (r : ℕ) (h : Check
         none z k (inl n) = n z
         none z k (inr x) = refused-rows J x k
 
-    -- the counts, as they are told
+    -- the counts, as the details have them
     runs-out : (v : Verdict) → Stops (base states (automatonOf bs)) (rulesOf bs) J B v a → RunsOut bs J B d old new r v
     runs-out v s =
         record {
@@ -243,7 +243,7 @@ module _ (bs : List ℕ) (J B : ℕ) (d old new : List ℕ) (r : ℕ) (h : Check
       by (refused y) e = refusal-tells bs J B d old new r y (told-refusal bs J B d old new r h y e) (why-refused bs J B y e)
       by (answered a) e = answer-tells a e
 
-  -- ---- some of it in short
+  -- ---- some of it in short, for the reader; nothing cites these
 
   pub holds-means : r ≡ holdsCode → (w : List ℕ) → Derivable bs w → Accepts (automatonOf bs) w
   holds-means e =
@@ -253,8 +253,8 @@ module _ (bs : List ℕ) (J B : ℕ) (d old new : List ℕ) (r : ℕ) (h : Check
   pub broken-means : r ≡ brokenCode → (w : List ℕ) × Counterexample bs w
   broken-means e = let s = check-tells .shows e in (s .0, s .1 .counterexample)
 
-  -- where nothing refused to write it, the first bytes of the buffer, as many as the length tells, are a run of the plan that the sheet
-  -- turns away
+  -- where nothing refused to write it, the first bytes of the buffer, as many as the detail `length` says, are a run of the plan that the
+  -- sheet turns away
   pub run-means : r ≡ brokenCode → toldRefused d ≡ 0 → Counterexample bs (take (toldLength d) new)
   run-means e z = let s = check-tells .shows e in subst (Counterexample bs) (sym (s .1 .in-buffer .first-bytes z)) (s .1 .counterexample)
 

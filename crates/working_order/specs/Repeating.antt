@@ -24,7 +24,7 @@ use Rattle.working_order.specs.Walking.{Post, AnyEnd, Covers, step-post,
 abbrev pub PointsBelow : ℕ → ℕ → Type 0
 PointsBelow n i = (i < n) ⊎ (i ≡ absent)
 
--- a candidate of such rows alone
+-- a candidate made from the first n rows alone
 abbrev pub Repeats : {E : Type 0} → ℕ → Candidate E → Type 0
 Repeats n c = PointsBelow n (c .left) × PointsBelow n (c .right)
 
@@ -55,13 +55,13 @@ module _ {E : Type 0} (A : Algebra E) (rows : List (Row E)) where
 -- ---- a journal later in a check
 
 module _ {E : Type 0} where
-  -- the same row later: it may have retired
+  -- the row `new` is the row `old` later in the check: it may have retired
   pub record Later (old new : Row E) : Type 0 where
     pub effect : new .effect ≡ old .effect
     pub len : new .len ≡ old .len
     pub alive : (x : ℕ) → liveOf x new ≡ true → liveOf x old ≡ true
 
-  -- the rows of old, later, and perhaps more
+  -- the journal `new` has the rows of `old`, later, and perhaps more
   abbrev pub Grown : List (Row E) → List (Row E) → Type 0
   Grown [] new = Unit {0}
   Grown (r ∷ old) [] = ⊥
@@ -78,7 +78,7 @@ module _ {E : Type 0} where
       (record { effect = h s .effect ∙ g .0 .effect; len = h s .len ∙ g .0 .len; alive = λ x a. g .0 .alive x (h s .alive x a) }, grown-more f h old new more (g .1))
 
 module _ {E : Type 0} (A : Algebra E) where
-  -- no row comes to life
+  -- a retirement leaves effect and length, and makes no row live
   pub retire-later : (k : ℕ) (c : Candidate E) (r : Row E) → Later r (retire (A .below) k c r)
   unfolding retire larger liveOf live
   retire-later k c r = record { effect = refl; len = refl; alive = λ x. by x (larger (A .below) c r) refl }

@@ -1,13 +1,15 @@
 // One candidate of the search, in steps on values: it is formed at its place, and a row that covers it is looked for. The journal is not here:
 // a step that needs a row is given it by value, and says which row the next one needs.
 use calls::Row;
-use relation::Relation;
+use relation::Letter;
+use relation::StateSet;
 use rows::Candidate;
 use rows::Place;
 ghost use mathlib.Core.Path.{_≡_};
 ghost use mathlib.Core.Bool.{true};
 ghost use Prim.Native.Nat.{_≤_, _<_};
 ghost use lib.ListN.{length};
+ghost use Rattle.plan_file.specs.Limits.{letterWords};
 ghost use Rattle.rows.specs.Meanings.{candidateOf};
 ghost use Rattle.places.specs.Lists.{rowCells};
 ghost use Rattle.covers.specs.Covers.{tableCells};
@@ -33,7 +35,7 @@ pub struct Counts {
 // (`start`, which the next pass takes as its `before`) and when the pass before began.
 pub struct Terms {
     pub budget: u64,
-    pub finals: u8,
+    pub finals: StateSet,
     pub pass: u64,
     pub start: usize,
     pub before: usize,
@@ -84,21 +86,12 @@ fn among(row: Row, position: usize, used: usize) -> Row
     if position < used {
         return row;
     }
-    Row {
-        head: 0,
-        rule: 0,
-        relation: Relation { bits: 0 },
-        left: 0,
-        right: 0,
-        len: 0,
-        birth: 0,
-        retired: 0,
-    }
+    Row::blank()
 }
 
 // The candidate of a place, from its two rows.
-pub fn form(letters: &[u64], rules: &[[u8; 4]], state: State, left: Row, right: Row) -> Candidate
-    requires { ⌜ (128 ≤ length (now letters)) × (state .place .rule < length (now rules)) ⌝ }
+pub fn form(letters: &[Letter], rules: &[[u8; 4]], state: State, left: Row, right: Row) -> Candidate
+    requires { ⌜ (letterWords ≤ length (now letters)) × (state .place .rule < length (now rules)) ⌝ }
     ensures { λ r. ⌜ candidateOf r ≡ formedIn (now (letters .entry)) (now (rules .entry)) state left right ⌝ }
 {
     let counts = state.counts;

@@ -1,11 +1,16 @@
 // One row of the journal, one way to take a symbol, and one candidate of the working order, each by value. A rule is four bytes: its head, its
 // body's size and its symbols.
+use calls::ABSENT;
 use calls::Row;
-use relation::Relation;
+use plan_file::TERMINALS;
+use relation::Effect;
+use relation::Letter;
+use relation::StateSet;
 ghost use mathlib.Core.Path.{_≡_};
 ghost use Prim.Native.Nat.{_≤_};
 ghost use lib.ListN.{length};
 ghost use Rattle.relation.specs.Relation.{contained};
+ghost use Rattle.plan_file.specs.Limits.{letterWords};
 ghost use Rattle.plan_file.specs.Views.{symbolOf};
 ghost use Rattle.working_order.specs.Candidates.{sole};
 ghost use Rattle.working_order.specs.Order.{larger, born};
@@ -14,16 +19,11 @@ ghost use Rattle.rows.specs.Base.{emptyBody, joined, breaking};
 ghost use Rattle.rows.specs.Meanings.{candidateOf, choiceOf};
 ghost use Rattle.rows.specs.Forming.{isBelow, retiredIn, slotOf, symbolChoice, formedBy};
 
-// A pointer that names no row.
-const ABSENT: u64 = 65535;
-
-const TERMINALS: u8 = 128;
-
 // What would become a row.
 pub struct Candidate {
     pub head: u8,
     pub rule: u64,
-    pub relation: Relation,
+    pub relation: Effect,
     pub left: u64,
     pub right: u64,
     pub len: u64,
@@ -44,7 +44,7 @@ struct Origin {
 
 // One way to take a symbol.
 struct Choice {
-    relation: Relation,
+    relation: Effect,
     pointer: u64,
     len: u64,
 }
@@ -105,8 +105,8 @@ pub fn opened(pass: u64, candidate: Candidate) -> Row
     }
 }
 
-// The candidate is of the initial nonterminal, and rejects.
-pub fn breaks(finals: u8, candidate: Candidate) -> bool
+// Returns whether `candidate` is of the initial nonterminal and its relation rejects, where `finals` are the final states.
+pub fn breaks(finals: StateSet, candidate: Candidate) -> bool
     ensures { λ r. ⌜ r ≡ breaking finals (candidateOf candidate) ⌝ }
 {
     let formed = candidate.relation;
@@ -123,16 +123,14 @@ pub fn slot(candidate: Candidate) -> usize
 
 // ---- forming a candidate
 
-// A terminal is taken by its relation, a nonterminal by a row.
-fn taken(letters: &[u64], symbol: u8, i: usize, row: Row) -> Choice
-    requires { ⌜ 128 ≤ length (now letters) ⌝ }
+// Returns how `symbol` is taken: a terminal by its relation in `letters`, a nonterminal by row `i`, which is `row`.
+fn taken(letters: &[Letter], symbol: u8, i: usize, row: Row) -> Choice
+    requires { ⌜ letterWords ≤ length (now letters) ⌝ }
     ensures { λ r. ⌜ choiceOf r ≡ symbolChoice (now (letters .entry)) (symbolOf symbol) i (rowOf row) ⌝ }
 {
     if symbol < TERMINALS {
         return Choice {
-            relation: Relation {
-                bits: letters[symbol as usize],
-            },
+            relation: Effect::read(letters, symbol as usize),
             pointer: ABSENT,
             len: 1,
         };
@@ -151,7 +149,7 @@ fn empty_body(origin: Origin) -> Candidate
     Candidate {
         head: origin.head,
         rule: origin.rule,
-        relation: Relation::identity(),
+        relation: Effect::identity(),
         left: ABSENT,
         right: ABSENT,
         len: 0,
@@ -187,9 +185,9 @@ fn two_symbols(origin: Origin, first: Choice, second: Choice) -> Candidate
     }
 }
 
-// The candidate of a place, whose rule and rows these are.
-pub fn formed(letters: &[u64], rule: [u8; 4], place: Place, left: Row, right: Row) -> Candidate
-    requires { ⌜ 128 ≤ length (now letters) ⌝ }
+// Returns the candidate of `place`, whose rule is `rule` and whose rows are `left` and `right`.
+pub fn formed(letters: &[Letter], rule: [u8; 4], place: Place, left: Row, right: Row) -> Candidate
+    requires { ⌜ letterWords ≤ length (now letters) ⌝ }
     ensures { λ r. ⌜ candidateOf r ≡ formedBy (now (letters .entry)) (entryOf rule) place (rowOf left) (rowOf right) ⌝ }
 {
     let origin = Origin {

@@ -2,6 +2,7 @@
 use calls::Row;
 use deciding::Look;
 use deciding::State;
+use relation::Letter;
 use rows::Candidate;
 ghost use Rattle.rows.specs.Meanings.{candidateOf};
 ghost use Rattle.retiring.specs.Clearing.{Settled};
@@ -42,7 +43,7 @@ fn settle(journal: &mut [Row], table: &mut [u32], state: State, candidate: Candi
 pub fn run(
     journal: &mut [Row],
     table: &mut [u32],
-    letters: &[u64],
+    letters: &[Letter],
     rules: &[[u8; 4]],
     state: State,
 ) -> State

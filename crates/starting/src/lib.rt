@@ -2,7 +2,10 @@
 use deciding::Counts;
 use deciding::State;
 use deciding::Terms;
+use plan_file::Letters;
+use plan_file::RULE_LIMIT;
 use plan_file::Refusal;
+use relation::StateSet;
 use rows::Place;
 ghost use mathlib.Core.Path.{_≡_};
 ghost use lib.ListN.{replicate};
@@ -17,7 +20,7 @@ pub struct Start {
 }
 
 // Before the first pass, on so many rules.
-fn wait(rows: usize, rules: usize, budget: u64, finals: u8) -> State
+fn wait(rows: usize, rules: usize, budget: u64, finals: StateSet) -> State
     ensures { λ r. ⌜ r ≡ waiting rows rules budget finals ⌝ }
 {
     State {
@@ -51,8 +54,8 @@ fn wait(rows: usize, rules: usize, budget: u64, finals: u8) -> State
 // Fills in the tables and begins the first pass, where nothing refuses.
 pub fn prepare(
     file: &[u8],
-    letters: &mut [u64; 128],
-    rules: &mut [[u8; 4]; 256],
+    letters: &mut Letters,
+    rules: &mut [[u8; 4]; RULE_LIMIT],
     table: &mut [u32],
     rows: usize,
     budget: u64,

@@ -74,7 +74,7 @@ module _ (t : Terms) (c : Candidate) (w : Counts) (j : Journal) (hu : w .used �
                 ∙ sym (decided false false true _ (ne-eqb (w .joins) (t .budget) p) q (eq-eqb (length rs) (length j) (rows-length (w .used) j hu ∙ e)) refl);
             beyond = refl;
             grows = omega arith;
-          adds = refl;
+            adds = refl;
             room = hu;
             paid = omega arith;
           }

@@ -80,7 +80,7 @@ module _ (A : List order.Row) (u : ℕ) (j : Journal) (room : u ≤ length j) (f
   row-same i (inl l) = kept .1 i l
   row-same i (inr e) =
       let none : (rows : List order.Row) → length rows ≤ u → rowIn rows i ≡ rowOf blank =
-          λ rows h. List·getD-eq-default rows (rowOf blank) (omega (arith, h, few, e)) in
+      λ rows h. List·getD-eq-default rows (rowOf blank) (omega (arith, h, few, e)) in
       ap (rowChoice i) (none (firstRows u j) (omega (arith, rows-length u j room)) ∙ sym (none A (omega (arith, kept .0, rows-length u j room))))
 
   symbol-same : (letters : List ℕ) (s : Symbol) (i : ℕ) → PointsBelow (length A) (symbolChoice letters s i (rowIn A i) .pointer)

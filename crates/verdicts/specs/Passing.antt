@@ -22,7 +22,7 @@ use Rattle.working_order.specs.Order.{Verdict, going, andThen, dropped, walk, r
 use Rattle.working_order.specs.Repeating.{PointsBelow, Repeats, pass-points}
 use Rattle.working_order.specs.Walking.{Post, step-post}
 use Rattle.calls.specs.Checking.{journalLimit}
-use Rattle.calls.specs.Rows.{rowOf, blank, entryOf}
+use Rattle.calls.specs.Rows.{rowOf, blank}
 use Rattle.rows.specs.Base as order
 use Rattle.rows.specs.Forming.{Part, none, some, rowChoice, symbolChoice, leftPart, rightPart, partChoice, combined, formedBy}
 use Rattle.rows.specs.declared.Place.{Place}
@@ -32,7 +32,7 @@ use Rattle.covers.specs.Covers.{Covering}
 use Rattle.covers.specs.Rows.{Journal, firstRows}
 use Rattle.covers.specs.RowLaws.{rows-length, rows-at}
 use Rattle.verdicts.specs.Meanings.{progressOf, countsIn, withJoin}
-use Rattle.verdicts.specs.Problems.{Letters, Problem, algebraOf, problemIn}
+use Rattle.verdicts.specs.Problems.{Letters, Problem, algebraOf, rulesIn, problemIn}
 use Rattle.verdicts.specs.ProblemLaws.{problem-laws}
 use Rattle.verdicts.specs.Walks.{considerIn, walkIn, candidatesIn, isBefore, repeatsAt, Known}
 use Rattle.verdicts.specs.Contracts.{Ready, Answers}
@@ -152,7 +152,7 @@ module _ (t : Terms) (P : Problem) (lists : List ℕ) (w₀ : Counts) (j₀ : Jo
         record {
           candidates = onward (P .letters) first lists (P .rules) 0;
           known = k;
-          points = pass-points (baseOf (P .letters) (t .finals)) first (map entryOf (P .rules)) 0;
+          points = pass-points (algebraOf P) first (rulesIn P) 0;
           limit = r .limit;
           stands = o (P .letters) first listed;
           left = remaining-start (r .room) (r .paid);

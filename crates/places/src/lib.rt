@@ -1,7 +1,7 @@
 // The order in which a pass takes its candidates: rules in file order, the left symbol outer, the right one inner, rows rising. The rows
 // that were live when the pass began stand in a table of lists: cell i has the row after row i in the list of its nonterminal, and cell
 // 4,096 + x the first row of nonterminal x.
-use rows::Place;
+use deciding::Place;
 ghost use mathlib.Core.Path.{_≡_};
 ghost use Prim.Native.Nat.{_≤_};
 ghost use lib.ListN.{length};

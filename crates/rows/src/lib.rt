@@ -1,9 +1,14 @@
-// One row of the journal, one way to take a symbol, and one candidate of the working order, each by value. A rule is four bytes: its head, its
-// body's size and its symbols.
+// One row of the journal, one way to take a symbol, and one candidate of the working order, each by value. All that is done with an effect in
+// a search stands here: forming, comparing, retiring, opening, breaking, the digest. A rule is four bytes: its head, its body's size and its
+// symbols.
 use calls::Row;
+use deciding::Comparison;
+use deciding::Fate;
+use deciding::Place;
+use deciding::State;
 use relation::Relation;
 ghost use mathlib.Core.Path.{_≡_};
-ghost use Prim.Native.Nat.{_≤_};
+ghost use Prim.Native.Nat.{_≤_, _<_};
 ghost use lib.ListN.{length};
 ghost use Rattle.relation.specs.Relation.{contained};
 ghost use Rattle.plan_file.specs.Views.{symbolOf};
@@ -12,7 +17,8 @@ ghost use Rattle.working_order.specs.Order.{larger, born};
 ghost use Rattle.calls.specs.Rows.{rowOf, entryOf};
 ghost use Rattle.rows.specs.Base.{emptyBody, joined, breaking};
 ghost use Rattle.rows.specs.Meanings.{candidateOf, choiceOf};
-ghost use Rattle.rows.specs.Forming.{isBelow, retiredIn, slotOf, symbolChoice, formedBy};
+ghost use Rattle.deciding.specs.Fates.{fateIn};
+ghost use Rattle.rows.specs.Forming.{isBelow, retiredIn, replacedBy, slotCells, symbolChoice, formedBy, amongFirst, formedIn};
 
 // A pointer that names no row.
 const ABSENT: u64 = 65535;
@@ -27,13 +33,6 @@ pub struct Candidate {
     pub left: u64,
     pub right: u64,
     pub len: u64,
-}
-
-// Where a candidate stands in a pass: its rule, and the rows of its two symbols.
-pub struct Place {
-    pub rule: usize,
-    pub left: usize,
-    pub right: usize,
 }
 
 // A nonterminal and a rule of it.
@@ -51,28 +50,23 @@ struct Choice {
 
 // ---- a row and a candidate
 
-// The row is live, of the candidate's nonterminal, and its relation is contained in the candidate's.
-pub fn below(row: Row, candidate: Candidate) -> bool
-    ensures { λ r. ⌜ r ≡ isBelow (candidateOf candidate) (rowOf row) ⌝ }
+// Compares `row` with `candidate`: `row` covers it where it is live, of the same nonterminal, and its relation is contained in the
+// candidate's; it is larger where the candidate's is contained in its own, and not the other way round.
+pub fn compare(row: Row, candidate: Candidate) -> Comparison
+    ensures { λ r. ⌜ (r .covers ≡ isBelow (candidateOf candidate) (rowOf row)) × (r .larger ≡ larger contained (candidateOf candidate) (rowOf row)) ⌝ }
 {
     let held = row.relation;
     let formed = candidate.relation;
-    (row.head == candidate.head as u64) & (row.retired == 0) & held.contained(formed)
-}
-
-// The row is live, of the candidate's nonterminal, and its relation is strictly larger.
-pub fn outgrown(row: Row, candidate: Candidate) -> bool
-    ensures { λ r. ⌜ r ≡ larger contained (candidateOf candidate) (rowOf row) ⌝ }
-{
-    let held = row.relation;
-    let formed = candidate.relation;
-    (row.head == candidate.head as u64)
-        & (row.retired == 0)
-        & (formed.contained(held) & !held.contained(formed))
+    let alike = (row.head == candidate.head as u64) & (row.retired == 0);
+    let within = held.contained(formed);
+    Comparison {
+        covers: alike & within,
+        larger: alike & (formed.contained(held) & !within),
+    }
 }
 
 // The row, retired in this pass.
-pub fn retired(row: Row, pass: u64) -> Row
+fn retired(row: Row, pass: u64) -> Row
     ensures { λ r. ⌜ rowOf r ≡ retiredIn pass (rowOf row) ⌝ }
 {
     let relation = row.relation;
@@ -89,7 +83,7 @@ pub fn retired(row: Row, pass: u64) -> Row
 }
 
 // The row that the candidate becomes.
-pub fn opened(pass: u64, candidate: Candidate) -> Row
+fn opened(pass: u64, candidate: Candidate) -> Row
     ensures { λ r. ⌜ rowOf r ≡ born pass (candidateOf candidate) ⌝ }
 {
     let relation = candidate.relation;
@@ -105,18 +99,56 @@ pub fn opened(pass: u64, candidate: Candidate) -> Row
     }
 }
 
+// Returns what is to be stored in the place of `held`: the row that `candidate` becomes, if `new`, which is past the used rows; else `held`,
+// retired in this pass if it is larger than `candidate`, which `compared` says.
+pub fn replacement(
+    state: State,
+    candidate: Candidate,
+    new: bool,
+    compared: Comparison,
+    held: Row,
+) -> Row
+    ensures { λ r. ⌜ rowOf r ≡ replacedBy (state .terms .pass) (candidateOf candidate) new (compared .larger) (rowOf held) ⌝ }
+{
+    let terms = state.terms;
+    if new {
+        return opened(terms.pass, candidate);
+    }
+    if compared.larger {
+        return retired(held, terms.pass);
+    }
+    held
+}
+
 // The candidate is of the initial nonterminal, and rejects.
-pub fn breaks(finals: u8, candidate: Candidate) -> bool
+fn breaks(finals: u8, candidate: Candidate) -> bool
     ensures { λ r. ⌜ r ≡ breaking finals (candidateOf candidate) ⌝ }
 {
     let formed = candidate.relation;
     (candidate.head == 0) & formed.rejects(finals)
 }
 
-// Where the row that covered a candidate of this nonterminal and relation is noted.
-pub fn slot(candidate: Candidate) -> usize
-    ensures { λ r. ⌜ r ≡ slotOf (candidateOf candidate) ⌝ }
+// Decides what becomes of `candidate`, where a row covers it or not.
+pub fn fate(state: State, candidate: Candidate, covered: bool) -> Fate
+    ensures { λ r. ⌜ r ≡ fateIn state (candidate .head) covered (breaking (state .terms .finals) (candidateOf candidate)) ⌝ }
 {
+    let terms = state.terms;
+    deciding::fate_of(
+        state,
+        candidate.head,
+        covered,
+        breaks(terms.finals, candidate),
+    )
+}
+
+// Returns where the hints have a row for the nonterminal and the relation of `candidate`, unless `compared` says that a row covers it: then
+// no such hint is read, and the remainder that the digest takes is saved.
+pub fn slot_unless(compared: Comparison, candidate: Candidate) -> usize
+    ensures { λ r. ⌜ r < slotCells ⌝ }
+{
+    if compared.covers {
+        return 0;
+    }
     let formed = candidate.relation;
     formed.digest() + 16 * candidate.head as usize
 }
@@ -188,7 +220,7 @@ fn two_symbols(origin: Origin, first: Choice, second: Choice) -> Candidate
 }
 
 // The candidate of a place, whose rule and rows these are.
-pub fn formed(letters: &[u64], rule: [u8; 4], place: Place, left: Row, right: Row) -> Candidate
+fn formed(letters: &[u64], rule: [u8; 4], place: Place, left: Row, right: Row) -> Candidate
     requires { ⌜ 128 ≤ length (now letters) ⌝ }
     ensures { λ r. ⌜ candidateOf r ≡ formedBy (now (letters .entry)) (entryOf rule) place (rowOf left) (rowOf right) ⌝ }
 {
@@ -206,4 +238,37 @@ pub fn formed(letters: &[u64], rule: [u8; 4], place: Place, left: Row, right: Ro
     }
     let second = taken(letters, rule[3], place.right, right);
     two_symbols(origin, first, second)
+}
+
+// Returns `row`, if `position` is one of the rows that the pass began with, and else a row of zeros.
+fn among(row: Row, position: usize, start: usize) -> Row
+    ensures { λ r. ⌜ r ≡ amongFirst row position start ⌝ }
+{
+    if position < start {
+        return row;
+    }
+    Row {
+        head: 0,
+        rule: 0,
+        relation: Relation { bits: 0 },
+        left: 0,
+        right: 0,
+        len: 0,
+        birth: 0,
+        retired: 0,
+    }
+}
+
+// Forms the candidate of the place at which `state` stands, from the two rows that were read for it.
+pub fn form(letters: &[u64], rules: &[[u8; 4]], state: State, left: Row, right: Row) -> Candidate
+    requires { ⌜ (128 ≤ length (now letters)) × (state .place .rule < length (now rules)) ⌝ }
+    ensures { λ r. ⌜ candidateOf r ≡ formedIn (now (letters .entry)) (now (rules .entry)) state left right ⌝ }
+{
+    let terms = state.terms;
+    let place = state.place;
+    let r = place.rule;
+    let rule = rules[r];
+    let first = among(left, place.left, terms.start);
+    let second = among(right, place.right, terms.start);
+    formed(letters, rule, place, first, second)
 }

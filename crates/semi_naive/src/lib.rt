@@ -1,8 +1,8 @@
 // From place to place of a pass, and past those that need no work (semi-naive evaluation). A candidate of rows that were there when the pass
 // before began was formed in that pass, so that a live row covers it: it is one join, and nothing else.
 use deciding::Counts;
+use deciding::Place;
 use deciding::Terms;
-use rows::Place;
 use verdicts::Reached;
 ghost use Prim.Native.Nat.{_≤_, _<_};
 ghost use mathlib.Core.Path.{_≡_};

@@ -8,6 +8,7 @@ use Rattle.calls.specs.Codes.{holdsCode, brokenCode, fullCode, verdictCode}
 use Rattle.rows.specs.Base as order
 use Rattle.covers.specs.Rows.{Journal, firstRows}
 use Rattle.deciding.specs.declared.Counts.{Counts}
+use Rattle.deciding.specs.declared.Fate.{Fate}
 use Rattle.deciding.specs.declared.State.{State}
 use Rattle.verdicts.specs.declared.Answer.the-variants as answer
 use Rattle.verdicts.specs.declared.Answer.{Answer}
@@ -60,8 +61,9 @@ abbrev pub decidedBy : Bool → Bool → Bool → ℕ → ℕ → Outcome
 decidedBy true f b u n = outcome.Going (record { used = u; joins = n })
 decidedBy false f b u n = fullBy f b u n
 
-abbrev pub decidedIn : State → order.Candidate → Bool → Outcome
-decidedIn s c k = decidedBy k (eqb (s .counts .used) (s .rows)) (order.breaking (s .terms .finals) c) (s .counts .used) (s .counts .joins + 1)
+-- one join more, by the candidate's fate
+abbrev pub decidedIn : State → Fate → Outcome
+decidedIn s f = decidedBy (f .covered) (f .full) (f .breaks) (s .counts .used) (s .counts .joins + 1)
 
 -- ---- answers
 

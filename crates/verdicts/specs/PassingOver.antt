@@ -10,7 +10,7 @@ use lib.ListN.{length}
 use borrow.Author.Tests.{ltb-true, lt-ltb}
 use Rattle.basics.specs.Tests.{and-intro, and-fst, and-snd}
 use Rattle.working_order.specs.Journal.{absent}
-use Rattle.rows.specs.declared.Place.{Place}
+use Rattle.deciding.specs.declared.Place.{Place}
 use Rattle.places.specs.Lists.{afterIn}
 use Rattle.places.specs.PlaceLaws.{follows-right}
 use Rattle.places.specs.Places.{Follows}

@@ -3,8 +3,8 @@ use mathlib.Core.Bool.{Bool, true, false}
 use Prim.Native.Nat.{ℕ}
 use lib.Dec.{eqb, ltb}
 use Rattle.calls.specs.Codes.{holdsCode, brokenCode, spentCode}
-use Rattle.rows.specs.declared.Place.{Place}
-use Rattle.deciding.specs.Forming.{positionRow}
+use Rattle.deciding.specs.declared.Place.{Place}
+use Rattle.deciding.specs.Positions.{positionRow}
 use Rattle.deciding.specs.declared.Counts.{Counts}
 use Rattle.deciding.specs.declared.State.{State}
 use Rattle.deciding.specs.declared.Terms.{Terms}

@@ -144,8 +144,8 @@ pub fn refusal(file: &[u8]) -> Result<(), Refusal> {
 pub fn judge(file: &[u8], run: &[u8]) -> Result<Judgement, Refusal> {
     let mut record = 0;
     match raw::judge(file, run, &mut record) {
-        110 => Ok(Judgement::Accepted),
-        111 => Ok(Judgement::TurnedAway),
+        raw::ACCEPTED => Ok(Judgement::Accepted),
+        raw::TURNED_AWAY => Ok(Judgement::TurnedAway),
         number => Err(refused(number, record)),
     }
 }
@@ -176,10 +176,10 @@ pub fn check<'b>(file: &[u8], rows: usize, budget: u64, buffer: &'b mut [u8]) ->
     let code = raw::check(file, rows, budget, &mut details, buffer);
     let [record, joins, used, pass, ..] = details;
     let verdict = match code {
-        100 => Verdict::Holds,
-        101 => Verdict::Broken(broken(details, buffer)),
-        102 => Verdict::Full,
-        103 => Verdict::Spent,
+        raw::HOLDS => Verdict::Holds,
+        raw::BROKEN => Verdict::Broken(broken(details, buffer)),
+        raw::FULL => Verdict::Full,
+        raw::SPENT => Verdict::Spent,
         number => return Err(refused(number, record)),
     };
     Ok(Answer {

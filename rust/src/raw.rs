@@ -8,6 +8,19 @@
 
 #![allow(unsafe_code)]
 
+/// [`check`]: the sheet accepts every run of the plan.
+pub const HOLDS: u64 = 100;
+/// [`check`]: a run of the plan is turned away.
+pub const BROKEN: u64 = 101;
+/// [`check`]: the journal had no row left.
+pub const FULL: u64 = 102;
+/// [`check`]: the joins reached the budget.
+pub const SPENT: u64 = 103;
+/// [`judge`]: the sheet accepts the run.
+pub const ACCEPTED: u64 = 110;
+/// [`judge`]: the sheet turns the run away.
+pub const TURNED_AWAY: u64 = 111;
+
 /// What a check fills in: record, joins, used, pass, row, pairs, length, refused.
 pub type Details = [u64; 8];
 
@@ -41,13 +54,14 @@ pub fn refusal(file: &[u8], record: &mut u64) -> u64 {
     unsafe { c::bolfrega_refusal(file.as_ptr(), file.len(), record) }
 }
 
-/// 110, 111 or the number of a refusal; `record` becomes the record's number.
+/// [`ACCEPTED`], [`TURNED_AWAY`] or the number of a refusal; `record` becomes the record's number.
 pub fn judge(file: &[u8], run: &[u8], record: &mut u64) -> u64 {
     // SAFETY: each pointer and length are those of one slice, and `record` is lent to this call alone.
     unsafe { c::bolfrega_judge(file.as_ptr(), file.len(), run.as_ptr(), run.len(), record) }
 }
 
-/// 100 to 103 or the number of a refusal; `details` are filled in, and the run of a broken answer is written to `buffer`.
+/// [`HOLDS`], [`BROKEN`], [`FULL`], [`SPENT`] or the number of a refusal; fills in `details`, and writes the run of a broken answer to
+/// `buffer`.
 pub fn check(file: &[u8], rows: usize, budget: u64, details: &mut Details, buffer: &mut [u8]) -> u64 {
     let (pointer, length) = (buffer.as_mut_ptr(), buffer.len());
     // SAFETY: each pointer and length are those of one slice, and `details` and `buffer` are lent to this call alone.

@@ -16,7 +16,7 @@ module _ {A : Type 0} where
   any f [] = false
   any f (x ∷ xs) = f x || any f xs
 
--- the list of f for each element, one after the other
+-- the lists f x for each element x, one after the other
 module _ {A B : Type 0} where
   abbrev pub concatMap : (A → List B) → List A → List B
   concatMap f [] = []

@@ -32,7 +32,7 @@ module _ {A : Type 0} where
       by (inl m) = inl (inr m)
       by (inr m) = inr m
 
-  -- the only element of a list of one
+  -- an element of a list of one is that one
   pub in-one : (x y : A) → In x (y ∷ []) → x ≡ y
   in-one x y (inl e) = e
   in-one x y (inr h) = absurd h
@@ -49,7 +49,7 @@ module _ {A : Type 0} where
 
   -- ---- the rest of a list
 
-  -- and the same rest from any later element on
+  -- two lists with the same rest from element i on have the same rest from any later element on
   pub drop-later-same : (i k : ℕ) (xs ys : List A) → i ≤ k → drop i xs ≡ drop i ys → drop k xs ≡ drop k ys
   drop-later-same i k xs ys h e =
       let p : i + (k - i) ≡ k = omega arith in
@@ -110,7 +110,7 @@ module _ {A B : Type 0} where
   concatMap-same f g h [] = refl
   concatMap-same f g h (x ∷ xs) = ap₂ (λ (y z : List B). y ++ z) (h x) (concatMap-same f g h xs)
 
-  -- one element for each
+  -- with a list of one element for each, it is a map
   pub concatMap-one : (f : A → B) (xs : List A) → concatMap (λ x. f x ∷ []) xs ≡ map f xs
   concatMap-one f [] = refl
   concatMap-one f (x ∷ xs) = ap (λ (l : List B). f x ∷ l) (concatMap-one f xs)

@@ -1,4 +1,5 @@
--- The numbers that the library's functions give beside the refusals of document 01 and the verdicts of crate telling. Definitions only. Assumes nothing.
+-- The numbers that the library's functions give beside the refusals of document 01 and the verdicts of crate telling. Definitions only.
+-- Assumes nothing.
 use Prim.Native.Nat.{ℕ}
 use Rattle.calls.specs.Judging.{Judgement, accepted, turnedAway}
 use Rattle.calls.specs.Replies.{Reply, refused, answered}

@@ -12,12 +12,12 @@ use Rattle.standalone.specs.Told.{zeroRow}
 use Rattle.standalone.specs.Contracts.{ChecksBy}
 use Rattle.bolfrega.specs.Codes.{judgementCode, placeIn}
 
--- the refusal of the file bs, told as its number r and the record's number i
+-- r is the number that refuses the file bs, or 0, and i the number of the refused record
 pub record Refuses (bs : List ℕ) (r i : ℕ) : Type 0 where
   pub number : r ≡ fault bs .number
   pub place : i ≡ fault bs .place
 
--- the judgement of the run w, told as the number r and the record's number i
+-- r is the number of the judgement of the run w, or of what refuses the call, and i the number of the refused record
 pub record Judges (bs w : List ℕ) (r i : ℕ) : Type 0 where
   pub code : r ≡ codeBy judgementCode (judgeOf bs w)
   pub place : i ≡ placeIn (judgeOf bs w)

@@ -94,7 +94,7 @@ module _ (bs w : List ℕ) (r i : ℕ) (h : Judges bs w r i) where
           let t = why-not (fault bs) (wordFault w) last g e in
           tells-as (t .0) (t .1) (h .place ∙ ap placeIn e) g (h .code ∙ ap (codeBy judgementCode) e) (subst (Means bs w) e (h .meaning))
 
-  -- ---- in short
+  -- ---- in short, for the reader; nothing cites these
 
   pub accepted-means : r ≡ acceptedCode → Accepts (automatonOf bs) w
   accepted-means e = judge-tells .accepted-exactly (omega (arith, e)) .0 e

@@ -45,7 +45,7 @@ verdict-high broken = omega arith
 verdict-high full = omega arith
 verdict-high spent = omega arith
 
--- ---- an answer, told with no journal
+-- ---- an answer, as the host has it: with no journal
 
 -- a row that breaks
 abbrev pub brokenRow : Answer ℕ → Row ℕ
@@ -62,7 +62,7 @@ module _ (bs old : List ℕ) (a : Answer ℕ) where
   abbrev pub answerBuffer : List ℕ
   answerBuffer = shownBy (a .verdict) (writtenBy (shown bs a) old writing) old
 
--- after a check over these rows the same is told of the journal
+-- after a check over these rows the contract says the same, of the journal
 module _ (bs old : List ℕ) (rows : List (Row ℕ)) (B : ℕ) (a : Answer ℕ) (e : checkOf bs (length rows) B ≡ answered a) where
   abbrev after : List (Row ℕ)
   after = journalAfter bs rows B

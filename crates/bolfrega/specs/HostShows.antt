@@ -1,4 +1,4 @@
--- What a host may conclude of the run of a broken check (Shows), by what is told of the answer and what it promises. Assumes nothing.
+-- What a host may conclude of the run of a broken check (Shows), by the details of the answer and what it promises. Assumes nothing.
 use mathlib.Core.Path.{_≡_, refl, sym, ap, _∙_, subst}
 use mathlib.Core.Logic.{_⊎_, inl, inr}
 use mathlib.Core.Bool.{Bool, true, false}
@@ -33,7 +33,7 @@ use Rattle.standalone.specs.Told.{zeroRow, lastThree, shownBy}
 use Rattle.bolfrega.specs.Hosts.{toldPass, toldPairs, toldLength, toldRefused, InBuffer, Shows}
 use Rattle.bolfrega.specs.HostReplies.{brokenRow, writing, ToldAnswer}
 
--- what is told of writing, by the number that refuses it
+-- the details of the written run, by the number that refuses to write it
 refused-told : (f n : ℕ) → refusedBy (unless (refuse f 0) (answered n)) ≡ f
 refused-told zero n = refl
 refused-told (suc f) n = refl
@@ -49,11 +49,11 @@ module _ (bs : List ℕ) (J B : ℕ) (a : Answer ℕ) (reply : checkOf bs J B �
   field-same : (f : Row ℕ → ℕ) (x y : Row ℕ) → f (getD (a .journal) (a .row) x) ≡ f (getD (a .journal) (a .row) y)
   field-same f x y = sym (getD-map f x 0 (a .journal) (a .row) in-journal) ∙ getD-map f y 0 (a .journal) (a .row) in-journal
 
-  row-length : brokenRow a .len ≡ capped (length run)
+  pub row-length : brokenRow a .len ≡ capped (length run)
   unfolding shown wordOf
   row-length = field-same (λ x. x .len) zeroRow _ ∙ p .rows-mean (a .row) (omega (arith, p .counts .last-row v)) .length-is
 
-  row-relation : brokenRow a .effect ≡ wordRelation states (automatonOf bs .transitions) run
+  pub row-relation : brokenRow a .effect ≡ wordRelation states (automatonOf bs .transitions) run
   unfolding shown
   row-relation =
       let order = from-order bs J B a reply .2 in

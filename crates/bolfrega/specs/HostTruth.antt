@@ -25,6 +25,7 @@ use Rattle.bolfrega.specs.HostReplies.{same-verdict, verdict-high, Why, 
 use Rattle.telling.specs.LowNumbers.{file-refusal, record-none, low-high}
 use Rattle.bolfrega.specs.HostJudging.{judge-tells}
 use Rattle.bolfrega.specs.HostShows.{run-shown}
+use Rattle.bolfrega.specs.HostStays.{tells-alike}
 
 -- ---- a check that was refused
 
@@ -95,7 +96,7 @@ module _ (bs : List ℕ) (J B : ℕ) (d old new : List ℕ) (r : ℕ) where
             buffer-kept = λ n. t .buffer;
           };
           shows = λ e. absurd (not-verdict broken e);
-          stays = record { larger = λ x. absurd (neither x) };
+          stays = record { larger = λ x. absurd (neither x); same-details = λ x. absurd (neither x) };
         }
       where
         neither : (r ≡ holdsCode) ⊎ (r ≡ brokenCode) → ⊥
@@ -138,7 +139,7 @@ module _ (bs : List ℕ) (J B : ℕ) (d old new : List ℕ) (r : ℕ) (h : Check
         none z k (inl n) = n z
         none z k (inr x) = refused-rows J x k
 
-    -- the counts, as they are told
+    -- the counts, as the details have them
     runs-out : (v : Verdict) → Stops (base states (automatonOf bs)) (rulesOf bs) J B v a → RunsOut bs J B d old new r v
     runs-out v s =
         record {
@@ -213,9 +214,11 @@ module _ (bs : List ℕ) (J B : ℕ) (d old new : List ℕ) (r : ℕ) (h : Check
     stays =
         record {
           larger = λ x J′ B′ j l b d′ new′ r′ h′.
-              let e = p .stable (λ q. firm x fullCode (omega arith) (code full q)) (λ q. firm x spentCode (omega arith) (code spent q)) J′ B′ j l b in
-              let t′ = told-answer bs J′ B′ d′ old new′ r′ h′ a e in
-              (t′ .number ∙ sym (t .number), t′ .details ∙ sym (t .details), t′ .buffer ∙ sym (t .buffer));
+              let s = p .stable (λ q. firm x fullCode (omega arith) (code full q)) (λ q. firm x spentCode (omega arith) (code spent q)) J′ B′ j l b in
+              tells-alike bs J B J′ B′ d d′ old new new′ r r′ a (s .0) p (h′ .promises (s .0) (s .1)) t (told-answer bs J′ B′ d′ old new′ r′ h′ (s .0) (s .1)) (s .2);
+          same-details = λ x J′ B′ j l b d′ new′ r′ h′.
+              let e = p .same-answer (λ q. firm x fullCode (omega arith) (code full q)) (λ q. firm x spentCode (omega arith) (code spent q)) J′ B′ j l b in
+              told-answer bs J′ B′ d′ old new′ r′ h′ a e .details ∙ sym (t .details);
         }
       where
         firm : (r ≡ holdsCode) ⊎ (r ≡ brokenCode) → (n : ℕ) → brokenCode < n → r ≡ n → ⊥
@@ -240,7 +243,7 @@ module _ (bs : List ℕ) (J B : ℕ) (d old new : List ℕ) (r : ℕ) (h : Check
       by (refused y) e = refusal-tells bs J B d old new r y (told-refusal bs J B d old new r h y e) (why-refused bs J B y e)
       by (answered a) e = answer-tells a e
 
-  -- ---- some of it in short
+  -- ---- some of it in short, for the reader; nothing cites these
 
   pub holds-means : r ≡ holdsCode → (w : List ℕ) → Derivable bs w → Accepts (automatonOf bs) w
   holds-means e =
@@ -250,8 +253,8 @@ module _ (bs : List ℕ) (J B : ℕ) (d old new : List ℕ) (r : ℕ) (h : Check
   pub broken-means : r ≡ brokenCode → (w : List ℕ) × Counterexample bs w
   broken-means e = let s = check-tells .shows e in (s .0, s .1 .counterexample)
 
-  -- where nothing refused to write it, the first bytes of the buffer, as many as the length tells, are a run of the plan that the sheet
-  -- turns away
+  -- where nothing refused to write it, the first bytes of the buffer, as many as the detail `length` says, are a run of the plan that the
+  -- sheet turns away
   pub run-means : r ≡ brokenCode → toldRefused d ≡ 0 → Counterexample bs (take (toldLength d) new)
   run-means e z = let s = check-tells .shows e in subst (Counterexample bs) (sym (s .1 .in-buffer .first-bytes z)) (s .1 .counterexample)
 

@@ -158,10 +158,24 @@ module _ (bs : List ℕ) (J B : ℕ) (d old new : List ℕ) (r : ℕ) where
     pub length-is : toldLength d ≡ capped (length w)
     pub in-buffer : InBuffer w
 
-  -- a call with more rows or a larger budget, and the same buffer, tells the same once the number is 100 or 101
+  -- another call, whose buffer held the same before, gave the number r′, the details d′ and the buffer new′: the verdict, the joins, the pass
+  -- and the run are the same
+  pub record TellsAlike (d′ new′ : List ℕ) (r′ : ℕ) : Type 0 where
+    pub same-number : r′ ≡ r
+    pub same-joins : toldJoins d′ ≡ toldJoins d
+    pub same-pass : toldPass d′ ≡ toldPass d
+    pub same-pairs : toldPairs d′ ≡ toldPairs d
+    pub same-length : toldLength d′ ≡ toldLength d
+    pub same-refused : toldRefused d′ ≡ toldRefused d
+    pub same-buffer : new′ ≡ new
+
+  -- once the number is 100 or 101, a call with more rows or a larger budget, and the same buffer, tells the same
   pub record Stays : Type 0 where
     pub larger : (r ≡ holdsCode) ⊎ (r ≡ brokenCode) → (J′ B′ : ℕ) → J ≤ J′ → J′ ≤ journalLimit → B ≤ B′
-        → (d′ new′ : List ℕ) (r′ : ℕ) → ChecksZeros bs J′ B′ d′ old new′ r′ → (r′ ≡ r) × (d′ ≡ d) × (new′ ≡ new)
+        → (d′ new′ : List ℕ) (r′ : ℕ) → ChecksZeros bs J′ B′ d′ old new′ r′ → TellsAlike d′ new′ r′
+    -- and today the same used rows and the same row, so that all details are the same
+    pub same-details : (r ≡ holdsCode) ⊎ (r ≡ brokenCode) → (J′ B′ : ℕ) → J ≤ J′ → J′ ≤ journalLimit → B ≤ B′
+        → (d′ new′ : List ℕ) (r′ : ℕ) → ChecksZeros bs J′ B′ d′ old new′ r′ → d′ ≡ d
 
   pub record CheckTells : Type 0 where
     pub refusing : Refusing

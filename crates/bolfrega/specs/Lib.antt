@@ -7,4 +7,5 @@ pub mod BrokenLaws
 pub mod HostReplies
 pub mod HostJudging
 pub mod HostShows
+pub mod HostStays
 pub mod HostTruth

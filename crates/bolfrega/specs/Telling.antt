@@ -1,4 +1,4 @@
--- What the code has in hand is what the host is to be told. Assumes nothing.
+-- The numbers that the code computes are those of the contracts. Assumes nothing.
 use mathlib.Core.Path.{_≡_, sym, ap, _∙_, subst}
 use mathlib.Core.List.{List}
 use Prim.Native.Nat.{ℕ}

@@ -69,7 +69,7 @@ module _ (bs : List ℕ) (B : ℕ) where
       by (suc f) e = (fault bs, λ J h. rw e)
 
   module _ (d old new : List ℕ) (r : ℕ) where
-    -- a refusal is told with no look at the rows
+    -- what a host is given of a refusal does not depend on the rows
     any-rows : (x : Refusal) (rows rows′ : List (Row ℕ)) → Tells bs rows (refused x) d old new r → Tells bs rows′ (refused x) d old new r
     any-rows x rows rows′ t = record { code = t .code; details = t .details; buffer = t .buffer }
 
@@ -96,7 +96,7 @@ module _ (bs : List ℕ) (B : ℕ) where
               promises = promises bs J B;
             }
 
--- what is told of a check with rows x, which are blank, put in the details d
+-- the details d of a check over rows x, which are blank
 pub over-zeros : (bs : List ℕ) (J B p : ℕ) (old new : List ℕ) (x : LentRow) → x ≡ blank → (t : Told) → ChecksAlone bs J x B p old new t → (d : List ℕ) → d ≡ numbersIn t → ChecksZeros bs J B d old new (t .code)
 over-zeros bs J B p old new x e t h d q =
     subst (λ (y : List ℕ). ChecksZeros bs J B y old new (t .code)) (sym q)

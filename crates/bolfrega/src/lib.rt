@@ -1,5 +1,6 @@
 // The library for hosts in C and Rust: the calls of document 01 as functions on numbers and lent bytes. No function asks anything of
-// its caller. A result from 1 to 11 is the number that refused the call; the answers have the numbers below.
+// its caller. A result below 100 is the number that refused the call; from 100 on it is an answer (the verdicts' numbers are in crate
+// telling). `include/bolfrega.h` says the same to C.
 use acceptance::Judged;
 use telling::Told;
 ghost use mathlib.Core.Path.{_≡_};
@@ -13,7 +14,7 @@ const ACCEPTED: u64 = 110;
 
 const TURNED_AWAY: u64 = 111;
 
-// The version of this interface.
+// Returns the version of this interface.
 #[no_mangle]
 pub extern "C" fn bolfrega_version() -> u64
     ensures { λ r. ⌜ r ≡ version ⌝ }
@@ -21,7 +22,7 @@ pub extern "C" fn bolfrega_version() -> u64
     VERSION
 }
 
-// The number that refuses the file, or 0. The place becomes the number of the refused record, from 0, or 0 where none is refused.
+// Returns the number that refuses `file`, or 0. Stores the number of the refused record, counted from 0, in `place`, or 0 where none is.
 #[no_mangle]
 pub extern "C" fn bolfrega_refusal(file: &[u8], place: &mut u64) -> u64
     ensures { λ r. ⌜ Refuses (now (file .entry)) r (now (place .exit)) ⌝ }
@@ -31,7 +32,8 @@ pub extern "C" fn bolfrega_refusal(file: &[u8], place: &mut u64) -> u64
     refusal.number
 }
 
-// Whether the sheet accepts the run: ACCEPTED, TURNED_AWAY, or the number that refuses the call, with the place as above.
+// Judges `run` by the sheet in `file`: returns ACCEPTED, TURNED_AWAY, or the number that refuses the call. Stores the number of the refused
+// record in `place`, or 0 where none is.
 #[no_mangle]
 pub extern "C" fn bolfrega_judge(file: &[u8], run: &[u8], place: &mut u64) -> u64
     ensures { λ r. ⌜ Judges (now (file .entry)) (now (run .entry)) r (now (place .exit)) ⌝ }
@@ -55,6 +57,7 @@ pub extern "C" fn bolfrega_judge(file: &[u8], run: &[u8], place: &mut u64) -> u6
 
 // ---- the check
 
+// The eight details in the order of the header.
 fn details_of(told: Told) -> [u64; 8]
     ensures { λ r. ⌜ r ≡ numbersIn told ⌝ }
 {
@@ -70,9 +73,10 @@ fn details_of(told: Told) -> [u64; 8]
     ]
 }
 
-// Checks the plan against the sheet over a journal of so many rows, with a budget of joins: the verdict's number (crate telling) or the
-// number that refuses the call. The details become the refused record's number, joins, used rows, pass, and for a broken answer the row, its
-// pairs, its length and what refuses to write its run, or 0; a run that is not refused stands at the front of the buffer.
+// Checks the plan in `file` against its sheet over a journal of `rows` rows of zeros, with a budget of `budget` joins. Returns the verdict's
+// number, or the number that refuses the call. Stores in `details` the refused record's number, joins, used rows, pass, and for a broken
+// answer the row, its pairs, its length and the number that refuses to write its run, or 0. Writes a run that is not refused to the front of
+// `buffer`; otherwise `buffer` keeps its bytes.
 #[no_mangle]
 pub extern "C" fn bolfrega_check(
     file: &[u8],

@@ -73,6 +73,15 @@ module _ (bs : List ℕ) where
     pub shown-within : a .verdict ≡ broken → DerivesWithin (productionsOf bs) (a .pass) initial (shown bs a)
     pub none-lower : a .verdict ≡ broken → (h : ℕ) → h < a .pass → (w : List ℕ) → DerivesWithin (productionsOf bs) h initial w → Accepts (automatonOf bs) w
 
+  -- ---- stability
+
+  -- the answer b says what a says: the verdict, the joins, the pass and the word that is shown
+  pub record Agrees (a b : Answer ℕ) : Type 0 where
+    pub verdict : b .verdict ≡ a .verdict
+    pub joins : b .joins ≡ a .joins
+    pub pass : b .pass ≡ a .pass
+    pub word : shown bs b ≡ shown bs a
+
   -- ---- the rows
 
   -- row i that the check left, and the word behind it
@@ -124,6 +133,9 @@ pub record Promises (bs : List ℕ) (J B : ℕ) (a : Answer ℕ) : Type 0 where
   pub antichain : LiveAntichain bs a
   -- whatever the J rows of the journal held before, and whatever the buffer holds
   pub writes-shown : a .verdict ≡ broken → (rows : List (Row ℕ)) → length rows ≡ J → (old : List ℕ) → WritesShown bs B a rows old
-  -- once the verdict is neither "full" nor "spent", a longer journal or a larger budget leaves the answer as it is, with its rows and
-  -- the shown word
-  pub stable : (a .verdict ≡ full → ⊥) → (a .verdict ≡ spent → ⊥) → (J′ B′ : ℕ) → J ≤ J′ → J′ ≤ journalLimit → B ≤ B′ → checkOf bs J′ B′ ≡ answered a
+  -- once the verdict is neither "full" nor "spent", a check with a longer journal or a larger budget answers with the same verdict, joins,
+  -- pass and shown word
+  pub stable : (a .verdict ≡ full → ⊥) → (a .verdict ≡ spent → ⊥) → (J′ B′ : ℕ) → J ≤ J′ → J′ ≤ journalLimit → B ≤ B′
+      → (b : Answer ℕ) × (checkOf bs J′ B′ ≡ answered b) × Agrees bs a b
+  -- and today with the same rows too: the answer is the whole of a
+  pub same-answer : (a .verdict ≡ full → ⊥) → (a .verdict ≡ spent → ⊥) → (J′ B′ : ℕ) → J ≤ J′ → J′ ≤ journalLimit → B ≤ B′ → checkOf bs J′ B′ ≡ answered a

@@ -11,12 +11,12 @@ use borrow.Author.Tests.{eqb-false, ltb-false, ne-eqb, le-ltb}
 use Rattle.basics.specs.Tests.{or-neither}
 use Rattle.plan_file.specs.Refusals.{refuse, fault}
 use Rattle.working_order.specs.Journal.{Row}
-use Rattle.working_order.specs.Order.{Answer, broken}
+use Rattle.working_order.specs.Order.{Answer, broken, full, spent}
 use Rattle.calls.specs.Replies.{answered, unless}
 use Rattle.calls.specs.ReplyLaws.{reply-answers, reply-none}
 use Rattle.calls.specs.Checking.{journalLimit, journalFault, orderOn, checkOf, journalAfter, shown}
 use Rattle.calls.specs.DemandThree.{Counts, WritesShown, Promises}
-use Rattle.calls.specs.Truth.{one-verdict, counted, least-height, rows-mean, antichain, stable}
+use Rattle.calls.specs.Truth.{one-verdict, counted, least-height, rows-mean, antichain, same-answer}
 use Rattle.calls.specs.Writing.{roomFault, wordOf, writeOf}
 use Rattle.calls.specs.WritingTruth.{word-shown, ten-left, writes-shown}
 
@@ -57,11 +57,18 @@ module _ (bs : List ℕ) (J B : ℕ) (a : Answer ℕ) (e : checkOf bs J B ≡ an
         rows-mean = rw (o .2) (rows-mean bs v J B (s .0));
         antichain = rw (o .2) (antichain bs v J B (s .0));
         writes-shown = shows v (o .1) (s .0) (o .2);
-        stable = λ f g J′ B′ j l b.
-            reply-none (fault bs ∷ refuse (journalFault J′) 0 ∷ []) (orderOn bs J′ B′) (v, (size-journal J′ (omega (arith, s .0)) l, tt))
-            ∙ ap answered (stable bs J B J′ B′ j b (λ x. f (ap (λ (y : Answer ℕ). y .verdict) (o .2) ∙ x)) (λ x. g (ap (λ (y : Answer ℕ). y .verdict) (o .2) ∙ x)) ∙ sym (o .2));
+        stable = λ f g J′ B′ j l b. (a, whole v (s .0) (o .2) f g J′ B′ j l b, record { verdict = refl; joins = refl; pass = refl; word = refl });
+        same-answer = whole v (s .0) (o .2);
       }
     where
+      -- a longer journal is not refused either, and the working order answers the same on it
+      whole : fault bs .number ≡ 0 → 1 ≤ J → a ≡ orderOn bs J B → (a .verdict ≡ full → ⊥) → (a .verdict ≡ spent → ⊥)
+          → (J′ B′ : ℕ) → J ≤ J′ → J′ ≤ journalLimit → B ≤ B′ → checkOf bs J′ B′ ≡ answered a
+      whole v s o f g J′ B′ j l b =
+          reply-none (fault bs ∷ refuse (journalFault J′) 0 ∷ []) (orderOn bs J′ B′) (v, (size-journal J′ (omega (arith, s)) l, tt))
+          ∙ ap answered
+          (same-answer bs J B J′ B′ j b (λ x. f (ap (λ (y : Answer ℕ). y .verdict) o ∙ x)) (λ x. g (ap (λ (y : Answer ℕ). y .verdict) o ∙ x)) ∙ sym o)
+
       shows : fault bs .number ≡ 0 → journalFault J ≡ 0 → 1 ≤ J → a ≡ orderOn bs J B → a .verdict ≡ broken
           → (rows : List (Row ℕ)) → length rows ≡ J → (old : List ℕ) → WritesShown bs B a rows old
       shows v eight l o b rows n old =

@@ -188,9 +188,9 @@ module _ (bs : List ℕ) (v : fault bs .number ≡ 0) (J B : ℕ) where
 
 -- once a verdict is neither "full" nor "spent", a longer journal or a larger budget leaves the whole answer as it is: verdict, joins,
 -- used rows, pass, row and the rows themselves
-pub stable : (bs : List ℕ) (J B J′ B′ : ℕ) → J ≤ J′ → B ≤ B′ → (orderOn bs J B .verdict ≡ full → ⊥) → (orderOn bs J B .verdict ≡ spent → ⊥) → orderOn bs J′ B′ ≡ orderOn bs J B
+pub same-answer : (bs : List ℕ) (J B J′ B′ : ℕ) → J ≤ J′ → B ≤ B′ → (orderOn bs J B .verdict ≡ full → ⊥) → (orderOn bs J B .verdict ≡ spent → ⊥) → orderOn bs J′ B′ ≡ orderOn bs J B
 unfolding orderOn
-stable bs J B J′ B′ j b f s = check-mono (base states (automatonOf bs)) (rulesOf bs) J B J′ B′ j b (firm (orderOn bs J B .verdict) f s)
+same-answer bs J B J′ B′ j b f s = check-mono (base states (automatonOf bs)) (rulesOf bs) J B J′ B′ j b (firm (orderOn bs J B .verdict) f s)
   where
     firm : (x : Verdict) → (x ≡ full → ⊥) → (x ≡ spent → ⊥) → Firm x
     firm holds f s = tt

@@ -1,5 +1,8 @@
-// What each public call answers, as definitions on a file's bytes, and the theorems about them: see specs/. And the type that the calls
-// share: a row of the lent journal.
+// What each public call answers, as definitions on a file's bytes, and the theorems about them. And the type that the calls share: a row of
+// the lent journal. Definitions in specs/: Base (the order over relations), Replies (a call answers or refuses), Checking, Judging, Writing
+// (the three calls), DemandThree (what an answer promises), Codes (the numbers of the verdicts), Printing (the program's text), Rows (how the
+// code's rows and rules are read). Theorems: Promising and Truth (an answer keeps its promises), JournalTruth, JudgingTruth, WritingTruth.
+// Computed: Cases (document 01's P table), Examples, Pins (what only a definition's text settles).
 use relation::Relation;
 ghost use mathlib.Core.Path.{_≡_};
 ghost use Prim.Native.Nat.{_+_};

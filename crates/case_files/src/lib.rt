@@ -1,18 +1,19 @@
-// What the programs of cases share: files that are made record by record, and lines that are printed.
+// For tests only: what the programs of cases share. Files that are made record by record, in an array of `HELD` bytes, and lines that are
+// printed.
 use libc::STDOUT_FILENO;
 use plan_file::Refusal;
 use plan_file::Rule;
 use plan_file::Transition;
 
-// Two records more than a file may have.
+// The bytes, and the number, of two records more than a file may have.
 pub const HELD: usize = 10320;
 
 pub const RECORDS: usize = 1290;
 
-// The largest valid file: 256 rules, 1,024 moves, 8 finishing stages.
+// The bytes of the largest valid file: 256 rules, 1,024 moves, 8 finishing stages.
 pub const LARGEST: usize = 10304;
 
-// Plan B with sheet S, and sheet S alone.
+// The bytes of plan B with sheet S, and of sheet S alone.
 pub const SAMPLE: usize = 72;
 
 pub const SHEET: usize = 32;
@@ -66,7 +67,7 @@ pub fn print_finishing(stage: u8) {
 
 // ---- making files
 
-// The first n bytes.
+// Returns the first `n` bytes of `bytes`, or all if there are fewer.
 pub fn front(bytes: &[u8], n: usize) -> &[u8] {
     if n <= bytes.len() {
         return &bytes[..n];
@@ -74,6 +75,7 @@ pub fn front(bytes: &[u8], n: usize) -> &[u8] {
     bytes
 }
 
+// Stores the bytes `r` as record `i` of `file`.
 pub fn put(file: &mut [u8; HELD], i: usize, r: [u8; 8]) {
     if i < RECORDS {
         let at = i * 8;
@@ -88,6 +90,7 @@ pub fn put(file: &mut [u8; HELD], i: usize, r: [u8; 8]) {
     }
 }
 
+// Stores `x` as byte `j` of record `i` of `file`.
 pub fn put_byte(file: &mut [u8; HELD], i: usize, j: usize, x: u8) {
     if i < RECORDS {
         if j < 8 {
@@ -96,7 +99,7 @@ pub fn put_byte(file: &mut [u8; HELD], i: usize, j: usize, x: u8) {
     }
 }
 
-// Plan B with sheet S: every kind and every body length.
+// Stores plan B with sheet S: it has every kind and every body length.
 pub fn sample(file: &mut [u8; HELD]) {
     put(file, 0, [1, 0, 2, 129, 3, 0, 0, 0]);
     put(file, 1, [1, 1, 0, 0, 0, 0, 0, 0]);
@@ -109,6 +112,7 @@ pub fn sample(file: &mut [u8; HELD]) {
     put(file, 8, [3, 2, 0, 0, 0, 0, 0, 0]);
 }
 
+// Stores sheet S alone.
 pub fn sheet(file: &mut [u8; HELD]) {
     put(file, 0, [2, 0, 1, 1, 0, 0, 0, 0]);
     put(file, 1, [2, 0, 3, 2, 0, 0, 0, 0]);
@@ -116,7 +120,7 @@ pub fn sheet(file: &mut [u8; HELD]) {
     put(file, 3, [3, 2, 0, 0, 0, 0, 0, 0]);
 }
 
-// Record i of a file with so many rules and moves, and then finishing stages: each kind rises strictly.
+// Returns record `i` of a file that has `rules` rules, then `moves` moves, and then finishing stages; the records of each kind rise strictly.
 fn entry(i: usize, rules: usize, moves: usize) -> [u8; 8] {
     if i < rules {
         return [1, (i / 128 % 64) as u8, 2, (i % 128) as u8, 0, 0, 0, 0];
@@ -137,6 +141,7 @@ fn entry(i: usize, rules: usize, moves: usize) -> [u8; 8] {
     [3, ((m - moves) % 256) as u8, 0, 0, 0, 0, 0, 0]
 }
 
+// Stores `rules` rules, then `moves` moves, and then finishing stages up to the end of `file`.
 pub fn fill(file: &mut [u8; HELD], rules: usize, moves: usize) {
     let mut i: usize = 0;
     while i < RECORDS {

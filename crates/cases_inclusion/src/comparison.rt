@@ -1,4 +1,4 @@
-// One file: the answer of the inclusion check held against the unpruned search, and against its answers with other journals and budgets.
+// One file: compares the answer of the inclusion check with the unpruned search, and with its own answers over other journals and budgets.
 use acceptance::Judged;
 use calls::Row;
 use random_files::Trial;
@@ -14,12 +14,12 @@ const BUDGET: u64 = 1000000;
 
 const LARGER_BUDGET: u64 = 4000000;
 
-// Rows of a journal that are held against each other: no file uses as many.
+// How many rows of a journal are compared: no file uses as many.
 const KEPT: usize = 64;
 
 // ---- rows as numbers
 
-// A row as eight numbers.
+// Returns a row as eight numbers.
 fn numbers(row: Row) -> [u64; 8] {
     let relation = row.relation;
     [
@@ -34,7 +34,7 @@ fn numbers(row: Row) -> [u64; 8] {
     ]
 }
 
-// And back.
+// Returns the row of eight numbers.
 fn row_of(x: [u64; 8]) -> Row {
     Row {
         head: x[0],
@@ -48,7 +48,7 @@ fn row_of(x: [u64; 8]) -> Row {
     }
 }
 
-// Of so many used rows, as many as are looked at: two more, so that there are rows that should be untouched.
+// Returns how many rows to compare where `used` rows are used: two more, so that there are rows that should be untouched.
 fn looked_at(used: u64) -> usize {
     if used < 62 {
         return used as usize + 2;
@@ -69,7 +69,7 @@ fn put(journal: &mut [[u64; 8]], i: usize, row: [u64; 8]) {
     }
 }
 
-// The first rows that a check leaves, so many, each from a check of its own.
+// Stores the first `count` rows that a check leaves in `journal`, each from a check of its own.
 fn collect(
     file: &[u8],
     rows: usize,
@@ -93,7 +93,7 @@ fn same(x: Told, y: Told) -> bool {
         & (x.pass == y.pass)
 }
 
-// The word of so many letters at the start of the buffer is turned away.
+// Tests whether the word that is the first `size` letters of `buffer` is turned away.
 fn turned_away(file: &[u8], buffer: &[u8], size: usize) -> bool {
     if buffer.len() < size {
         return false;
@@ -106,7 +106,7 @@ fn turned_away(file: &[u8], buffer: &[u8], size: usize) -> bool {
     }
 }
 
-// The word behind the row is as long as the row says, is turned away, and has the row's relation.
+// Tests whether the word in `buffer` is as long as the broken row says, is turned away, and has the row's relation.
 fn shown(file: &[u8], journal: &[[u64; 8]], told: Told, buffer: &[u8]) -> bool {
     let row = told.row as usize;
     if journal.len() <= row {
@@ -120,7 +120,7 @@ fn shown(file: &[u8], journal: &[[u64; 8]], told: Told, buffer: &[u8]) -> bool {
         & (held[2] == unpruned::word(file, buffer, size))
 }
 
-// The verdict is the one of the unpruned search, and a broken one has a word to show.
+// Tests whether the verdict is the one of the unpruned search, and a broken one has a word to show.
 fn right(file: &[u8], journal: &[[u64; 8]], told: Told, buffer: &[u8], broken: bool) -> bool {
     if broken {
         return (told.code == telling::BROKEN) & shown(file, journal, told, buffer);
@@ -128,7 +128,7 @@ fn right(file: &[u8], journal: &[[u64; 8]], told: Told, buffer: &[u8], broken: b
     told.code == telling::HOLDS
 }
 
-// The used rows have relations that the unpruned search found, and the live ones are an antichain; where the check holds, no relation
+// Tests whether the used rows have relations that the unpruned search found, and the live ones are an antichain; if the check holds, no relation
 // is without a live row below it, so that the live rows are the smallest relations.
 fn accounted(journal: &[[u64; 8]], told: Told, found: &[[u64; 2]; 512], count: usize) -> bool {
     let used = told.used as usize;
@@ -139,7 +139,7 @@ fn accounted(journal: &[[u64; 8]], told: Told, found: &[[u64; 2]; 512], count: u
     sound
 }
 
-// A longer journal and a larger budget give the same answer and the same rows.
+// Tests whether a longer journal and a larger budget give the same answer and the same rows.
 fn same_with_more(file: &[u8], journal: &[[u64; 8]], told: Told) -> bool {
     let mut longer = [[0u64; 8]; KEPT];
     let again = ask(file, MORE_ROWS, telling::blank_row(), LARGER_BUDGET, 0);
@@ -155,12 +155,12 @@ fn same_with_more(file: &[u8], journal: &[[u64; 8]], told: Told) -> bool {
     same(told, again) & rows::same(journal, &longer, 0, told.used as usize)
 }
 
-// A row that no file uses, one of the 960 from row 64 on, by a number below 1,024.
+// Returns a row that no file uses, one of the 960 from row 64 on, by a number below 1,024.
 fn far_row(drawn: u64) -> usize {
     KEPT + (drawn % 960) as usize
 }
 
-// A journal with other old contents gives the same answer and the same rows, and the rest of it is untouched.
+// Tests whether a journal with other old contents gives the same answer and the same rows, and the rest of it is untouched.
 fn same_with_old(file: &[u8], journal: &[[u64; 8]], told: Told, old: [u64; 8]) -> bool {
     let mut other = [old; KEPT];
     let again = ask(file, ROWS, row_of(old), BUDGET, 0);
@@ -175,7 +175,7 @@ fn same_with_old(file: &[u8], journal: &[[u64; 8]], told: Told, old: [u64; 8]) -
         & rows::same_row(numbers(far.shown), old)
 }
 
-// An answer with few rows and a small budget: full and spent just where the rows or the joins run out, and else the same answer.
+// Tests an answer with few rows and a small budget: it is full or spent just where the rows or the joins run out, and else the same answer.
 fn fair(told: Told, small: Told, few: usize, budget: u64) -> bool {
     if small.code == telling::SPENT {
         return (small.joins == budget) & (budget < told.joins);
@@ -186,7 +186,7 @@ fn fair(told: Told, small: Told, few: usize, budget: u64) -> bool {
     same(told, small)
 }
 
-// The number of the first comparison that fails; 0 where none does.
+// Returns the number of the first comparison that fails; 0 if none does.
 fn first_failing(verdict: bool, relations: bool, more: bool, old: bool, less: bool) -> u64 {
     if !verdict {
         return 1;
@@ -206,7 +206,7 @@ fn first_failing(verdict: bool, relations: bool, more: bool, old: bool, less: bo
     0
 }
 
-// What came of a file: the verdict and the used rows, the verdict with few rows and a small budget, and the first comparison that failed.
+// The result for one file: the verdict and the used rows, the verdict with few rows and a small budget, and the first comparison that failed.
 pub struct Outcome {
     pub verdict: u64,
     pub used: u64,
@@ -214,7 +214,7 @@ pub struct Outcome {
     pub failing: u64,
 }
 
-// The comparisons of one file of which the unpruned search has listed so many relations.
+// Makes the comparisons of `file`, of which the unpruned search has listed the first `count` pairs of `found`, and said whether it is `broken`.
 pub fn compare(
     file: &[u8],
     found: &[[u64; 2]; 512],

@@ -22,7 +22,7 @@ use unpruned::Verdict;
 
 const FILES: u64 = 10000;
 
-// What is counted, and where.
+// What is counted: the places in the tally.
 const HOLDS: usize = 0;
 
 const WORDLESS: usize = 1;
@@ -54,7 +54,7 @@ fn line(name: &[u8], n: u64) {
     io::write_all(1, b"\n");
 }
 
-// The verdict with ample rows and joins.
+// Counts the verdict with ample rows and joins.
 fn count_verdict(tally: &mut [u64; 9], outcome: Outcome, verdict: Verdict) {
     if outcome.verdict == telling::BROKEN {
         count_one(tally, BROKEN);
@@ -69,7 +69,7 @@ fn count_verdict(tally: &mut [u64; 9], outcome: Outcome, verdict: Verdict) {
     }
 }
 
-// The verdict with few rows and a small budget.
+// Counts the verdict with few rows and a small budget.
 fn count_small(tally: &mut [u64; 9], verdict: u64) {
     if verdict == telling::FULL {
         count_one(tally, FULL);
@@ -88,7 +88,7 @@ fn count_mismatch(tally: &mut [u64; 9], number: u64, failing: u64) {
     }
 }
 
-// Searches a file, which stands in so many bytes of the buffer, and compares.
+// Searches the file that is the first `size` bytes of `buffer`, and compares.
 fn try_file(number: u64, buffer: &[u8; 192], size: usize, trial: Trial, tally: &mut [u64; 9]) {
     let whole: &[u8] = buffer;
     if whole.len() < size {
@@ -108,7 +108,7 @@ fn try_file(number: u64, buffer: &[u8; 192], size: usize, trial: Trial, tally: &
     count_mismatch(tally, number, outcome.failing);
 }
 
-// Makes the next file and what is tried on it.
+// Draws the next file and what is tried on it, and tries it.
 fn try_next(number: u64, seed: &mut u64, tally: &mut [u64; 9]) {
     let mut buffer = [0u8; 192];
     let size = random_files::next(seed, &mut buffer);

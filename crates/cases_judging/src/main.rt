@@ -1,4 +1,4 @@
-// Judging a run on a file, case by case: one line for each, a label and what came. The stored output is what document 01 asks for
+// Judging a run on a file, case by case: one line for each, a label and the result. The stored output is what document 01 asks for
 // ("Numbers a call may refuse with", the cases of "The check program").
 use acceptance::Judged;
 use case_files::HELD;

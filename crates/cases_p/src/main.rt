@@ -1,5 +1,5 @@
 // The cases that document 01 marks P, as far as the library can be given rows and a budget, each as the check program prints it.
-// What should come stands in the file stdout; the judged runs are compared by cases_judging.
+// The stored output is what document 01 asks for; cases_judging compares the judged runs.
 use calls::Row;
 use libc::STDOUT_FILENO;
 use relation::Relation;
@@ -160,7 +160,7 @@ const SYMBOL_192: [u8; 8] = [1, 0, 1, 192, 0, 0, 0, 0];
 
 const EQUAL: [u8; 16] = [1, 0, 0, 0, 0, 0, 0, 0, 1, 0, 0, 0, 0, 0, 0, 0];
 
-// Prints what is rendered of a check.
+// Prints the text of a check of `file` over `rows` rows, each initialised to `old`, with a budget of `budget` joins.
 fn print(file: &[u8], rows: usize, old: Row, budget: u64) {
     let mut text = [0u8; report::TEXT];
     let size = report::render(file, rows, old, budget, &mut text);
@@ -171,7 +171,7 @@ fn with_1024(file: &[u8], budget: u64) {
     print(file, 1024, telling::blank_row(), budget);
 }
 
-// With so many rows.
+// Prints the text of a check of `file` over `rows` rows of zeros, with the check program's budget.
 fn with_rows(file: &[u8], rows: usize) {
     print(file, rows, telling::blank_row(), 1000000);
 }
@@ -190,7 +190,7 @@ fn sevens() -> Row {
     }
 }
 
-// The journal's old contents do not matter.
+// Checks over a journal of other old contents, which do not matter.
 fn with_old_rows(file: &[u8]) {
     print(file, 1024, sevens(), 1000000);
 }

@@ -1,4 +1,4 @@
-// What a plan file is refused with, case by case: one line for each, a label and what came. The stored output is what document 01
+// What a plan file is refused with, case by case: one line for each, a label and the result. The stored output is what document 01
 // asks for ("Records", "Numbers a call may refuse with").
 use case_files::HELD;
 use case_files::LARGEST;
@@ -59,7 +59,7 @@ fn changed(i: usize, j: usize, value: u8) {
     print_whole(&file, SAMPLE);
 }
 
-// So many rules and moves, and then finishing stages.
+// Tries a file of `records` records: `rules` rules, then `moves` moves, and then finishing stages.
 fn filled(rules: usize, moves: usize, records: usize) {
     let mut file = [0u8; HELD];
     fill(&mut file, rules, moves);

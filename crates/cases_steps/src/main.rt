@@ -1,4 +1,4 @@
-// The record step from places, and walks by steps, case by case: one line for each, a label and what came. The stored output is what
+// The record step from places, and walks by steps, case by case: one line for each, a label and the result. The stored output is what
 // document 01 asks for ("Records", "Numbers a call may refuse with").
 use case_files::HELD;
 use case_files::LARGEST;

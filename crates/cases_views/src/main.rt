@@ -1,4 +1,4 @@
-// The views of a file and the stretch of its moves, case by case: one line for each, a label and what came. The stored output is what
+// The views of a file and the stretch of its moves, case by case: one line for each, a label and the result. The stored output is what
 // document 01 asks for ("Records").
 use case_files::HELD;
 use case_files::LARGEST;

@@ -1,4 +1,4 @@
-// Run writing over journals that a check made and in which one row is damaged, case by case: one line for each, what was asked and what came.
+// Run writing over journals that a check made and in which one row is damaged, case by case: one line for each, what was asked and the result.
 // The stored output is what document 01 asks for (numbers 8, 9 and 10, "a row fits if", "Writing a run").
 use calls::Row;
 use case_files::HELD;
@@ -14,10 +14,10 @@ use damaged::write_damaged;
 use relation::Relation;
 use writer::Writing;
 
-// The joins of a check at most.
+// The budget of each check.
 const BUDGET: u64 = 1000000;
 
-// Bytes of the buffer, each of which is no step code before.
+// The size of the buffer, and what each of its bytes is before: no step code.
 const BUFFER: usize = 65536;
 
 const MARK: u8 = 200;
@@ -25,7 +25,7 @@ const MARK: u8 = 200;
 // A row number that names no row.
 const ABSENT: u64 = 65535;
 
-// Rows that are lent and used, the row that is named, and the bytes of the buffer that are lent.
+// What is asked of writing: rows lent and used, the row named, and the bytes of the buffer lent.
 struct Asked {
     lent: usize,
     used: usize,
@@ -35,14 +35,14 @@ struct Asked {
 
 // ---- rows
 
-// The row at a place of the journal after the check, over so many rows.
+// Returns row `place` of the journal after a check of `file` over `lent` rows.
 fn row_at(file: &[u8], lent: usize, place: usize) -> Row {
     let mut run = [0u8; 8];
     let told = standalone::checked(file, lent, telling::blank_row(), BUDGET, place, &mut run);
     told.shown
 }
 
-// A row with an empty effect, of pass 1.
+// Returns a row with an empty effect, of pass 1.
 fn entered(head: u64, rule: u64, left: u64, right: u64, len: u64) -> Row {
     Row {
         head,
@@ -93,7 +93,7 @@ fn print_field(field: u64) {
     }
 }
 
-// x where the fields are the same, else what stood there.
+// Returns `x` if the two fields are the same, else `old`.
 fn either(field: u64, other: u64, x: u64, old: u64) -> u64 {
     if field == other {
         return x;
@@ -101,7 +101,7 @@ fn either(field: u64, other: u64, x: u64, old: u64) -> u64 {
     old
 }
 
-// The row with x in one field.
+// Returns `row` with `x` in the field `field`.
 fn with(row: Row, field: u64, x: u64) -> Row {
     let relation = row.relation;
     Row {
@@ -120,7 +120,8 @@ fn with(row: Row, field: u64, x: u64) -> Row {
 
 // ---- one case
 
-// As many bytes of the buffer are lent as are asked for, or all.
+// Stores `row` as row `place` of the journal after a check, and writes as `asked`. It lends as many bytes of `buffer` as are asked for, or
+// all.
 fn written(file: &[u8], place: usize, row: Row, asked: Asked, buffer: &mut [u8]) -> Writing {
     let n = asked.room;
     if n <= buffer.len() {
@@ -147,7 +148,7 @@ fn written(file: &[u8], place: usize, row: Row, asked: Asked, buffer: &mut [u8])
     )
 }
 
-// One more, where the byte is not as it was.
+// Returns `count`, or one more if the byte `x` has been written.
 fn counted(count: u64, x: u8) -> u64 {
     if x != MARK {
         return std::num::wrapping_add_u64(count, 1);
@@ -155,7 +156,7 @@ fn counted(count: u64, x: u8) -> u64 {
     count
 }
 
-// Bytes that are not as they were.
+// Counts the bytes of `buffer` that have been written.
 fn changed(buffer: &[u8]) -> u64 {
     let mut count: u64 = 0;
     let mut i: usize = 0;
@@ -166,14 +167,14 @@ fn changed(buffer: &[u8]) -> u64 {
     count
 }
 
-// A byte, unless it is as it was.
+// Prints the byte `x`, if it has been written.
 fn print_written(x: u8) {
     if x != MARK {
         print_byte(x);
     }
 }
 
-// The steps at the front of the buffer, up to eight.
+// Prints the steps at the front of `buffer`, up to eight.
 fn print_front(buffer: &[u8; BUFFER]) {
     let mut i: usize = 0;
     while i < 8 {
@@ -182,7 +183,7 @@ fn print_front(buffer: &[u8; BUFFER]) {
     }
 }
 
-// A run of n steps: of up to eight the steps too.
+// Prints the length `n` of a run, and its steps if they are at most eight.
 fn print_run(buffer: &[u8; BUFFER], n: usize) {
     print_number(n as u64);
     print(b" steps");
@@ -202,7 +203,7 @@ fn print_outcome(writing: Writing, buffer: &[u8; BUFFER]) {
     print(b" bytes changed\n");
 }
 
-// What is asked, and then what comes.
+// Prints what is asked, and then the result.
 fn ask(file: &[u8], place: usize, row: Row, asked: Asked) {
     print(b"row ");
     print_number(asked.named as u64);
@@ -220,12 +221,12 @@ fn ask(file: &[u8], place: usize, row: Row, asked: Asked) {
 
 // ---- tables of cases
 
-// The journal as the check left it: row 0 is stored where it stood.
+// Asks of the journal as the check left it: row 0 is stored in its own place.
 fn sound(file: &[u8], asked: Asked) {
     ask(file, 0, row_at(file, asked.lent, 0), asked);
 }
 
-// Each case: rows lent, rows used, the row that is named, bytes of the buffer.
+// Asks each case: rows lent, rows used, the row that is named, bytes of the buffer.
 fn sounds(file: &[u8], cases: &[[usize; 4]]) {
     let mut i: usize = 0;
     while i < cases.len() {
@@ -243,7 +244,7 @@ fn asked_in(case: [usize; 4]) -> Asked {
     }
 }
 
-// The row at a place with one field replaced.
+// Asks of the journal with one field of one row replaced.
 fn damage(file: &[u8], case: [u64; 4], lent: usize, used: usize, room: usize) {
     let place = case[0] as usize;
     let field = case[1];

@@ -1,4 +1,4 @@
--- The array as the walk has it in hand is the journal of the contract. Assumes nothing.
+-- The local array of the walk, row for row, is the journal of the contract. Assumes nothing.
 use mathlib.Core.Path.{_≡_, refl, sym, ap, _∙_, subst}
 use mathlib.Core.List.{List, [], _∷_, _++_, map}
 use Prim.Native.Nat.{ℕ, zero, suc, _≤_}
@@ -29,7 +29,8 @@ map-set [] i x = refl
 map-set (y ∷ ys) zero x = refl
 map-set (y ∷ ys) (suc i) x = ap (λ (zs : List (Row ℕ)). rowOf y ∷ zs) (map-set ys i x)
 
--- of the array xs, all x, the first m rows were lent, and were zs then; x was stored as row j, and from the first m rows w was written
+-- xs: the array before the check, all x. m: the rows lent. zs: its first m rows after the check, which answered c. j: the row where x was
+-- stored. w: what writing from the first m rows answered. The other letters are those of `WritesDamaged`
 pub written-damaged : (bs : List ℕ) (n B i : ℕ) (x : LentRow) (u k : ℕ) (old new : List ℕ)
     → (xs : Journal) → xs ≡ replicate journalLimit x → (m : ℕ) → (m ≡ frontOf n) × (m ≤ journalLimit) → (zs : Journal) → length zs ≡ m → (c : Checked) → Checks bs B (take m xs) zs c
     → (j : ℕ) → j ≡ placeOf i → (w : Writing) → Writes bs (map rowOf (take m (set (zs ++ drop m xs) j x))) u k old new w → WritesDamaged bs n B i x u k old new w

@@ -1,12 +1,12 @@
-// For the program of damaged journals: a check, one row of its journal replaced, and the run behind a row written. Its parameters and its
-// answer are plain values and lent bytes, so whoever calls it is proved by the toolchain.
+// For tests only (cases_writing): a check, one row of its journal replaced, and the run behind a row written. The parameters and the answer
+// are plain values and lent bytes, so a caller needs no walk.
 use calls::Row;
 use telling::ROWS;
 use writer::Writing;
 ghost use Rattle.damaged.specs.Contracts.{WritesDamaged};
 
-// Checks the file over a journal of so many rows, stores the row at a place of it, and writes the run behind the row that is named, with so
-// many rows used. Before the check each row of the journal is the one that is stored later: proved by hand.
+// Checks `file` over a journal of `rows` rows, each initialised to `row`, with a budget of `budget` joins; stores `row` as journal row `place`;
+// and writes the run behind row `named` to `buffer`, with `used` rows used. The proof is a walk (proofs/write_damaged).
 pub fn write_damaged(
     file: &[u8],
     rows: usize,

@@ -1,5 +1,5 @@
-// Whether the rows of a journal fit the rules (document 01, "Numbers a call may refuse with", 9). One loop holds the journal; each test is
-// on rows by value. A rule: head, body length, the bytes of its symbols.
+// Whether the rows of a journal fit the rules (document 01, "Numbers a call may refuse with", 9). One loop holds the journal and is proved by
+// a walk; each test takes rows by value. A rule is four bytes: its head, its body's length, its two symbols.
 use calls::Row;
 ghost use mathlib.Core.Bool.{_&&_};
 ghost use mathlib.Core.Path.{_≡_};
@@ -13,7 +13,7 @@ ghost use Rattle.calls.specs.Rows.{rowOf, entryOf};
 ghost use Rattle.fitting.specs.Forms.{noForms};
 ghost use Rattle.fitting.specs.ByValue.{lowerOf, pointerBy, lengthBy, bodyBy, rowBy, lastLen};
 
-// The row that the pointer of row i names, where it is lower, else row i.
+// Returns the row that `pointer`, a pointer of row `i`, names if that is a lower row, else `i`: always a row that can be read.
 fn lower(pointer: u64, i: usize) -> usize
     ensures { λ r. ⌜ r ≡ lowerOf pointer i ⌝ }
 {
@@ -24,7 +24,8 @@ fn lower(pointer: u64, i: usize) -> usize
     i
 }
 
-// The pointer of a symbol in row i: a lower row of its nonterminal, or 65,535 at a terminal.
+// Tests the `pointer` of `symbol` in row `i`: at a terminal it is 65,535, at a nonterminal a lower row of that nonterminal. `named` is the row
+// that `lower` gives for it.
 fn pointer_fits(i: usize, symbol: u8, pointer: u64, named: Row) -> bool
     ensures { λ r. ⌜ r ≡ pointerBy i (symbolOf symbol) pointer (rowOf named) ⌝ }
 {
@@ -38,7 +39,7 @@ fn pointer_fits(i: usize, symbol: u8, pointer: u64, named: Row) -> bool
     false
 }
 
-// The length of a symbol: of a nonterminal the length in the row that it points to.
+// Returns the length of `symbol`: 1 for a terminal, and for a nonterminal the length in `named`, the row that it points to.
 fn symbol_length(symbol: u8, named: Row) -> u64
     ensures { λ r. ⌜ r ≡ lengthBy (symbolOf symbol) (rowOf named) ⌝ }
 {
@@ -48,7 +49,8 @@ fn symbol_length(symbol: u8, named: Row) -> u64
     named.len
 }
 
-// The pointers and the length of row i fit its rule's body.
+// Tests the pointers and the length of `row`, which is row `i`, against the body of `rule`. `left` and `right` are the rows that its pointers
+// name, if lower.
 fn body_fits(i: usize, rule: [u8; 4], row: Row, left: Row, right: Row) -> bool
     ensures { λ r. ⌜ r ≡ bodyBy i (entryOf rule .body) (rowOf row) (rowOf left) (rowOf right) ⌝ }
 {
@@ -68,14 +70,15 @@ fn body_fits(i: usize, rule: [u8; 4], row: Row, left: Row, right: Row) -> bool
     (first & second) & (row.len == calls::capped_sum(n, m))
 }
 
-// The rule's head is the nonterminal.
+// Compares the `head` of a rule with a row's `nonterminal`, which is wider.
 fn of_head(head: u8, nonterminal: u64) -> bool
     ensures { λ r. ⌜ r ≡ eqb head nonterminal ⌝ }
 {
     head as u64 == nonterminal
 }
 
-// Row i fits the rules, where left and right are the rows that its pointers name, if lower.
+// Tests `row`, which is row `i`: its rule is there and has its head, and its body fits. `left` and `right` are the rows that its pointers
+// name, if lower.
 fn row_fits(rules: &[[u8; 4]], i: usize, row: Row, left: Row, right: Row) -> bool
     ensures { λ r. ⌜ r ≡ rowBy (map entryOf (now (rules .entry))) i (rowOf row) (rowOf left) (rowOf right) ⌝ }
 {
@@ -87,7 +90,7 @@ fn row_fits(rules: &[[u8; 4]], i: usize, row: Row, left: Row, right: Row) -> boo
     false
 }
 
-// Whether all rows so far fit, and the length in the last of them.
+// The test so far: `fits` says whether all rows tested fit, and `len` is the length in the last of them.
 pub struct Fit {
     pub fits: bool,
     pub len: u64,
@@ -105,7 +108,8 @@ fn fit_after(fit: Fit, rules: &[[u8; 4]], i: usize, row: Row, left: Row, right: 
 
 // ---- the journal
 
-// Whether the first so many rows fit the rules: proved by hand.
+// Tests whether the first `rows` rows of `journal` fit `rules`, and returns the length in the last of them, which number 10 is decided by. The
+// proof is a walk (proofs/rows_fit).
 pub fn rows_fit(journal: &[Row], rules: &[[u8; 4]], rows: usize) -> Fit
     requires { ⌜ rows ≤ length (now journal) ⌝ }
     ensures { λ r. ⌜ (r .fits ≡ rowsFit noForms (map rowOf (now (journal .entry))) (map entryOf (now (rules .entry))) rows)

@@ -14,7 +14,7 @@ use Rattle.input.specs.declared.Input.the-variants as input
 
 -- ---- a read
 
--- what a read into so many bytes says: it failed, the input has ended, or so many bytes have come
+-- what a read into a buffer of n bytes says: it failed, the input has ended, or bytes have come, at most n
 abbrev pub saidBy : ℤ → ℕ → Chunk
 saidBy (negsuc k) room = chunk.Failed
 saidBy (pos zero) room = chunk.Ended
@@ -22,15 +22,15 @@ saidBy (pos (suc k)) room = chunk.Bytes (min (suc k) room)
 
 -- ---- the file
 
--- the bytes of one record more than a file may have: with so many number 2 refuses, unless 1 does
+-- the bytes of one record more than a file may have: number 2 refuses that many, unless 1 does
 abbrev pub most : ℕ
 most = 8 * (recordLimit + 1)
 
--- of an input of n bytes: all of them, or so many that the length has the same remainder by 8
+-- how many bytes are handed over of an input of n bytes: all of them, or, above the most, as many as give the same remainder by 8
 unfoldable pub heldOf : ℕ → ℕ
 heldOf n = cond (ltb n most) n (most + (n - most) % 8)
 
--- what is handed over of the input: as many bytes, and at the front the input's own
+-- what is handed over of the input: that many bytes, and the first of them are the input's own
 pub record Handed (whole file : List ℕ) : Type 0 where
   pub count : length file ≡ heldOf (length whole)
   pub front : take most file ≡ take most whole

@@ -56,7 +56,7 @@ held-over at got n g e = by (ltb n most) refl
 
 -- ---- refused alike
 
--- so long a file is refused by 1 or 2, by its length alone
+-- a file that long is refused by 1 or 2, by its length alone
 abbrev refusalAt : Bool → Refusal
 refusalAt whole = cond (not whole) (refuse 1 0) (refuse 2 0)
 

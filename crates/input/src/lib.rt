@@ -1,31 +1,33 @@
-// The check program's input. There is a file only where a read has said that the input has ended: of an input that cannot be read to its
-// end nothing is handed over.
+// The check program's input. There is a file only where a read has said that the input has ended: an input that cannot be read to its end
+// gives none. Of an input that is longer than any file, only the front is held; what is handed over is refused as the whole input would be.
 use libc::STDIN_FILENO;
 ghost use mathlib.Core.Path.{_≡_};
 ghost use Prim.Native.Nat.{ℕ, _+_, _≤_};
 ghost use lib.ListN.{length};
 ghost use Rattle.input.specs.Held.{saidBy, heldOf, Within};
 
-// One record more than a file may have: with so many bytes number 2 refuses, unless 1 does.
+// The bytes of one record more than a file may have: number 2 refuses that many, unless 1 does.
 const HELD: usize = 10312;
 
-// Room for them, and for the remainder by 8 of a longer input.
+// The buffer: room for those bytes, and for the remainder by 8 of a longer input.
 pub const ROOM: usize = 10319;
 
-// What a read says: so many bytes, that the input has ended, or that it failed.
+// The result of one read: the number of bytes that came, or that the input has ended, or that the read failed.
 enum Chunk {
     Bytes(usize),
     Ended,
     Failed,
 }
 
-// What became of the input: it was read to its end, and so many bytes of the buffer stand for it; or it cannot be read.
+// What became of the input: it was read to its end, and the file is the given number of bytes at the front of the buffer; or it cannot be
+// read.
 pub enum Input {
     Whole(usize),
     Failed,
 }
 
-// How many bytes are handed over when got more have come after an input for which at are handed over.
+// Returns how many bytes to hand over when `got` more bytes have come after an input for which it was `at`. Past `HELD` only the remainder
+// by 8 is kept, which is what numbers 1 and 2 look at.
 fn held(at: usize, got: usize) -> usize
     ensures count { λ r. ⌜ ((n : ℕ) → at ≡ heldOf n → r ≡ heldOf (n + got)) ⌝ }
     ensures room { λ r. ⌜ r ≤ 10319 ⌝ }
@@ -38,7 +40,8 @@ fn held(at: usize, got: usize) -> usize
     HELD + (at % 8 + got % 8) % 8
 }
 
-// What a read that answered got says: more than 0 are so many bytes of the buffer, 0 is the end of the input, and below 0 it failed.
+// Reads the result `got` of a read into `buffer`: above 0 it is the number of bytes that came, 0 is the end of the input, and below 0 the
+// read failed.
 fn said(got: isize, buffer: &[u8]) -> Chunk
     ensures { λ r. ⌜ r ≡ saidBy got (length (now (buffer .entry))) ⌝ }
 {
@@ -51,19 +54,19 @@ fn said(got: isize, buffer: &[u8]) -> Chunk
     Chunk::Bytes(io::count(got, buffer))
 }
 
-// One read.
+// Reads once from standard input into `buffer`.
 fn read_into(buffer: &mut [u8]) -> Chunk {
     let got = libc::read(STDIN_FILENO, buffer);
     said(got, buffer)
 }
 
-// One read of what is not held any more.
+// Reads once, and throws away what came: the input is longer than any file.
 fn read_past() -> Chunk {
     let mut scratch = [0u8; 4096];
     read_into(&mut scratch)
 }
 
-// One read, into the buffer from the place on as long as there is room for a file.
+// Reads once, into `buffer` from place `at` on while there is room for a file, and else past it.
 fn read_at(buffer: &mut [u8], at: usize) -> Chunk
     requires { ⌜ 10312 ≤ length (now buffer) ⌝ }
 {
@@ -73,8 +76,8 @@ fn read_at(buffer: &mut [u8], at: usize) -> Chunk
     read_past()
 }
 
-// Reads on until a read says that the input has ended, or fails. A proved loop ends, so it counts its turns down from a number that no
-// input uses up.
+// Reads standard input into `buffer` until a read says that it has ended, or fails. A proved loop must end, so this one counts its turns down
+// from a number that no input uses up.
 pub fn read(buffer: &mut [u8; ROOM]) -> Input
     ensures { λ r. ⌜ Within r ⌝ }
 {

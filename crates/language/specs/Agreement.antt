@@ -8,7 +8,7 @@ use Rattle.language.specs.Grammar.{Symbol, terminal, nonterminal, Produc
 use Rattle.language.specs.Rewriting.{Step, Steps, done, more, Language}
 use Rattle.language.specs.Spelling.{SpellsSymbol, Spells, DerivesWithin, Derives}
 
--- ---- rewriting goes on inside a form
+-- ---- rewriting steps inside a longer sequence of symbols
 
 pub trans : (rules : List Production) {α β γ : List Symbol} → Steps rules α β → Steps rules β γ → Steps rules α γ
 trans rules done q = q
@@ -37,7 +37,7 @@ map-append : (u v : List ℕ) → map terminal (u ++ v) ≡ map terminal u ++ ma
 map-append [] v = refl
 map-append (c ∷ u) v = ap (λ (x : List Symbol). terminal c ∷ x) (map-append u v)
 
--- ---- a spelling is rewritten, symbol by symbol
+-- ---- from spelling to rewriting, symbol by symbol
 
 module _ (rules : List Production) (D : ℕ → List ℕ → Type 0) (each : (p : ℕ) (w : List ℕ) → D p w → Steps rules (nonterminal p ∷ []) (map terminal w)) where
   sym-steps : (s : Symbol) (w : List ℕ) → SpellsSymbol D s w → Steps rules (s ∷ []) (map terminal w)
@@ -61,7 +61,7 @@ within-steps rules (suc h) p w d =
     (record { before = []; after = []; rule = d .0; listed = d .1; old = ap (λ (x : ℕ). nonterminal x ∷ []) (sym (d .2)); new = sym (append-nil (d .0 .symbols)) })
     (spell-steps rules (DerivesWithin rules h) (within-steps rules h) (d .0 .symbols) w (d .3))
 
--- ---- what is rewritten is spelled
+-- ---- from rewriting to spelling
 
 module _ (D D′ : ℕ → List ℕ → Type 0) (f : (p : ℕ) (w : List ℕ) → D p w → D′ p w) where
   sym-mono : (s : Symbol) (w : List ℕ) → SpellsSymbol D s w → SpellsSymbol D′ s w
@@ -72,7 +72,7 @@ module _ (D D′ : ℕ → List ℕ → Type 0) (f : (p : ℕ) (w : List ℕ) �
   spell-mono [] w e = e
   spell-mono (s ∷ ss) w r = (r .0, r .1, r .2, sym-mono s (r .0) (r .3), spell-mono ss (r .1) (r .4))
 
--- more height does no harm
+-- what derives within h derives within h + 1
 pub taller : (rules : List Production) (h p : ℕ) (w : List ℕ) → DerivesWithin rules h p w → DerivesWithin rules (suc h) p w
 taller rules zero p w d = absurd d
 taller rules (suc h) p w d =
@@ -82,7 +82,7 @@ pub within-le : (rules : List Production) (g h p : ℕ) (w : List ℕ) → g ≤
 within-le rules g h p w l d = le-ind (λ (x : ℕ). DerivesWithin rules x p w) d (λ m k e. taller rules m p w e) h l
 
 module _ (D : ℕ → List ℕ → Type 0) where
-  -- a spelling of two forms, one after the other, is cut, and put together
+  -- a spelling of two sequences of symbols, one after the other, is cut in two; and two spellings are put together
   spell-cut : (xs ys : List Symbol) (w : List ℕ) → Spells D (xs ++ ys) w → (u : List ℕ) × (v : List ℕ) × (w ≡ u ++ v) × Spells D xs u × Spells D ys v
   spell-cut [] ys w r = ([], w, refl, refl, r)
   spell-cut (s ∷ xs) ys w r =
@@ -98,7 +98,7 @@ module _ (D : ℕ → List ℕ → Type 0) where
   spell-steps-only [] = refl
   spell-steps-only (c ∷ w) = (c ∷ [], w, refl, refl, spell-steps-only w)
 
--- one terminal back costs one more of height
+-- if α rewrites to β in one step and β spells w within height h, then α spells w within h + 1: undoing a step costs one more of height
 back : (rules : List Production) (h : ℕ) (α β : List Symbol) (w : List ℕ) → Step rules α β → Spells (DerivesWithin rules h) β w → Spells (DerivesWithin rules (suc h)) α w
 back rules h α β w s r =
     let D = DerivesWithin rules h in

@@ -20,7 +20,7 @@ pub data Body : Type 0 where
   one : Symbol → Body
   two : Symbol → Symbol → Body
 
--- from left to right
+-- the symbols of a body, from left to right
 abbrev pub symbols : Body → List Symbol
 symbols empty = []
 symbols (one s) = s ∷ []

@@ -22,6 +22,6 @@ abbrev pub DerivesWithin : List Production → ℕ → ℕ → List ℕ → Type
 DerivesWithin rules zero x w = ⊥
 DerivesWithin rules (suc h) x w = (r : Production) × In r rules × (r .head ≡ x) × Spells (DerivesWithin rules h) (r .symbols) w
 
--- in finitely many uses of rules
+-- x derives w within some height
 abbrev pub Derives : List Production → ℕ → List ℕ → Type 0
 Derives rules x w = (h : ℕ) × DerivesWithin rules h x w

@@ -16,7 +16,7 @@ moves ts c a b = any (λ t. (eqb (t .source) a && eqb (t .letter) c) && eqb (t .
 unfoldable pub letterRelation : ℕ → List Transition → ℕ → ℕ
 letterRelation n ts c = table n (moves ts c)
 
--- of a word: every (a, a) for the empty word, and joined letter by letter
+-- the relation of a word: every (a, a) for the empty word, and composed letter by letter
 unfoldable pub wordRelation : ℕ → List Transition → List ℕ → ℕ
 wordRelation n ts [] = identity n
 wordRelation n ts (c ∷ w) = compose n (letterRelation n ts c) (wordRelation n ts w)

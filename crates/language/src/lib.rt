@@ -1,1 +1,4 @@
-// What document 000, section 2.1, defines: see specs/.
+// What document 000, section 2.1, defines; no code. Definitions in specs/: Grammar (symbols, productions, the rules of a file), Rewriting
+// (a step, the language of a nonterminal), Spelling (derivation by height), Automaton (paths, acceptance), WordRelation (the relation of a
+// word). Theorems: Agreement (rewriting derives what spelling derives, for bodies of any length), RuleLaws (a file's rules as productions),
+// Paths (a pair of a word's relation is a path on the word; the relation of uv is that of u composed with that of v).

@@ -63,7 +63,7 @@ three-below a b c h j k (suc zero) = omega arith
 three-below a b c h j k (suc (suc zero)) = omega arith
 three-below a b c h j k (suc (suc (suc i))) = omega arith
 
--- ---- what is told
+-- ---- all lines
 
 verdict-long : (v : Verdict) → length (verdictWord v) ≤ 6
 verdict-long holds = omega arith
@@ -79,7 +79,7 @@ pick-long : (b : Bool) (x y : List ℕ) (m : ℕ) → length x ≤ m → length 
 pick-long true x y m h k = h
 pick-long false x y m h k = k
 
--- all numbers that are told have 64 bits, and the buffer's are bytes
+-- all numbers of a check have 64 bits, and those in the run buffer are bytes
 pub record Machine (t : Told) (buffer : List ℕ) : Type 0 where
   pub code : Wide (t .code)
   pub joins : Wide (t .joins)

@@ -1,4 +1,4 @@
--- The lines of an answer, from what is told of it and the run buffer, as the code has them. Definitions only. Assumes nothing.
+-- The lines of an answer, from the numbers of a check and the run buffer, as the code has them. Definitions only. Assumes nothing.
 use mathlib.Core.Bool.{Bool, true, false}
 use mathlib.Core.List.{List, [], _∷_, _++_}
 use Prim.Native.Nat.{ℕ, zero, suc}
@@ -9,11 +9,11 @@ use Rattle.calls.specs.Printing.{verdictWord, numbersLine, wordLine, refusedLin
 use Rattle.calls.specs.Codes.{holdsCode, brokenCode, fullCode, spentCode}
 use Rattle.telling.specs.declared.Told.{Told}
 
--- line 1
+-- line 1: the word of the verdict, joins, used rows, pass
 unfoldable pub totalsLine : List ℕ → Told → List ℕ
 totalsLine word t = wordLine word (t .joins ∷ t .used ∷ t .pass ∷ [])
 
--- line 2
+-- line 2: the row, its pairs, its length
 unfoldable pub rowLine : Told → List ℕ
 rowLine t = numbersLine (t .row ∷ t .pairs ∷ t .length ∷ [])
 
@@ -32,7 +32,7 @@ abbrev pub pick : Bool → List ℕ → List ℕ → List ℕ
 pick true x y = x
 pick false x y = y
 
--- by the number that is told
+-- all lines, by the number of the answer
 unfoldable pub toldText : Told → List ℕ → List ℕ
 toldText t buffer =
     pick (eqb (t .code) holdsCode) (totalsLine (verdictWord holds) t)

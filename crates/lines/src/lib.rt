@@ -1,4 +1,5 @@
-// The lines of an answer as document 01, "The check program", has them, put into a lent buffer from what is told of a check.
+// The lines of an answer as document 01, "The check program", has them, put into a lent buffer from the numbers of a check (`Told`). Each
+// function stores into `text` from place `at` on and returns the place after what it stored, as those of crate page do.
 use telling::Told;
 ghost use mathlib.Core.Path.{_≡_};
 ghost use mathlib.Core.List.{[], _∷_, _++_};
@@ -8,7 +9,7 @@ ghost use Rattle.calls.specs.Printing.{lineFeed, blanked, numbersLine, refusedL
 ghost use Rattle.page.specs.Page.{page, puts};
 ghost use Rattle.lines.specs.Lines.{totalsLine, rowLine, runLine, brokenText, toldText};
 
-// Three numbers, each after a blank, and the end of the line.
+// Stores `a`, `b` and `c`, each after a blank, and the end of the line.
 fn put_three(text: &mut [u8], at: usize, a: u64, b: u64, c: u64) -> usize
     ensures { λ r. ⌜ page r (now (text .exit)) ≡ puts (blanked (a ∷ b ∷ c ∷ []) ++ (lineFeed ∷ [])) (page at (now (text .entry))) ⌝ }
 {
@@ -18,7 +19,7 @@ fn put_three(text: &mut [u8], at: usize, a: u64, b: u64, c: u64) -> usize
     page::put(text, third, b'\n')
 }
 
-// `refused` and the number.
+// Stores the line `refused` with `number`.
 fn put_refused(text: &mut [u8], at: usize, number: u64) -> usize
     ensures { λ r. ⌜ page r (now (text .exit)) ≡ puts (refusedLine number) (page at (now (text .entry))) ⌝ }
 {
@@ -27,7 +28,7 @@ fn put_refused(text: &mut [u8], at: usize, number: u64) -> usize
     page::put(text, end, b'\n')
 }
 
-// Line 1: the verdict's word, joins, used rows, pass.
+// Stores line 1: the verdict's `word`, joins, used rows, pass.
 fn put_totals(text: &mut [u8], at: usize, word: &[u8], told: Told) -> usize
     ensures { λ r. ⌜ page r (now (text .exit)) ≡ puts (totalsLine (now (word .entry)) told) (page at (now (text .entry))) ⌝ }
 {
@@ -35,7 +36,7 @@ fn put_totals(text: &mut [u8], at: usize, word: &[u8], told: Told) -> usize
     put_three(text, end, told.joins, told.used, told.pass)
 }
 
-// Line 2 of a broken answer: the row, its pairs and its length.
+// Stores line 2 of a broken answer: the row, its pairs and its length.
 fn put_row(text: &mut [u8], at: usize, told: Told) -> usize
     ensures { λ r. ⌜ page r (now (text .exit)) ≡ puts (rowLine told) (page at (now (text .entry))) ⌝ }
 {
@@ -45,7 +46,7 @@ fn put_row(text: &mut [u8], at: usize, told: Told) -> usize
     page::put(text, length, b'\n')
 }
 
-// The n step codes at the front of the buffer, separated by one blank, and the end of the line.
+// Stores the first `n` step codes of `buffer`, separated by one blank, and the end of the line; if `buffer` is shorter, those that it has.
 fn put_steps(text: &mut [u8], at: usize, buffer: &[u8], n: usize) -> usize
     ensures { λ r. ⌜ page r (now (text .exit)) ≡ puts (numbersLine (take n (now (buffer .entry)))) (page at (now (text .entry))) ⌝ }
 {
@@ -54,7 +55,7 @@ fn put_steps(text: &mut [u8], at: usize, buffer: &[u8], n: usize) -> usize
     page::put(text, end, b'\n')
 }
 
-// Line 3 of a broken answer: what refuses to write the run, or its steps.
+// Stores line 3 of a broken answer: the number that refuses to write the run, or its steps, which are at the front of `buffer`.
 fn put_run(text: &mut [u8], at: usize, told: Told, buffer: &[u8]) -> usize
     ensures { λ r. ⌜ page r (now (text .exit)) ≡ puts (runLine told (now (buffer .entry))) (page at (now (text .entry))) ⌝ }
 {
@@ -64,6 +65,7 @@ fn put_run(text: &mut [u8], at: usize, told: Told, buffer: &[u8]) -> usize
     put_steps(text, at, buffer, told.length as usize)
 }
 
+// Stores the three lines of a broken answer.
 fn put_broken(text: &mut [u8], at: usize, told: Told, buffer: &[u8]) -> usize
     ensures { λ r. ⌜ page r (now (text .exit)) ≡ puts (brokenText told (now (buffer .entry))) (page at (now (text .entry))) ⌝ }
 {
@@ -72,7 +74,8 @@ fn put_broken(text: &mut [u8], at: usize, told: Told, buffer: &[u8]) -> usize
     put_run(text, third, told, buffer)
 }
 
-// All lines, from the buffer's start.
+// Stores all lines of an answer from the start of `text` on, by the number in `told`. `buffer` has the run of a broken answer. The second
+// clause bounds the length, so that a caller knows how much room is enough.
 pub fn put_told(text: &mut [u8], told: Told, buffer: &[u8]) -> usize
     ensures put { λ r. ⌜ page r (now (text .exit)) ≡ puts (toldText told (now (buffer .entry))) (page 0 (now (text .entry))) ⌝ }
     ensures long { λ r. ⌜ length (toldText told (now (buffer .entry))) ≤ 163 + length (now (buffer .entry)) * 4 ⌝ }
@@ -92,6 +95,7 @@ pub fn put_told(text: &mut [u8], told: Told, buffer: &[u8]) -> usize
     put_refused(text, 0, told.code)
 }
 
+// Returns the lesser of `a` and `b`.
 fn least(a: usize, b: usize) -> usize
     ensures { λ r. ⌜ (r ≡ min a b) × (r ≤ b) ⌝ }
 {

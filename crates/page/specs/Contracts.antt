@@ -4,7 +4,7 @@ use mathlib.Core.List.{List, _++_}
 use Prim.Native.Nat.{ℕ, _≤_}
 use lib.ListN.{length, drop}
 
--- a buffer held old, and holds new: the text, of r bytes, and then its own bytes as they were
+-- a buffer that held `old` holds `new`: at its front the `text`, which has `r` bytes, and behind it its own bytes as they were
 pub record Stands (text old new : List ℕ) (r : ℕ) : Type 0 where
   pub count : r ≡ length text
   pub bytes : new ≡ text ++ drop (length text) old

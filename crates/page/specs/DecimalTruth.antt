@@ -1,4 +1,4 @@
--- What is printed of a number reads as that number: no two numbers are printed alike. Assumes nothing.
+-- What is printed of a number reads as that number: no two numbers are printed alike. A theorem for the reader; nothing cites it. Assumes nothing.
 use mathlib.Core.Path.{_≡_, refl, _∙_}
 use mathlib.Core.Bool.{Bool, true, false}
 use mathlib.Core.List.{List, [], _∷_, _++_}
@@ -8,7 +8,7 @@ use lib.Dec.{ltb}
 use borrow.Author.Tests.{ltb-false}
 use Rattle.calls.specs.Printing.{digit, decimalBy, decimalIn, decimal}
 
--- the number whose decimal digits these are, after n
+-- reads the decimal digits after those of n
 abbrev pub readFrom : ℕ → List ℕ → ℕ
 readFrom n [] = n
 readFrom n (d ∷ ds) = readFrom (10 * n + (d - 48)) ds

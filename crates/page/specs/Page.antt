@@ -5,7 +5,7 @@ use Prim.Native.Nat.{ℕ, _+_}
 use lib.Dec.{ltb}
 use lib.ListN.{length, set}
 
--- the next place, and what the buffer holds
+-- a page: the place where the next byte goes, and what the buffer holds
 pub record Page : Type 0 where
   pub place : ℕ
   pub held : List ℕ
@@ -17,11 +17,11 @@ abbrev pub putBy : Bool → ℕ → Page → Page
 putBy true b p = page (p .place + 1) (set (p .held) (p .place) b)
 putBy false b p = p
 
--- a byte at the place, where the buffer has one there
+-- stores a byte at the place, if the buffer is that long, and moves to the next place
 unfoldable pub put : ℕ → Page → Page
 put b p = putBy (ltb (p .place) (length (p .held))) b p
 
--- bytes, one after the other
+-- stores bytes, one after the other
 unfoldable pub puts : List ℕ → Page → Page
 puts [] p = p
 puts (b ∷ bs) p = puts bs (put b p)

@@ -1,4 +1,4 @@
--- What stands in the buffer when all of a text has been put into it. Assumes nothing.
+-- What a buffer holds when all of a text has been put into it. Assumes nothing.
 use mathlib.Core.Path.{_≡_, refl, sym, ap, _∙_}
 use mathlib.Core.List.{List, [], _∷_, _++_, append-assoc, append-nil}
 use Prim.Native.Nat.{ℕ, _+_, _≤_, _<_}
@@ -41,14 +41,14 @@ put-fits : (b n : ℕ) (bs : List ℕ) → n < length bs → put b (page n bs) �
 unfolding put
 put-fits b n bs h = rw (lt-ltb n (length bs) h)
 
--- a byte after what is done
+-- a byte put after `done` is stored there
 put-after : (x : ℕ) (done : List ℕ) (y : ℕ) (rest : List ℕ) → put x (page (length done) (done ++ (y ∷ rest))) ≡ page (length (done ++ (x ∷ []))) ((done ++ (x ∷ [])) ++ rest)
 put-after x done y rest =
     put-fits x (length done) (done ++ (y ∷ rest)) (omega (arith, length-append done (y ∷ rest)))
     ∙ ap (λ (bs : List ℕ). page (length done + 1) bs) (set-append-seam done y rest x ∙ sym (append-assoc done (x ∷ []) rest))
     ∙ ap (λ (n : ℕ). page n ((done ++ (x ∷ [])) ++ rest)) (sym (length-append done (x ∷ [])))
 
--- a text that fits stands after what is done, and what comes after it is as it was
+-- a text that fits comes after `done`, and the bytes behind it are as they were
 puts-after : (xs done rest : List ℕ) → length xs ≤ length rest
     → puts xs (page (length done) (done ++ rest)) ≡ page (length (done ++ xs)) ((done ++ xs) ++ drop (length xs) rest)
 unfolding puts

@@ -1,4 +1,4 @@
--- So many bytes of the buffer are the text. Assumes nothing.
+-- A text at the front of a buffer: the bytes there are the text, as many as it has, and the buffer has room for them. Assumes nothing.
 use mathlib.Core.Path.{_≡_, sym, ap, _∙_}
 use mathlib.Core.List.{List}
 use Prim.Native.Nat.{ℕ, _≤_}

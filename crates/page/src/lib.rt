@@ -1,12 +1,13 @@
-// Text in a lent buffer: bytes, numbers and lines put one after the other, from a place on. What does not fit is left out, so nothing is
-// asked of a caller; that all of an answer fits is proved where the whole answer is known.
+// Text in a lent buffer: bytes and decimal numbers, put one after the other. Each function stores into `text` from place `at` on and returns
+// the place after what it stored. What does not fit is left out, so nothing is asked of a caller; that all of an answer fits is proved where
+// the whole answer is known (crates lines and report).
 ghost use mathlib.Core.Path.{_≡_};
 ghost use mathlib.Core.List.{_∷_};
 ghost use Prim.Native.Nat.{_+_, _<_};
 ghost use Rattle.calls.specs.Printing.{blankByte, decimal, blanked, separated};
 ghost use Rattle.page.specs.Page.{page, put as putByte, puts};
 
-// A byte at the place, if the buffer has one there; and the next place.
+// Stores `byte` at place `at` of `text`, if `text` is that long.
 pub fn put(text: &mut [u8], at: usize, byte: u8) -> usize
     ensures { λ r. ⌜ page r (now (text .exit)) ≡ putByte byte (page at (now (text .entry))) ⌝ }
 {
@@ -17,7 +18,7 @@ pub fn put(text: &mut [u8], at: usize, byte: u8) -> usize
     at
 }
 
-// The bytes, one after the other. The loop keeps: the bytes from i on, put where it stands, are all of them put where it began.
+// Stores `bytes`, one after the other.
 pub fn put_all(text: &mut [u8], at: usize, bytes: &[u8]) -> usize
     ensures { λ r. ⌜ page r (now (text .exit)) ≡ puts (now (bytes .entry)) (page at (now (text .entry))) ⌝ }
 {
@@ -30,7 +31,7 @@ pub fn put_all(text: &mut [u8], at: usize, bytes: &[u8]) -> usize
     place
 }
 
-// The digit for a number below 10.
+// Returns the ASCII digit of `n`, which is below 10.
 fn digit(n: u64) -> u8
     requires { ⌜ n < 10 ⌝ }
     ensures { λ r. ⌜ r ≡ 48 + n ⌝ }
@@ -38,7 +39,7 @@ fn digit(n: u64) -> u8
     48 + n as u8
 }
 
-// The number in decimal: the digits in front of the last one, and then that one.
+// Stores `n` in decimal: the digits of `n / 10`, by a call of itself, and then the last one.
 pub fn put_decimal(text: &mut [u8], at: usize, n: u64) -> usize
     ensures { λ r. ⌜ page r (now (text .exit)) ≡ puts (decimal n) (page at (now (text .entry))) ⌝ }
 {
@@ -49,7 +50,7 @@ pub fn put_decimal(text: &mut [u8], at: usize, n: u64) -> usize
     put(text, last, digit(n % 10))
 }
 
-// A blank and the number.
+// Stores a blank, and then `n` in decimal.
 pub fn put_blanked(text: &mut [u8], at: usize, n: u64) -> usize
     ensures { λ r. ⌜ page r (now (text .exit)) ≡ puts (blankByte ∷ decimal n) (page at (now (text .entry))) ⌝ }
 {
@@ -57,13 +58,14 @@ pub fn put_blanked(text: &mut [u8], at: usize, n: u64) -> usize
     put_decimal(text, next, n)
 }
 
+// Returns the number of a byte, as a wider number.
 fn wide(byte: u8) -> u64
     ensures { λ r. ⌜ r ≡ byte ⌝ }
 {
     byte as u64
 }
 
-// The bytes as numbers, each after a blank. The loop keeps: those from i on, put where it stands, are all of them put where it began.
+// Stores each of `numbers` in decimal, each after a blank.
 fn put_all_blanked(text: &mut [u8], at: usize, numbers: &[u8]) -> usize
     ensures { λ r. ⌜ page r (now (text .exit)) ≡ puts (blanked (now (numbers .entry))) (page at (now (text .entry))) ⌝ }
 {
@@ -76,7 +78,7 @@ fn put_all_blanked(text: &mut [u8], at: usize, numbers: &[u8]) -> usize
     place
 }
 
-// The bytes as numbers, separated by one blank.
+// Stores `numbers` in decimal, separated by one blank.
 pub fn put_separated(text: &mut [u8], at: usize, numbers: &[u8]) -> usize
     ensures { λ r. ⌜ page r (now (text .exit)) ≡ puts (separated (now (numbers .entry))) (page at (now (text .entry))) ⌝ }
 {

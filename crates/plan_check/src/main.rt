@@ -9,11 +9,13 @@ ghost use Prim.Native.Nat.{_≤_};
 ghost use lib.ListN.{length};
 ghost use Rattle.calls.specs.Printing.{programText};
 
+// Writes `line` to standard error. Nothing can be done where that fails.
 fn complain(line: &[u8]) {
     io::write_all(STDERR_FILENO, line);
 }
 
-// The only write to standard output: all of document 01's text for the file, and nothing else.
+// Writes `text` to standard output. It is the only write there is to it, and its `requires` says that `text` is all of document 01's text for
+// `file`, and nothing else.
 fn print(file: &[u8], text: &[u8])
     requires { ⌜ now text ≡ programText (now file) ⌝ }
 {
@@ -22,7 +24,7 @@ fn print(file: &[u8], text: &[u8])
     }
 }
 
-// The file is the first n bytes.
+// Prints the answer for the file that is the first `n` bytes of `bytes`.
 fn answer_front(bytes: &[u8], n: usize)
     requires { ⌜ n ≤ length (now bytes) ⌝ }
 {
@@ -32,6 +34,7 @@ fn answer_front(bytes: &[u8], n: usize)
     print(file, &text[..size]);
 }
 
+// The same of the whole buffer.
 fn answer(bytes: &[u8; input::ROOM], n: usize)
     requires { ⌜ n ≤ 10319 ⌝ }
 {

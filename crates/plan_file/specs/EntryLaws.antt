@@ -72,7 +72,7 @@ module _ (bs : List ℕ) (v : fault bs .number ≡ 0) where
   pub rules-length : length (rulesOf bs) ≡ ruleCount bs
   rules-length = ap length rules-read ∙ length-every (λ i. grammarRule (ruleAt bs i)) (ruleCount bs) 0
 
-  -- rule i of the grammar is record i of the file
+  -- rule i of the grammar is record i of the file; like `finals-read` a theorem for a caller of the views, which nothing here cites
   pub rule-read : (i : ℕ) → i < ruleCount bs → getD (rulesOf bs) i noRule ≡ grammarRule (ruleAt bs i)
   rule-read i h =
       let z : 0 + i ≡ i = omega arith in

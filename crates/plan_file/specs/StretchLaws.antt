@@ -1,4 +1,5 @@
--- The stretch of a file is the bytes of its transition records, one after the other; and the transitions can be read off it. Assumes nothing.
+-- The stretch of a file is the bytes of its transition records, one after the other; and the transitions can be read off it. Theorems for the
+-- reader: they say what `stretch` is good for, and nothing cites them. Assumes nothing.
 use mathlib.Core.Path.{_≡_, refl, sym, ap, ap₂, _∙_}
 use mathlib.Core.List.{List, [], _∷_, _++_}
 use Prim.Native.Nat.{ℕ, zero, suc, _+_, _*_, _≤_, _<_}

@@ -1,7 +1,7 @@
-// Numbers from a seed.
+// Numbers that look random, and are the same in every run.
 ghost use Prim.Native.Nat.{_<_};
 
-// A number below the bound, from the next number of a linear congruential sequence.
+// Stores the next number of a linear congruential sequence in `seed`, and returns a number below `below` made from it.
 pub fn draw(seed: &mut u64, below: u64) -> u64
     requires { ⌜ 0 < below ⌝ }
     ensures { λ r. ⌜ r < below ⌝ }

@@ -1,4 +1,4 @@
-// The bytes of a file's records, and what a record's bytes say.
+// The eight bytes of a record, by its number in the file, and what they say: a rule, a transition or a final state.
 ghost use mathlib.Core.Path.{_≡_};
 ghost use Prim.Native.Nat.{_<_};
 ghost use Rattle.plan_file.specs.Answers.{saidBy};
@@ -10,6 +10,7 @@ use plan_file::Rule;
 use plan_file::TRANSITION_KIND;
 use plan_file::Transition;
 
+// Copies the bytes of record `i`, which is a whole record of `file`.
 fn bytes_at(file: &[u8], i: usize) -> [u8; 8]
     requires { ⌜ i < recordCount (now file) ⌝ }
     ensures { λ x. ⌜ x ≡ recordAt (now (file .entry)) i ⌝ }
@@ -27,7 +28,7 @@ fn bytes_at(file: &[u8], i: usize) -> [u8; 8]
     ]
 }
 
-// The bytes of record i, zeros past the last whole record.
+// Copies the bytes of record `i` of `file`; past the last whole record it returns zeros, so it asks nothing of `i`.
 pub fn whole_record(file: &[u8], i: usize) -> [u8; 8]
     ensures { λ x. ⌜ x ≡ wholeRecord (now (file .entry)) i ⌝ }
 {
@@ -37,7 +38,7 @@ pub fn whole_record(file: &[u8], i: usize) -> [u8; 8]
     bytes_at(file, i)
 }
 
-// The bytes read as a rule, whatever their kind.
+// Reads the bytes `r` as a rule, whatever their kind.
 pub fn rule_of(r: [u8; 8]) -> Rule
     ensures { λ x. ⌜ x ≡ ruleIn r ⌝ }
 {
@@ -49,7 +50,7 @@ pub fn rule_of(r: [u8; 8]) -> Rule
     }
 }
 
-// The bytes read as a transition, whatever their kind.
+// Reads the bytes `r` as a transition, whatever their kind.
 pub fn transition_of(r: [u8; 8]) -> Transition
     ensures { λ x. ⌜ x ≡ transitionIn r ⌝ }
 {
@@ -60,7 +61,7 @@ pub fn transition_of(r: [u8; 8]) -> Transition
     }
 }
 
-// What the bytes say, by their kind.
+// Reads the bytes `r` by their kind. Any kind but 1 and 2 reads as a final state: number 3 refuses a record of a kind that is not 1 to 3.
 pub fn record_of(r: [u8; 8]) -> Record
     ensures { λ x. ⌜ saidBy x ≡ recordOf r ⌝ }
 {

@@ -1,4 +1,6 @@
-// Relations on the states of an automaton as one word: the pair (a, b) is bit a * 8 + b.
+// Relations on the states of an automaton as one word: the pair (a, b) is bit a * 8 + b. Definitions in specs/: Digits (binary digits), Relation
+// (pairs, identity, composition, containment, rejecting), Representation (how the code holds one). Laws, for every number of states: DigitLaws,
+// RelationLaws, Product (composition by words), Counting (pairs), Masks (final states).
 ghost use mathlib.Core.Path.{_≡_};
 ghost use lib.Dec.{eqb};
 ghost use Rattle.relation.specs.Digits.{bit};

@@ -55,7 +55,7 @@ module _ (w old : List ℕ) where
   defined zero = ap numbersLine (take-at w (drop (length w) old) (length w) refl)
   defined (suc f) = refl
 
-  -- and of the code, from what is told
+  -- and of the code, from the numbers of the check
   told : (f len : ℕ) → (f ≡ 0 → len ≡ length w)
       → runBy (refusedBy (byNumber f (refused (refuse f 0)) (answered (length w)))) len (writtenBy w old (byNumber f (refused (refuse f 0)) (answered (length w)))) ≡ threeBy f w
   told zero len h = ap numbersLine (take-at w (drop (length w) old) len (sym (h refl)))

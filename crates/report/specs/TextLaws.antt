@@ -1,4 +1,4 @@
--- The lines of what is told of a check are the text of the check. Assumes nothing.
+-- The lines that the code makes from the numbers of a check are the text of the check. Assumes nothing.
 use mathlib.Core.Path.{_≡_, refl, sym, ap, _∙_}
 use mathlib.Core.Bool.{Bool, true, false, cond}
 use mathlib.Core.List.{List, [], _∷_, _++_, map}
@@ -55,7 +55,7 @@ none : journalFault 0 ≡ 8
 unfolding journalFault
 none = refl
 
--- so many rows, or none where a journal may not have them: the check answers the same
+-- the check answers the same over n rows and over the rows that are lent: n, or none where a journal may not have n
 pub same-check : (bs : List ℕ) (n : ℕ) (x : LentRow) (B : ℕ) → checkOf bs (length (journalOf n x)) B ≡ checkOf bs n B
 unfolding journalOf
 same-check bs n x B = by (leb n journalLimit) refl

@@ -12,18 +12,19 @@ const BUDGET: u64 = 1000000;
 
 const RUN: usize = 4096;
 
-// A buffer that every text fits into: 4 bytes for each step of a run, and some for what stands before them.
+// The size of a buffer that every text fits into: 4 bytes for each step of a run, and some for the lines before them.
 pub const TEXT: usize = 16640;
 
-// Every text fits.
+// Stores the lines of `told` at the front of `text`, with the run that is in `buffer`. Every text fits: it has at most
+// 163 + 4 * RUN bytes.
 fn put_whole(text: &mut [u8; TEXT], told: Told, buffer: &[u8; RUN]) -> usize
     ensures { λ r. ⌜ Stands (toldText told (now (buffer .entry))) (now (text .entry)) (now (text .exit)) r ⌝ }
 {
     lines::put_told(text, told, buffer)
 }
 
-// Checks the file over a journal of so many rows, each old before, with the budget, and puts what is to be printed at the front of the
-// text. Gives how many bytes that are.
+// Checks `file` over a journal of `rows` rows, each initialised to `old`, with a budget of `budget` joins, and stores what is to be printed
+// at the front of `text`. Returns its length.
 pub fn render(file: &[u8], rows: usize, old: Row, budget: u64, text: &mut [u8; TEXT]) -> usize
     ensures { λ r. ⌜ Stands (textOf (now (file .entry)) rows budget 4096) (now (text .entry)) (now (text .exit)) r ⌝ }
 {
@@ -32,7 +33,7 @@ pub fn render(file: &[u8], rows: usize, old: Row, budget: u64, text: &mut [u8; T
     put_whole(text, told, &buffer)
 }
 
-// What the check program prints of a file.
+// Stores what the check program prints of `file` at the front of `text`, and returns its length.
 pub fn answer(file: &[u8], text: &mut [u8; TEXT]) -> usize
     ensures { λ r. ⌜ Stands (programText (now (file .entry))) (now (text .entry)) (now (text .exit)) r ⌝ }
 {

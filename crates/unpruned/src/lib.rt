@@ -1,10 +1,11 @@
-// The relations of all words of each nonterminal, none left out: a search that shares no code with the inclusion check. Its list holds
-// pairs of a symbol, as a rule's body spells it, and the relation of a word of that symbol. A relation has pair (a, b) at bit a * 8 + b.
+// For tests only (cases_inclusion): lists the relations of all words of each nonterminal, none left out, with no code of the inclusion check.
+// The list holds pairs of a symbol, as a rule's body spells it, and the relation of a word of that symbol. A relation has pair (a, b) at bit
+// a * 8 + b. A list has room for 512 pairs, and a file for 24 records.
 pub mod rows;
 
 // ---- the file
 
-// Byte i of a record; 0 past the end.
+// Returns byte `i` of record `record`, or 0 past the end of `file`.
 fn byte(file: &[u8], record: usize, i: usize) -> u64 {
     let at = record % 32 * 8 + i % 8;
     if at < file.len() { wide(file[at]) } else { 0 }
@@ -24,7 +25,7 @@ fn with(relation: u64, a: u64, b: u64) -> u64 {
     relation | (1u64 << (a % 8 * 8 + b % 8))
 }
 
-// A relation with the pair of record r, where that is a transition by the letter.
+// Adds the pair of record `r` to `relation`, if that is a transition by the letter `code`.
 fn with_transition(relation: u64, file: &[u8], code: u64, r: usize) -> u64 {
     if (byte(file, r, 0) == 2) & (byte(file, r, 2) == code) {
         return with(relation, byte(file, r, 1), byte(file, r, 3));
@@ -32,7 +33,7 @@ fn with_transition(relation: u64, file: &[u8], code: u64, r: usize) -> u64 {
     relation
 }
 
-// The pairs (a, b) for which the letter has a transition from a to b.
+// Returns the relation of the letter `code`: the pairs (a, b) with a transition from a to b on it.
 fn letter(file: &[u8], code: u64) -> u64 {
     let mut relation: u64 = 0;
     for r in 0..24usize {
@@ -41,7 +42,7 @@ fn letter(file: &[u8], code: u64) -> u64 {
     relation
 }
 
-// A relation with the pair (a, c), where x has (a, b) and y has (b, c).
+// Adds the pair (a, c) to `relation`, if `x` has (a, b) and `y` has (b, c).
 fn with_linked(relation: u64, x: u64, y: u64, a: u64, b: u64, c: u64) -> u64 {
     if has(x, a, b) & has(y, b, c) {
         return with(relation, a, c);
@@ -49,6 +50,7 @@ fn with_linked(relation: u64, x: u64, y: u64, a: u64, b: u64, c: u64) -> u64 {
     relation
 }
 
+// Composes `x` and `y`: goes through all triples (a, b, c), one for each value of `i`.
 fn compose(x: u64, y: u64) -> u64 {
     let mut relation: u64 = 0;
     for i in 0..512u64 {
@@ -57,12 +59,12 @@ fn compose(x: u64, y: u64) -> u64 {
     relation
 }
 
-// The relation of the empty word: each state with itself.
+// Returns the relation of the empty word: each state with itself.
 fn identity() -> u64 {
     0x8040201008040201
 }
 
-// The relation of a word that has letter i of a buffer besides; no letter stands past the end.
+// Composes `relation` with that of letter `i` of `buffer`, if `buffer` is that long.
 fn with_letter(relation: u64, file: &[u8], buffer: &[u8], i: usize) -> u64 {
     if i < buffer.len() {
         return compose(relation, letter(file, wide(buffer[i])));
@@ -70,7 +72,7 @@ fn with_letter(relation: u64, file: &[u8], buffer: &[u8], i: usize) -> u64 {
     relation
 }
 
-// The relation of a word of so many letters that stands at the start of a buffer.
+// Returns the relation of the word that is the first `size` letters of `buffer`.
 pub fn word(file: &[u8], buffer: &[u8], size: usize) -> u64 {
     let mut relation = identity();
     for i in 0..size {
@@ -79,12 +81,12 @@ pub fn word(file: &[u8], buffer: &[u8], size: usize) -> u64 {
     relation
 }
 
-// Record r is a final state, and a pair leads to it from state 0.
+// Tests whether record `r` is a final state to which `relation` has a pair from state 0.
 fn accepting(file: &[u8], relation: u64, r: usize) -> bool {
     (byte(file, r, 0) == 3) & has(relation, 0, byte(file, r, 1))
 }
 
-// No pair leads from state 0 to a final state.
+// Tests whether `relation` has no pair from state 0 to a final state.
 fn rejecting(file: &[u8], relation: u64) -> bool {
     for r in 0..24usize {
         if accepting(file, relation, r) {
@@ -96,7 +98,7 @@ fn rejecting(file: &[u8], relation: u64) -> bool {
 
 // ---- the list
 
-// Pair i of the list, which has at most 512.
+// Returns pair `i` of the list `found`.
 fn pair_at(found: &[[u64; 2]; 512], i: usize) -> [u64; 2] {
     found[i % 512]
 }
@@ -105,7 +107,7 @@ fn same_pair(x: [u64; 2], y: [u64; 2]) -> bool {
     (x[0] == y[0]) & (x[1] == y[1])
 }
 
-// The pair is among the first ones, of which there are so many.
+// Tests whether `pair` is among the first `count` pairs of `found`.
 pub fn listed(found: &[[u64; 2]; 512], count: usize, pair: [u64; 2]) -> bool {
     for i in 0..count {
         if same_pair(pair_at(found, i), pair) {
@@ -115,7 +117,7 @@ pub fn listed(found: &[[u64; 2]; 512], count: usize, pair: [u64; 2]) -> bool {
     false
 }
 
-// Puts a pair on the list where it is new, and says how many there are then.
+// Appends the pair of `symbol` and `relation` to the `count` pairs of `found`, if it is new and there is room. Returns the new count.
 fn add(found: &mut [[u64; 2]; 512], count: usize, symbol: u64, relation: u64) -> usize {
     if listed(found, count, [symbol, relation]) {
         return count;
@@ -127,7 +129,7 @@ fn add(found: &mut [[u64; 2]; 512], count: usize, symbol: u64, relation: u64) ->
     count
 }
 
-// A letter with its own relation; nothing for a nonterminal.
+// Appends `symbol` with its own relation, if it is a letter.
 fn add_letter(found: &mut [[u64; 2]; 512], count: usize, file: &[u8], symbol: u64) -> usize {
     if symbol < 128 {
         return add(found, count, symbol, letter(file, symbol));
@@ -135,7 +137,7 @@ fn add_letter(found: &mut [[u64; 2]; 512], count: usize, file: &[u8], symbol: u6
     count
 }
 
-// A rule of the file; its head is the symbol that stands for the nonterminal in a body.
+// A rule of the file. `head` is the symbol that spells its nonterminal in a body.
 struct Rule {
     head: u64,
     size: u64,
@@ -143,7 +145,7 @@ struct Rule {
     second: u64,
 }
 
-// Record r read as a rule.
+// Reads record `r` as a rule.
 fn read_rule(file: &[u8], r: usize) -> Rule {
     Rule {
         head: 128 + byte(file, r, 1) % 64,
@@ -153,7 +155,7 @@ fn read_rule(file: &[u8], r: usize) -> Rule {
     }
 }
 
-// What stands on the list before any rule is used twice: the empty word of a rule with no symbol, and the letters of a rule's body.
+// Appends what `rule` gives by itself: the empty word of a body with no symbol, and the letters of its body.
 fn begin(found: &mut [[u64; 2]; 512], count: usize, file: &[u8], rule: Rule) -> usize {
     if rule.size == 0 {
         return add(found, count, rule.head, identity());
@@ -165,7 +167,7 @@ fn begin(found: &mut [[u64; 2]; 512], count: usize, file: &[u8], rule: Rule) -> 
     add_letter(found, more, file, rule.second)
 }
 
-// The rule's head with the composition of two relations, where their symbols are those of the body.
+// Appends the head of `rule` with the composition of the two relations, if the symbols of `left` and `right` are its body.
 fn spelled(
     found: &mut [[u64; 2]; 512],
     count: usize,
@@ -179,7 +181,7 @@ fn spelled(
     count
 }
 
-// A body of two symbols: a pair of the list with pair j, in both orders.
+// For a body of two symbols: tries `pair` with pair `j` of the list, in both orders.
 fn spelled_both(
     found: &mut [[u64; 2]; 512],
     count: usize,
@@ -192,7 +194,7 @@ fn spelled_both(
     spelled(found, more, rule, other, pair)
 }
 
-// The same with each of the first pairs, of which there are so many.
+// The same with each of the first `firsts` pairs of the list.
 fn spelled_with(
     found: &mut [[u64; 2]; 512],
     count: usize,
@@ -207,7 +209,7 @@ fn spelled_with(
     count
 }
 
-// What a rule gives with pair k of the list and those before it.
+// Appends what `rule` gives with pair `k` of the list and those before it.
 fn by_rule(found: &mut [[u64; 2]; 512], count: usize, rule: Rule, k: usize) -> usize {
     if 512 <= k {
         return count;
@@ -222,7 +224,7 @@ fn by_rule(found: &mut [[u64; 2]; 512], count: usize, rule: Rule, k: usize) -> u
     count
 }
 
-// What record r gives at a turn, where it is a rule: at turn 0 what begin puts on the list, and at turn k + 1 what the rule gives with
+// Appends what record `r` gives at turn `turn`, if it is a rule: at turn 0 what `begin` appends, and at turn k + 1 what the rule gives with
 // pair k and those before it.
 fn by_record(
     found: &mut [[u64; 2]; 512],
@@ -241,7 +243,7 @@ fn by_record(
     by_rule(found, count, rule, turn - 1)
 }
 
-// What the records of the file give at a turn.
+// Appends what all records of `file` give at turn `turn`.
 fn by_records(found: &mut [[u64; 2]; 512], count: usize, file: &[u8], turn: usize) -> usize {
     let mut count = count;
     for r in 0..24usize {
@@ -250,7 +252,8 @@ fn by_records(found: &mut [[u64; 2]; 512], count: usize, file: &[u8], turn: usiz
     count
 }
 
-// Lists every symbol with every relation of its words, and says how many pairs these are. Where the list is full, some may be missing.
+// Lists every symbol with every relation of its words, and returns the number of pairs. Turn k + 1 takes up pair k, so each two pairs meet
+// once. If the list is full (512), some may be missing.
 pub fn search(file: &[u8], found: &mut [[u64; 2]; 512]) -> usize {
     let mut count: usize = 0;
     for turn in 0..513usize {
@@ -261,14 +264,15 @@ pub fn search(file: &[u8], found: &mut [[u64; 2]; 512]) -> usize {
     count
 }
 
-// What the list says: nonterminal 0 has a word, one of its words is turned away, and so many relations belong to nonterminals.
+// What a list says: whether nonterminal 0 has a word, whether one of its words is turned away, and how many relations belong to
+// nonterminals.
 pub struct Verdict {
     pub words: bool,
     pub broken: bool,
     pub relations: u64,
 }
 
-// What a list says that has one pair more.
+// Adds `pair` to what the list says.
 fn with_pair(said: Verdict, file: &[u8], pair: [u64; 2]) -> Verdict {
     if pair[0] < 128 {
         return said;
@@ -280,6 +284,7 @@ fn with_pair(said: Verdict, file: &[u8], pair: [u64; 2]) -> Verdict {
     }
 }
 
+// Returns what the first `count` pairs of `found` say.
 pub fn decide(file: &[u8], found: &[[u64; 2]; 512], count: usize) -> Verdict {
     let mut said = Verdict {
         words: false,

@@ -1,17 +1,17 @@
-// The rows that a check leaves, held against the list of the unpruned search and against those in another journal.
+// For tests only: compares the rows that a check leaves, each as eight numbers, with the list of the unpruned search and with another journal.
 
-// The pair of the list that a row stands for.
+// Returns the pair of the list that `row` is: its nonterminal's symbol and its relation.
 fn pair_of(row: [u64; 8]) -> [u64; 2] {
     [128 + row[0] % 64, row[2]]
 }
 
-// A live row is of the pair's symbol, and its relation is contained in the pair's.
+// Tests whether `row` is live, has the symbol of `pair`, and its relation is contained in that of `pair`.
 fn below(row: [u64; 8], pair: [u64; 2]) -> bool {
     let own = pair_of(row);
     (row[7] == 0) & (own[0] == pair[0]) & ((own[1] | pair[1]) == pair[1])
 }
 
-// Row i is below the pair; no row stands past the end.
+// Tests whether row `i` of `journal` is below `pair`; past the end no row is.
 fn below_at(journal: &[[u64; 8]], i: usize, pair: [u64; 2]) -> bool {
     if i < journal.len() {
         let row = journal[i];
@@ -20,7 +20,7 @@ fn below_at(journal: &[[u64; 8]], i: usize, pair: [u64; 2]) -> bool {
     false
 }
 
-// Some row but the one left out is below the pair.
+// Tests whether some of the first `used` rows, other than row `left_out`, is below `pair`.
 fn has_below(journal: &[[u64; 8]], used: usize, left_out: usize, pair: [u64; 2]) -> bool {
     for i in 0..used {
         if (i != left_out) & below_at(journal, i, pair) {
@@ -30,7 +30,7 @@ fn has_below(journal: &[[u64; 8]], used: usize, left_out: usize, pair: [u64; 2])
     false
 }
 
-// Row i has a relation that is on the list for its nonterminal, and a live one has no other below it.
+// Tests whether the relation of row `i` is on the list for its nonterminal, and, if the row is live, that no other live row is below it.
 fn sound_at(
     journal: &[[u64; 8]],
     used: usize,
@@ -46,7 +46,7 @@ fn sound_at(
     crate::listed(found, count, pair) & ((row[7] != 0) | !has_below(journal, used, i, pair))
 }
 
-// The used rows have relations that are on the list, and the live ones are an antichain.
+// Tests whether the first `used` rows have relations that are on the list, and the live ones are an antichain.
 pub fn sound(journal: &[[u64; 8]], used: usize, found: &[[u64; 2]; 512], count: usize) -> bool {
     for i in 0..used {
         if !sound_at(journal, used, i, found, count) {
@@ -56,12 +56,12 @@ pub fn sound(journal: &[[u64; 8]], used: usize, found: &[[u64; 2]; 512], count: 
     true
 }
 
-// A pair of a nonterminal has a live row below it.
+// Tests whether `pair` has a live row below it, if its symbol is a nonterminal.
 fn covered(journal: &[[u64; 8]], used: usize, pair: [u64; 2]) -> bool {
     (pair[0] < 128) | has_below(journal, used, used, pair)
 }
 
-// Each relation on the list of a nonterminal has a live row below it.
+// Tests whether each relation that the list has for a nonterminal has a live row below it.
 pub fn covering(journal: &[[u64; 8]], used: usize, found: &[[u64; 2]; 512], count: usize) -> bool {
     for i in 0..count {
         if !covered(journal, used, crate::pair_at(found, i)) {
@@ -71,6 +71,7 @@ pub fn covering(journal: &[[u64; 8]], used: usize, found: &[[u64; 2]; 512], coun
     true
 }
 
+// Tests whether two rows are the same in all fields.
 pub fn same_row(x: [u64; 8], y: [u64; 8]) -> bool {
     (x[0] == y[0])
         & (x[1] == y[1])
@@ -82,7 +83,7 @@ pub fn same_row(x: [u64; 8], y: [u64; 8]) -> bool {
         & (x[7] == y[7])
 }
 
-// Both journals have a row i, and the two are the same.
+// Tests whether both journals have a row `i`, and the two are the same.
 fn same_at(one: &[[u64; 8]], other: &[[u64; 8]], i: usize) -> bool {
     if one.len() <= i {
         return false;
@@ -95,7 +96,7 @@ fn same_at(one: &[[u64; 8]], other: &[[u64; 8]], i: usize) -> bool {
     same_row(x, y)
 }
 
-// The rows of two journals from one row on and before another are the same.
+// Tests whether two journals have the same rows from row `from` on and before row `end`.
 pub fn same(one: &[[u64; 8]], other: &[[u64; 8]], from: usize, end: usize) -> bool {
     for i in from..end {
         if !same_at(one, other, i) {

@@ -1,4 +1,6 @@
-// The views of a file: how many records of each kind it has, and a record read as a rule, as a transition or as a final state.
+// The views of a file: counts of its records by kind, and a record by its number, read as a rule, as a transition or as a final state. Each
+// takes any bytes: only whole records are counted, and a record past the last one reads as zeros. The product calls `rule_count`,
+// `transition_count` and the three readings; `record_count` and `final_count` complete document 01's views, and only tests call them.
 ghost use mathlib.Core.Path.{_≡_};
 ghost use Prim.Native.Nat.{_≤_};
 ghost use Rattle.plan_file.specs.Entries.{ruleCount, transitionCount, finalCount, ruleAt, transitionAt, finalAt};
@@ -9,9 +11,9 @@ use plan_file::Rule;
 use plan_file::TRANSITION_KIND;
 use plan_file::Transition;
 
-// ---- how many there are, of the whole records, whatever else they hold
+// ---- counts, of the whole records, whatever else they hold
 
-// How many of the first n records have the kind.
+// Counts the records of `kind` among the first `n` records of `file`.
 fn count_of(file: &[u8], kind: u8, n: usize) -> usize
     requires { ⌜ n ≤ recordCount (now file) ⌝ }
     ensures { λ x. ⌜ x ≡ countOf (now (file .entry)) kind n ⌝ }
@@ -27,24 +29,28 @@ fn count_of(file: &[u8], kind: u8, n: usize) -> usize
     count
 }
 
+// Counts the whole records of `file`.
 pub fn record_count(file: &[u8]) -> usize
     ensures { λ x. ⌜ x ≡ recordCount (now (file .entry)) ⌝ }
 {
     file.len() / 8
 }
 
+// Counts the rules of `file`.
 pub fn rule_count(file: &[u8]) -> usize
     ensures { λ x. ⌜ x ≡ ruleCount (now (file .entry)) ⌝ }
 {
     count_of(file, RULE_KIND, file.len() / 8)
 }
 
+// Counts the transitions of `file`.
 pub fn transition_count(file: &[u8]) -> usize
     ensures { λ x. ⌜ x ≡ transitionCount (now (file .entry)) ⌝ }
 {
     count_of(file, TRANSITION_KIND, file.len() / 8)
 }
 
+// Counts the final states of `file`.
 pub fn final_count(file: &[u8]) -> usize
     ensures { λ x. ⌜ x ≡ finalCount (now (file .entry)) ⌝ }
 {
@@ -53,21 +59,21 @@ pub fn final_count(file: &[u8]) -> usize
 
 // ---- a record by its number
 
-// Record i read as a rule.
+// Reads record `i` of `file` as a rule, whatever its kind. The rules of a file that is not refused are its first records.
 pub fn rule_at(file: &[u8], i: usize) -> Rule
     ensures { λ x. ⌜ x ≡ ruleAt (now (file .entry)) i ⌝ }
 {
     record_bytes::rule_of(record_bytes::whole_record(file, i))
 }
 
-// Record i read as a transition. The file's own transitions stand after its rules.
+// Reads record `i` of `file` as a transition, whatever its kind. The transitions of a file that is not refused come after its rules.
 pub fn transition_at(file: &[u8], i: usize) -> Transition
     ensures { λ x. ⌜ x ≡ transitionAt (now (file .entry)) i ⌝ }
 {
     record_bytes::transition_of(record_bytes::whole_record(file, i))
 }
 
-// Record i read as a final state. The file's own final states stand after its transitions.
+// Reads record `i` of `file` as a final state, whatever its kind. The final states of a file that is not refused come last.
 pub fn final_at(file: &[u8], i: usize) -> u8
     ensures { λ x. ⌜ x ≡ finalAt (now (file .entry)) i ⌝ }
 {

@@ -1,4 +1,4 @@
--- A call of `row_parts` as one step of a walk: the rules are shared, and the row is passed by value.
+-- A call of `row_parts` as one step of a walk: the rules are shared, and the row is passed by value. The letters are those of Writers.
 -- Assumes `Given`.
 use mathlib.Core.Path.{_≡_}
 use Prim.Native.Nat.{ℕ, _<_}

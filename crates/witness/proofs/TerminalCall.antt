@@ -1,4 +1,5 @@
--- A call of `write_terminal` as one step of a walk: the buffer is lent to it whole, and comes back with the terminal at its front.
+-- A call of `write_terminal` as one step of a walk: the buffer is lent to it whole, and comes back with the terminal at its front. The letters
+-- are those of Writers.
 -- Assumes `Given`.
 use mathlib.Core.Path.{_≡_, refl, ap}
 use Prim.Native.Nat.{ℕ, _<_, _≤_, _^_}

@@ -2,6 +2,9 @@
 --     writer X         the signature, where the third argument has the type X
 --     Writer X to      the contract: what is written is the part `to x`
 --     write-call       the buffer's part from n on is lent to a writer, and comes back with the word at its front
+-- The letters, here and in the walks: j and r are the journal and the rules as they were passed, κj and κr their lifetimes, qj and qr the shares
+-- of the tokens; x is the third argument, us its machine values, gx that they are; the buffer has the lifetime κ, the share q, the name γ, the
+-- address (b, o), the bytes ys and the length m.
 -- Assumes `Given`.
 use mathlib.Core.Path.{_≡_, refl, ap}
 use Prim.Native.Nat.{ℕ, _<_, _^_}

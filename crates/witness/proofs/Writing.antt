@@ -2,6 +2,7 @@
 --     Argument         what a walk knows of the type X of the third argument: it owns nothing, and nothing is said of it at exit.        ps     the parameters
 --     opened, closed   what there is on entry as `Around` has it, and `Around` at the word's end gives the end of the walk
 --     at-measure       a walk from `Around` shows a writer's contract where the measure is t
+-- The letters are those of Writers.
 -- Assumes `Given`.
 use mathlib.Core.Path.{_≡_, refl}
 use Prim.Native.Nat.{ℕ, _<_, _^_}

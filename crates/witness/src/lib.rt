@@ -1,4 +1,5 @@
-// Writing the word behind a journal row (document 01, "Writing a run").
+// Writing the word behind a journal row (document 01, "Writing a run"): the row writer and the symbol writer call each other, and the row
+// number falls. Nothing is tested on the way: the caller has tested that the rows fit and that the buffer has room.
 use calls::Row;
 ghost use mathlib.Core.Path.{_≡_};
 ghost use Prim.Native.Nat.{_≤_, _<_};
@@ -8,9 +9,10 @@ ghost use Rattle.plan_file.specs.Views.{symbolOf};
 ghost use Rattle.calls.specs.Rows.{rowOf, entryOf};
 ghost use Rattle.witness.specs.Parts.{nothing, olderRow, partOf, bodyParts, partsOf, ownWord, partWord, Ready, Wrote};
 
-// ---- what a row hands over to. A rule: head, body length, the bytes of its symbols.
+// ---- what a row hands over to. A rule is four bytes: its head, its body's length, its two symbols.
 
-// A symbol of a row's body: the older row that a nonterminal points to, or a terminal; or nothing.
+// One symbol of a row's body. If `older`, it is a nonterminal and `row` is the older row that it points to; if `terminal`, it is `symbol`;
+// otherwise there is no symbol.
 pub struct Part {
     pub older: bool,
     pub terminal: bool,
@@ -18,12 +20,13 @@ pub struct Part {
     pub row: usize,
 }
 
-// From left to right.
+// The symbols of a body, from left to right.
 struct Parts {
     first: Part,
     second: Part,
 }
 
+// Returns the part that is no symbol.
 fn no_part() -> Part
     ensures { λ r. ⌜ r ≡ nothing ⌝ }
 {
@@ -35,6 +38,7 @@ fn no_part() -> Part
     }
 }
 
+// Returns the part of `symbol`, whose pointer in the row is `pointer`.
 fn symbol_part(symbol: u8, pointer: u64) -> Part
     ensures { λ r. ⌜ r ≡ partOf (symbolOf symbol) pointer ⌝ }
 {
@@ -54,6 +58,7 @@ fn symbol_part(symbol: u8, pointer: u64) -> Part
     }
 }
 
+// Returns the parts of the body of `rule`, whose pointers in the row are `left` and `right`.
 fn body_parts(rule: [u8; 4], left: u64, right: u64) -> Parts
     ensures { λ r. ⌜ r ≡ bodyParts (entryOf rule .body) left right ⌝ }
 {
@@ -75,7 +80,8 @@ fn body_parts(rule: [u8; 4], left: u64, right: u64) -> Parts
     }
 }
 
-// A row of length 0 hands over to nothing, however many rules stand behind it.
+// Returns what `row` hands over to. A row of length 0 hands over to nothing, however many rows its pointers lead to: so the time to write a
+// word is bounded by its length.
 fn row_parts(rules: &[[u8; 4]], row: Row) -> Parts
     requires { ⌜ row .rule < length (now rules) ⌝ }
     ensures { λ r. ⌜ r ≡ partsOf (map entryOf (now (rules .entry))) (rowOf row) ⌝ }
@@ -94,7 +100,7 @@ fn row_parts(rules: &[[u8; 4]], row: Row) -> Parts
 
 // ---- writing
 
-// Writes a terminal as itself, and nothing where there is none.
+// Stores the terminal of `x` in the first byte of `buffer`, if it is one. Returns how many bytes were stored.
 fn write_terminal(x: Part, buffer: &mut [u8]) -> usize
     requires { ⌜ length (ownWord x) ≤ length (now buffer) ⌝ }
     ensures { λ n. ⌜ Wrote (ownWord x) (now (buffer .entry)) (now (buffer .exit)) n ⌝ }
@@ -106,7 +112,8 @@ fn write_terminal(x: Part, buffer: &mut [u8]) -> usize
     0
 }
 
-// Writes the word behind a row: the first symbol's, and the second's into what remains of the buffer.
+// Writes the word behind row `row` to `buffer`: the first symbol's, and then the second's into what remains of the buffer. Returns its
+// length. The proof is a walk.
 fn write_row(journal: &[Row], rules: &[[u8; 4]], row: usize, buffer: &mut [u8]) -> usize
     requires { ⌜ Ready (map entryOf (now rules)) (map rowOf (now journal)) (olderRow row) (length (now buffer)) ⌝ }
     ensures { λ n. ⌜ Wrote (partWord (map entryOf (now (rules .entry))) (map rowOf (now (journal .entry))) (olderRow row)) (now (buffer .entry)) (now (buffer .exit)) n ⌝ }
@@ -117,7 +124,8 @@ fn write_row(journal: &[Row], rules: &[[u8; 4]], row: usize, buffer: &mut [u8]) 
     n + m
 }
 
-// Writes a symbol: a terminal as itself, a nonterminal as the word behind the older row.
+// Writes the symbol `x` to `buffer`: a terminal as itself, a nonterminal as the word behind its older row. Returns how many bytes were
+// written. The proof is a walk.
 pub fn write_symbol(journal: &[Row], rules: &[[u8; 4]], x: Part, buffer: &mut [u8]) -> usize
     requires { ⌜ Ready (map entryOf (now rules)) (map rowOf (now journal)) x (length (now buffer)) ⌝ }
     ensures { λ n. ⌜ Wrote (partWord (map entryOf (now (rules .entry))) (map rowOf (now (journal .entry))) x) (now (buffer .entry)) (now (buffer .exit)) n ⌝ }

@@ -28,14 +28,14 @@ module _ {E : Type 0} (A : Algebra E) where
   Antichain [] = Unit {0}
   Antichain (r ∷ rows) = ((s : Row E) → In s rows → Incomparable r s) × Antichain rows
 
-  -- of two rows by number
+  -- two rows of an antichain, by their numbers, are incomparable
   pub antichain-at : (d : Row E) (rows : List (Row E)) → Antichain rows → (i j : ℕ) → i < j → j < length rows → Incomparable (getD rows i d) (getD rows j d)
   antichain-at d [] a i j l h = absurd (not-suc-le-zero h)
   antichain-at d (r ∷ rows) a i zero l h = absurd (not-suc-le-zero l)
   antichain-at d (r ∷ rows) a zero (suc j) l h = a .0 (getD rows j d) (getD-in d rows j (le-of-suc-le-suc h))
   antichain-at d (r ∷ rows) a (suc i) (suc j) l h = antichain-at d rows (a .1) i j (le-of-suc-le-suc l) (le-of-suc-le-suc h)
 
-  -- a row that lives on in pass h + 1 lived, and is not larger
+  -- a row that is live after the retirements for c in pass h + 1 was live before, and is not larger than c
   lives-on : (h p : ℕ) (c : Candidate E) (r : Row E) → liveOf p (retire (A .below) (suc h) c r) ≡ true → (liveOf p r ≡ true) × (larger (A .below) c r ≡ false)
   unfolding liveOf live retire
   lives-on h p c r l = by (larger (A .below) c r) refl

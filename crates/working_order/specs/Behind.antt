@@ -6,7 +6,8 @@ use lib.ListN.{getD}
 use Rattle.language.specs.Grammar.{Symbol, terminal, nonterminal, Body, empty, one, two, Rule, noRule}
 use Rattle.working_order.specs.Journal.{Row}
 
--- how W is spelled: words in the base check. The row's effect says how two parts are put together
+-- what stands for words, of the type W: words themselves in the base check. `joined` is given the row's effect, which may say how two parts
+-- are put together
 pub record Spelling (E W : Type 0) : Type 0 where
   pub nothing : W
   pub single : ℕ → W
@@ -14,7 +15,7 @@ pub record Spelling (E W : Type 0) : Type 0 where
   pub size : W → ℕ
 
 module _ {E W : Type 0} (S : Spelling E W) where
-  -- a symbol, where the row that it points to is i and the words of the rows are done
+  -- the word of a symbol that points to row i; `done` has the words of the rows so far
   unfoldable pub symbolWord : List W → Symbol → ℕ → W
   symbolWord done (terminal c) i = S .single c
   symbolWord done (nonterminal x) i = getD done i (S .nothing)
@@ -27,7 +28,7 @@ module _ {E W : Type 0} (S : Spelling E W) where
   unfoldable pub rowWord : List Rule → List W → Row E → W
   rowWord rules done r = bodyWord done (getD rules (r .rule) noRule .body) (r .effect) (r .left) (r .right)
 
-  -- the words of the rows from the first on, after those that are done
+  -- the words of the rows, one after the other; `done` has those of the rows before
   unfoldable pub wordsFrom : List Rule → List W → List (Row E) → List W
   wordsFrom rules done [] = done
   wordsFrom rules done (r ∷ rows) = wordsFrom rules (done ++ (rowWord rules done r ∷ [])) rows

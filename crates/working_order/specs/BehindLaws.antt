@@ -31,7 +31,7 @@ module _ {E W : Type 0} (S : Spelling E W) (rules : List Rule) where
   words-more done [] more = refl
   words-more done (r ∷ rows) more = words-more (done ++ (rowWord S rules done r ∷ [])) rows more
 
-  -- what is done stays
+  -- the words of earlier rows stay as they are
   words-done : (done : List W) (rows : List (Row E)) (i : ℕ) → i < length done → getD (wordsFrom S rules done rows) i (S .nothing) ≡ getD done i (S .nothing)
   unfolding wordsFrom
   words-done done [] i h = refl

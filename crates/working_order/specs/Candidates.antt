@@ -30,16 +30,16 @@ module _ {E : Type 0} where
   liveRows x i (r ∷ rows) =
       cond (liveOf x r) (record { effect = r .effect; pointer = i; len = r .len } ∷ liveRows x (suc i) rows) (liveRows x (suc i) rows)
 
-  -- of a body of one symbol, in rule r of the nonterminal x
+  -- the candidate of a body of one symbol, in rule r of the nonterminal x
   unfoldable pub sole : ℕ → ℕ → Choice E → Candidate E
   sole x r c = record { head = x; rule = r; effect = c .effect; left = c .pointer; right = absent; len = c .len }
 
-  -- of a body of two symbols, whose effects form e
+  -- the candidate of a body of two symbols, whose effects form e
   unfoldable pub paired : ℕ → ℕ → Choice E → Choice E → E → Candidate E
   paired x r c d e = record { head = x; rule = r; effect = e; left = c .pointer; right = d .pointer; len = capped (c .len + d .len) }
 
 module _ {E : Type 0} (M : Forms E) where
-  -- of an empty body
+  -- the candidate of an empty body
   unfoldable pub bare : ℕ → ℕ → Candidate E
   bare x r = record { head = x; rule = r; effect = M .ofEmpty; left = absent; right = absent; len = 0 }
 

@@ -6,7 +6,7 @@ use native.Mathlib.Decide.{le-ind}
 use Rattle.language.specs.Grammar.{Symbol, terminal, nonterminal, Body, empty, one, two, Rule}
 use Rattle.working_order.specs.Derivation.{Values, SymbolGives, Gives, Yields}
 
--- a relation that goes along with the three: each value on the left has one on the right
+-- a relation between values that the three ways of making a value keep: each value on the left has one on the right
 pub record Along {X X′ : Type 0} (K : Values X) (K′ : Values X′) (R : X → X′ → Type 0) : Type 0 where
   pub ofEmpty : (v : X) → K .IsEmpty v → (v′ : X′) × K′ .IsEmpty v′ × R v v′
   pub ofTerminal : (c : ℕ) (v : X) → K .IsTerminal c v → (v′ : X′) × K′ .IsTerminal c v′ × R v v′

@@ -20,16 +20,16 @@ abbrev pub effectValues : {E : Type 0} → Algebra E → Values E
 effectValues A = record { IsEmpty = λ e. e ≡ A .forms .ofEmpty; IsTerminal = λ c e. e ≡ A .forms .ofTerminal c; IsPair = λ x y e. In e (A .forms .ofPair x y) }
 
 module _ {E : Type 0} (A : Algebra E) where
-  -- the set P covers e, at p
+  -- the set P has an effect of p that is contained in e
   abbrev pub Above : (ℕ → E → Type 0) → ℕ → E → Type 0
   Above P p e = (d : E) × P p d × (A .below d e ≡ true)
 
-  -- P after Q: what the rules form from Q, P covers
+  -- P covers whatever the rules form from Q
   abbrev pub Follows : List Rule → (ℕ → E → Type 0) → (ℕ → E → Type 0) → Type 0
   Follows rules Q P = (x : Rule) → In x rules → (e : E) → Gives (effectValues A) Q (x .body) e → Above P (x .head) e
 
 module _ {E : Type 0} (A : Algebra E) (L : Laws A) where
-  -- with smaller effects, a rule forms a smaller one
+  -- from smaller effects a rule forms a smaller effect
   pub smaller : Along (effectValues A) (effectValues A) (λ e d. A .below d e ≡ true)
   smaller =
       record {
@@ -74,7 +74,7 @@ module _ {E : Type 0} where
       either false here c cs m = m
 
 module _ {E : Type 0} (A : Algebra E) (rows : List (Row E)) where
-  -- each rule's candidates are the pass's
+  -- the candidates of each rule are among those of the pass
   pub passCandidates-in : (x : Rule) (rules : List Rule) (i : ℕ) → In x rules
       → (r : ℕ) × ((c : Candidate E) → In c (bodyCandidates (A .forms) rows (x .head) r (x .body)) → In c (passCandidates (A .forms) rows i rules))
   unfolding passCandidates
@@ -109,7 +109,7 @@ module _ {E : Type 0} (A : Algebra E) (rows : List (Row E)) where
         refl,
       )
 
-  -- rows that cover the pass's candidates follow these rows
+  -- rows that cover every candidate of a pass cover whatever the rules form from the live rows of its beginning
   pub follows : (rules : List Rule) (after : List (Row E)) → ((c : Candidate E) → In c (passCandidates (A .forms) rows 0 rules) → Covered A (c .head) (c .effect) after)
       → Follows A rules (LiveIn rows) (LiveIn after)
   follows rules after all x m e g =

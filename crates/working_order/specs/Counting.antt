@@ -69,6 +69,7 @@ module _ {E : Type 0} (A : Algebra E) (m : ℕ) (few : (x y : E) → length (A .
 
 -- ---- the join at which a check stops
 
+-- why a candidate c stopped the check (`Found`) says whether it is a join: from t to u the joins rise by `lastJoin v`
 found-joins : {E : Type 0} (A : Algebra E) (J B k : ℕ) (v : Verdict) (i : ℕ) (c : Candidate E) (t u : Progress E) → Found A J B k v i c t u → u .joins ≡ t .joins + lastJoin v
 found-joins {E} A J B k holds i c t u f = absurd f
 found-joins {E} A J B k broken i c t u f = ap (λ (x : Progress E). x .joins) (f .5) ∙ sym (add-one (t .joins))
@@ -78,7 +79,7 @@ found-joins {E} A J B k spent i c t u f = ap (λ (x : Progress E). x .joins) (f 
 -- ---- the whole check
 
 module _ {E : Type 0} (A : Algebra E) (m : ℕ) (few : (x y : E) → length (A .forms .ofPair x y) ≤ m) (pos-m : 1 ≤ m) (rules : List Rule) (J B : ℕ) (pos : 1 ≤ J) where
-  -- joins of a pass at most
+  -- the most joins that a pass can make
   abbrev pub per : ℕ
   per = length rules * (J * (J * m))
 
@@ -104,7 +105,8 @@ module _ {E : Type 0} (A : Algebra E) (m : ℕ) (few : (x y : E) → length (A .
     pub rows-bound : a .used ≤ J
     pub pass-bound : a .pass ≤ suc J
 
-  -- after h passes, with f more to come at most
+  -- from the progress s after h passes, with at most f passes more. The measure is f: J < f + used rows, and each pass that is not the last
+  -- adds a row
   passes-exact : (f h : ℕ) (s : Progress E) → Begun A rules J B h s → J < f + length (s .rows) → length (s .rows) ≤ J → h ≤ length (s .rows) → s .joins ≤ h * per
       → Exact (passes A rules J B f (suc h) s)
   unfolding passes onePass answer
@@ -115,14 +117,14 @@ module _ {E : Type 0} (A : Algebra E) (m : ℕ) (few : (x y : E) → length (A .
       cs : List (Candidate E)
       cs = passCandidates (A .forms) (s .rows) 0 rules
 
-      -- this pass's joins
+      -- the joins up to and in this pass
       up : (x : ℕ) → x ≤ s .joins + length cs → x ≤ suc h * per
       up x e = le-trans e (le-trans (add-le-add j (length-passCandidates A m few pos-m (s .rows) J pos l 0 rules)) (le-of-eq (sym (suc-mul h per))))
 
       top : (x : ℕ) → x ≤ s .joins + length cs → x ≤ suc J * per
       top x e = le-trans (up x e) (mul-le-mul-right per (suc-le-suc (le-trans a l)))
 
-      -- how far the walk came before it stopped
+      -- the candidates before the one at which the walk stopped were one join each
       came : (v : Verdict) (i : ℕ) (u : Progress E) (p : Halt A J B (suc h) cs s v i u) → Went J (length (p .before)) s (p .reached)
       came v i u p = halt-went A J B (suc h) cs s v i u p l
 

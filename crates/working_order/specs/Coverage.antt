@@ -79,6 +79,6 @@ module _ {E : Type 0} (A : Algebra E) where
               within = L .below-trans (c .effect) (v .row .effect) e s (v .within);
             }
 
-    -- and a candidate that would be dropped still would be
+    -- and a candidate that a live row would drop is still one that a live row would drop
     pub dropped-added : (k : ℕ) (d c : Candidate E) (rows : List (Row E)) → dropped (A .below) c rows ≡ true → dropped (A .below) c (added (A .below) k d rows) ≡ true
     dropped-added k d c rows h = covered-dropped c (added (A .below) k d rows) (covered-added k d (c .head) (c .effect) rows (dropped-covered c rows h))

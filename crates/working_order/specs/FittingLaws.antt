@@ -88,7 +88,7 @@ module _ {E : Type 0} (M : Forms E) (rows : List (Row E)) where
         size = length-fits i (bodyAt rules i) (r .left) (r .right) (r .len) (and-snd (a && b) d f);
       }
 
--- ---- the forms stand only in the row that is never read
+-- ---- the forms matter only in the row that is never read
 
 module _ {E : Type 0} (M N : Forms E) (rows : List (Row E)) where
   -- a field that the two rows which are never read share

@@ -33,7 +33,7 @@ module _ {E : Type 0} (A : Algebra E) where
   abbrev none-row : Row E
   none-row = noRow (A .forms)
 
-  -- rows keeps rows₀, up to retirement
+  -- `rows` has the rows of `rows₀` at their places, with the same fields but for retirement
   pub record Keeps (rows₀ rows : List (Row E)) : Type 0 where
     pub least : length rows₀ ≤ length rows
     pub same : (j : ℕ) → j < length rows₀ → core (getD rows j (noRow (A .forms))) ≡ core (getD rows₀ j (noRow (A .forms)))
@@ -193,7 +193,7 @@ module _ {E : Type 0} (A : Algebra E) where
             body-fits = subst (λ (z : Rule). fitsBody (z .body) c ≡ true) (sym x) (f .2);
           }
 
-  -- ---- a journal that grows goes on fitting
+  -- ---- the rows of a journal that grows still fit
 
   module _ (rules : List Rule) where
     abbrev pub AllFit : List (Row E) → Type 0
@@ -211,7 +211,7 @@ module _ {E : Type 0} (A : Algebra E) where
         (and-intro (ltb (c .rule) (length rules)) (eqb (getD rules (c .rule) noRule .head) (c .head)) (lt-ltb (c .rule) (length rules) l) (eq-eqb (getD rules (c .rule) noRule .head) (c .head) h))
         (body-same rows₀ rows i i′ hi up keeps (getD rules (c .rule) noRule .body) (c .left) (c .right) (c .len) f)
 
-    -- a row goes on fitting where the rows are kept
+    -- a row still fits where the rows are kept
     pub fits-on : (rows rows′ : List (Row E)) → Keeps rows rows′ → (i : ℕ) → i < length rows → rowFits (A .forms) rows rules i ≡ true → rowFits (A .forms) rows′ rules i ≡ true
     unfolding rowFits
     fits-on rows rows′ keeps i l f =

@@ -14,14 +14,14 @@ use Rattle.working_order.specs.Stopping.{Found, Halt, candidatesAt, Begu
 use Rattle.working_order.specs.Walking.{Post, step-post}
 use Rattle.working_order.specs.Truth.{length-added}
 
--- from s to t by m candidates, each one join
+-- the walk came from s to t through m candidates, each of them one join
 pub record Went {E : Type 0} (J m : ℕ) (s t : Progress E) : Type 0 where
   pub joins-are : t .joins ≡ s .joins + m
   pub rows-up : length (s .rows) ≤ length (t .rows)
   pub rows-fit : length (t .rows) ≤ J
 
 module _ {E : Type 0} (A : Algebra E) (J B k : ℕ) where
-  -- with one candidate more in front
+  -- a walk that stops at a later candidate, with one candidate more in front that did not stop it
   later : (c : Candidate E) (cs : List (Candidate E)) (s t : Progress E) → consider (A .below) (A .breaks) J B k c s ≡ going t
       → (v : Verdict) (i : ℕ) (u : Progress E) → Halt A J B k cs t v i u → Halt A J B k (c ∷ cs) s v i u
   unfolding walk
@@ -76,7 +76,7 @@ module _ {E : Type 0} (A : Algebra E) (J B k : ℕ) where
       by (going t) e g ih = on t e g (walk (A .below) (A .breaks) J B k cs t) (ih t (g .rows-fit))
       by (stopped v i u) e g ih = at-once c cs s v i u g
 
-  -- the candidates before the one at which it stopped
+  -- where a walk stopped, each candidate before that one was one join
   pub halt-went : (cs : List (Candidate E)) (s : Progress E) (v : Verdict) (i : ℕ) (u : Progress E) (h : Halt A J B k cs s v i u) → length (s .rows) ≤ J → Went J (length (h .before)) s (h .reached)
   halt-went cs s v i u h l = subst (Post (Went J (length (h .before)) s) (Halt A J B k (h .before) s)) (h .walked) (walk-went (h .before) s l)
 

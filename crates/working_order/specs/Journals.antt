@@ -1,4 +1,4 @@
--- An induction through the journals of a check. Assumes nothing.
+-- Induction through the journals of a check: what holds of the empty one and is kept by each candidate that is added. Assumes nothing.
 use mathlib.Core.Path.{_≡_}
 use mathlib.Core.Bool.{Bool, true, false}
 use mathlib.Core.List.{List}

@@ -56,11 +56,11 @@ module _ {E : Type 0} (below : E → E → Bool) where
   unfoldable pub dropped : Candidate E → List (Row E) → Bool
   dropped c rows = any (λ r. liveOf (c .head) r && below (r .effect) (c .effect)) rows
 
-  -- a live row of its nonterminal with a strictly larger effect
+  -- the row is live, of the candidate's nonterminal, and has a strictly larger effect
   unfoldable pub larger : Candidate E → Row E → Bool
   larger c r = liveOf (c .head) r && (below (c .effect) (r .effect) && not (below (r .effect) (c .effect)))
 
-  -- such a row retires in pass k
+  -- the row after the candidate c became a row in pass k: a larger one retires
   unfoldable pub retire : ℕ → Candidate E → Row E → Row E
   retire k c r =
       record { head = r .head; rule = r .rule; effect = r .effect; left = r .left; right = r .right; len = r .len; birth = r .birth; retired = cond (larger c r) k (r .retired) }
@@ -78,7 +78,7 @@ module _ {E : Type 0} (below : E → E → Bool) where
   decide false false false false k c s = going (record { rows = added k c (s .rows); joins = suc (s .joins) })
 
   module _ (breaks : ℕ → E → Bool) (J B : ℕ) where
-    -- one candidate, in pass k
+    -- what is done with the candidate c in pass k
     unfoldable pub consider : ℕ → Candidate E → Progress E → Outcome E
     consider k c s = decide (eqb (s .joins) B) (dropped c (s .rows)) (eqb (length (s .rows)) J) (breaks (c .head) (c .effect)) k c s
 
@@ -94,26 +94,30 @@ abbrev pub finish : {E : Type 0} → (ℕ → Bool) → List (Row E) → Verdict
 finish starts rows = holds
 
 module _ {E : Type 0} (starts : ℕ → Bool) where
-  -- whether the pass added no row; next is the rest of the check
+  -- the flag says whether pass k added no row: then the check ends; `next` is the rest of the check otherwise
   abbrev pub closeBy : Bool → ℕ → (Progress E → Answer E) → Progress E → Answer E
   closeBy true k next s = answer (finish starts (s .rows)) k absent s
   closeBy false k next s = next s
 
-  -- pass k began with u rows and gave this
+  -- the check from the end of pass k on, which began with u rows and came to the given outcome
   abbrev pub close : ℕ → ℕ → (Progress E → Answer E) → Outcome E → Answer E
   close k u next (stopped v i s) = answer v k i s
   close k u next (going s) = closeBy (eqb (length (s .rows)) u) k next s
+
+-- a check with J rows and a budget of B joins has at most this many passes: each but the last adds a row
+abbrev pub passLimit : ℕ → ℕ → ℕ
+passLimit J B = suc J
 
 module _ {E : Type 0} (A : Algebra E) (rules : List Rule) (J B : ℕ) where
   -- pass k, over the candidates of the journal as it stands when the pass begins
   unfoldable pub onePass : ℕ → Progress E → Outcome E
   onePass k s = walk (A .below) (A .breaks) J B k (passCandidates (A .forms) (s .rows) 0 rules) s
 
-  -- passes from pass k on. The bound on their number is never reached (Counting.antt), and the answer there is not "holds"
+  -- passes from pass k on, f of them at most. A check is never cut short by f (Counting.antt), and the answer there is not "holds"
   unfoldable pub passes : ℕ → ℕ → Progress E → Answer E
   passes zero k s = answer full k absent s
   passes (suc f) k s = close (A .starts) k (length (s .rows)) (passes f (suc k)) (onePass k s)
 
   -- passes count from 1, with no row used and no join made
   unfoldable pub check : Answer E
-  check = passes (suc J) 1 start
+  check = passes (passLimit J B) 1 start

@@ -1,6 +1,6 @@
 -- A candidate whose rows were in the journal when the pass before began was formed in that pass already, so that a live row covers it.
 -- Assumes nothing.
-use mathlib.Core.Path.{_≡_, refl, sym, ap₂, _∙_, subst}
+use mathlib.Core.Path.{_≡_, refl, sym, ap, ap₂, _∙_, subst}
 use mathlib.Core.Logic.{_⊎_, inl, inr}
 use mathlib.Core.Bool.{Bool, true, false, _&&_, cond, false≢true}
 use mathlib.Core.List.{List, [], _∷_, _++_, map}
@@ -17,27 +17,51 @@ use Rattle.working_order.specs.Candidates.{Choice, Candidate, liveRows, 
 use Rattle.working_order.specs.Coverage.{covered-dropped}
 use Rattle.working_order.specs.Journal.{Row, absent, noRow, live, liveOf}
 use Rattle.working_order.specs.Order.{Progress, Verdict, going, dropped, larger, retire, born, added, walk}
-use Rattle.working_order.specs.Soundness.{liveRows-out, pairs-out}
+use Rattle.working_order.specs.Soundness.{liveRows-out, pairs-out, passCandidates-out}
 use Rattle.working_order.specs.Walking.{Post, AnyEnd, Covers, step-post, walk-post, walk-covers}
 
 -- a pointer to one of the first n rows, or to none
 abbrev pub PointsBelow : ℕ → ℕ → Type 0
 PointsBelow n i = (i < n) ⊎ (i ≡ absent)
 
--- a candidate of such rows alone
+-- a candidate made from the first n rows alone
 abbrev pub Repeats : {E : Type 0} → ℕ → Candidate E → Type 0
 Repeats n c = PointsBelow n (c .left) × PointsBelow n (c .right)
+
+-- ---- the candidates of a pass
+
+module _ {E : Type 0} (A : Algebra E) (rows : List (Row E)) where
+  choice-points : (s : Symbol) (c : Choice E) → In c (choices (A .forms) rows s) → PointsBelow (length rows) (c .pointer)
+  unfolding choices
+  choice-points (terminal a) c (inl e) = inr (ap (λ (d : Choice E). d .pointer) e)
+  choice-points (terminal a) c (inr m) = absurd m
+  choice-points (nonterminal x) c m = let o = liveRows-out x 0 c (noRow (A .forms)) rows m in inl (omega (arith, o .pointer, o .inside))
+
+  body-points : (p r : ℕ) (b : Body) (c : Candidate E) → In c (bodyCandidates (A .forms) rows p r b) → Repeats (length rows) c
+  unfolding bodyCandidates sole paired bare
+  body-points p r empty c (inl e) = (inr (ap (λ (d : Candidate E). d .left) e), inr (ap (λ (d : Candidate E). d .right) e))
+  body-points p r empty c (inr m) = absurd m
+  body-points p r (one s) c m =
+      let t = map-in (sole p r) c (choices (A .forms) rows s) m in
+      subst (Repeats (length rows)) (sym (t .2)) (choice-points s (t .0) (t .1), inr refl)
+  body-points p r (two s s′) c m =
+      let t = pairs-out A rows p r c (choices (A .forms) rows s) (choices (A .forms) rows s′) m in
+      subst (Repeats (length rows)) (sym (t .6)) (choice-points s (t .0) (t .3), choice-points s′ (t .1) (t .4))
+
+  -- each points to rows that the pass began with, or to none
+  pub pass-points : (rules : List Rule) (r : ℕ) (c : Candidate E) → In c (passCandidates (A .forms) rows r rules) → Repeats (length rows) c
+  pass-points rules r c m = let t = passCandidates-out A rows c rules r m in body-points (t .0 .head) (r + t .1) (t .0 .body) c (t .4)
 
 -- ---- a journal later in a check
 
 module _ {E : Type 0} where
-  -- the same row later: it may have retired
+  -- the row `new` is the row `old` later in the check: it may have retired
   pub record Later (old new : Row E) : Type 0 where
     pub effect : new .effect ≡ old .effect
     pub len : new .len ≡ old .len
     pub alive : (x : ℕ) → liveOf x new ≡ true → liveOf x old ≡ true
 
-  -- the rows of old, later, and perhaps more
+  -- the journal `new` has the rows of `old`, later, and perhaps more
   abbrev pub Grown : List (Row E) → List (Row E) → Type 0
   Grown [] new = Unit {0}
   Grown (r ∷ old) [] = ⊥
@@ -54,7 +78,7 @@ module _ {E : Type 0} where
       (record { effect = h s .effect ∙ g .0 .effect; len = h s .len ∙ g .0 .len; alive = λ x a. g .0 .alive x (h s .alive x a) }, grown-more f h old new more (g .1))
 
 module _ {E : Type 0} (A : Algebra E) where
-  -- no row comes to life
+  -- a retirement leaves effect and length, and makes no row live
   pub retire-later : (k : ℕ) (c : Candidate E) (r : Row E) → Later r (retire (A .below) k c r)
   unfolding retire larger liveOf live
   retire-later k c r = record { effect = refl; len = refl; alive = λ x. by x (larger (A .below) c r) refl }

@@ -1,4 +1,4 @@
--- What stands behind a row derives from its nonterminal, with exactly the row's effect. Assumes nothing.
+-- The word behind a row derives from its nonterminal, with exactly the row's effect. Assumes nothing.
 use mathlib.Core.Path.{_≡_, refl, sym, ap, ap₂, _∙_, subst}
 use mathlib.Core.Logic.{_⊎_, inl, inr}
 use mathlib.Core.Bool.{Bool, true, false, cond}
@@ -136,7 +136,7 @@ module _ {E W : Type 0} (A : Algebra E) (S : Spelling E W) (rules : List Rule) w
   sound-taller h rows b =
       side-keep (RowSound h) (RowSound (suc h)) (λ r w s. record { born-by = omega (arith, s .born-by); derived = s .derived; size = s .size }) rows (wordsOf S rules rows) b
 
-  -- a candidate that the journal `rows` formed: its word, whatever rows come after
+  -- a candidate c that was formed from the rows of the journal `rows`: its word, which does not depend on the rows that come after
   pub record CandidateSound (h : ℕ) (rows : List (Row E)) (c : Candidate E) : Type 0 where
     pub word : W
     pub spelled : (k : ℕ) (more : List W) → rowWord S rules (wordsOf S rules rows ++ more) (born k c) ≡ word

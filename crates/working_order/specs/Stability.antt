@@ -25,7 +25,7 @@ abbrev FirmRes : {E : Type 0} → Outcome E → Type 0
 FirmRes (going s) = Unit {0}
 FirmRes (stopped v i s) = Firm v
 
--- neither bound is passed
+-- the rows are within the journal and the joins within the budget
 pub record Held {E : Type 0} (J B : ℕ) (s : Progress E) : Type 0 where
   pub rows-held : length (s .rows) ≤ J
   pub joins-held : s .joins ≤ B

@@ -25,8 +25,8 @@ module _ {E : Type 0} (A : Algebra E) where
   grown k c s = record { rows = added (A .below) k c (s .rows); joins = suc (s .joins) }
 
   module _ (J B k : ℕ) where
-    -- what is found in pass k at the candidate c, reached with the progress t, that ends the check with the verdict, the row i and the
-    -- progress u: the tests of document 01's working order, in its order
+    -- why the candidate c stopped the check in pass k: the test of document 01's working order that applied at the progress t, and the verdict,
+    -- the row i and the progress u of the answer
     abbrev pub Found : Verdict → ℕ → Candidate E → Progress E → Progress E → Type 0
     -- no candidate ends a check so
     Found holds i c t u = ⊥

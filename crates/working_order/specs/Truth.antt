@@ -42,16 +42,16 @@ abbrev pub Gets : {E : Type 0} → Algebra E → List Rule → ℕ → ℕ → E
 Gets A = Yields (effectValues A)
 
 module _ {E : Type 0} (A : Algebra E) where
-  -- no row breaks
+  -- no row of the journal breaks
   abbrev pub Quiet : List (Row E) → Type 0
   Quiet rows = (r : Row E) → In r rows → A .breaks (r .head) (r .effect) ≡ false
 
-  -- what the answer's row is
+  -- the row that the answer names
   abbrev pub shownRow : Answer E → Row E
   shownRow a = getD (a .journal) (a .row) (noRow (A .forms))
 
 module _ {E W : Type 0} (A : Algebra E) (S : Spelling E W) (rules : List Rule) where
-  -- what stands behind the answer's row
+  -- the word behind the row that the answer names
   abbrev pub shown : Answer E → W
   shown a = wordBehind S rules (a .journal) (a .row)
 
@@ -78,13 +78,13 @@ module _ {E W : Type 0} (A : Algebra E) (L : Laws A) (S : Spelling E W) (Z : Siz
       by (inr (inl e)) = ap (λ (x : Row E). A .breaks (x .head) (x .effect)) e ∙ b
       by (inr (inr h)) = absurd h
 
-  -- between two passes, after h of them
+  -- what holds between two passes, after h of them: sound rows, none that breaks, and every derivation of height at most h is covered
   pub record Between (h : ℕ) (rows : List (Row E)) : Type 0 where
     pub sound : Sound A S rules h rows
     pub quiet : Quiet A rows
     pub covers : (p : ℕ) (e : E) → Gets A rules h p e → Above A (LiveIn rows) p e
 
-  -- within pass h + 1, which began with rows₀
+  -- what holds within pass h + 1, which began with the rows rows₀
   pub record During (h : ℕ) (rows₀ : List (Row E)) (s : Progress E) : Type 0 where
     pub sound : Sound A S rules (suc h) (s .rows)
     pub quiet : Quiet A (s .rows)
@@ -97,7 +97,7 @@ module _ {E W : Type 0} (A : Algebra E) (L : Laws A) (S : Spelling E W) (Z : Siz
   unfolding answer
   End k v i s = Sound A S rules k (s .rows) × SaysBy A S rules v (answer v k i s)
 
-  -- what quiet rows cover does not break
+  -- an effect that is covered by rows of which none breaks does not break
   pub calm : (rows : List (Row E)) → Quiet A rows → (p : ℕ) (e : E) → Above A (LiveIn rows) p e → A .breaks p e ≡ false
   unfolding liveOf
   calm rows quiet p e a =
@@ -106,7 +106,7 @@ module _ {E W : Type 0} (A : Algebra E) (L : Laws A) (S : Spelling E W) (Z : Siz
       sym (ap₂ (A .breaks) (eqb-true (r .head) p (and-fst (eqb (r .head) p) (live r) (a .1 .2))) (a .1 .3)) ∙ quiet r (a .1 .1) in
       fails (A .breaks p e) (λ y. true≢false (sym (L .breaks-below p (a .0) e (a .2) y) ∙ q))
 
-  -- one candidate
+  -- what one candidate of pass h + 1 keeps, or says where it stops the check
   one-step : (h : ℕ) (rows₀ : List (Row E)) (c : Candidate E) → ((p : ℕ) (e : E) → Gets A rules h p e → A .breaks p e ≡ false)
       → CandidateSound A S rules (suc h) rows₀ c → (s : Progress E) → During h rows₀ s
       → Post (During h rows₀) (End (suc h)) (consider (A .below) (A .breaks) J B (suc h) c s)
@@ -138,7 +138,7 @@ module _ {E W : Type 0} (A : Algebra E) (L : Laws A) (S : Spelling E W) (Z : Siz
       grown-sound : Sound A S rules (suc h) (added (A .below) (suc h) c (s .rows))
       grown-sound = sound-added A S rules (suc h) c rows₀ (s .rows) (d .more) cs (d .grew) (d .sound)
 
-  -- one pass
+  -- the same of a whole pass
   one-pass : (h : ℕ) (s : Progress E) → Between h (s .rows) → Post (During h (s .rows)) (End (suc h)) (onePass A rules J B (suc h) s)
   unfolding onePass
   one-pass h s b =

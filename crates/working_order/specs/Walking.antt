@@ -29,13 +29,13 @@ module _ {E : Type 0} where
   AnyEnd v i s = Unit {0}
 
 module _ {E : Type 0} (A : Algebra E) where
-  -- t covers each of the candidates, and what s covered
+  -- the journal of t covers each of the candidates cs, and whatever that of s covered
   pub record Covers (cs : List (Candidate E)) (s t : Progress E) : Type 0 where
     pub each : (c : Candidate E) → In c cs → Covered A (c .head) (c .effect) (t .rows)
     pub still : (p : ℕ) (e : E) → Covered A p e (s .rows) → Covered A p e (t .rows)
 
 module _ {E : Type 0} (A : Algebra E) (J B : ℕ) (k : ℕ) where
-  -- one candidate: each of the five ends, with what was tested on the way
+  -- one candidate, by its five ends, each with the tests on the way: spent, dropped, full, broken, added
   pub step-post : (Q : Progress E → Type 0) (R : Verdict → ℕ → Progress E → Type 0) (c : Candidate E) (s : Progress E)
       → (eqb (s .joins) B ≡ true → R spent absent s)
       → (eqb (s .joins) B ≡ false → dropped (A .below) c (s .rows) ≡ true → Q (counted s))

@@ -1,4 +1,4 @@
--- The check over rows of zeros, with what it tells put in the details. Assumes nothing.
+-- `standalone::checked` over rows of zeros, with its numbers stored in the details. Assumes nothing.
 use borrow.Author.Needs.{needs}
 use Rattle.bolfrega.specs.ZeroRows.{over-zeros}
 use Rattle.bolfrega.proofs.bolfrega_check.Statement.{statement}

@@ -1,4 +1,4 @@
--- The judgement, as its number and place. Assumes nothing.
+-- The case of `acceptance::judge` picks number and record as the definition does. Assumes nothing.
 use borrow.Author.Needs.{needs}
 use Rattle.bolfrega.specs.Telling.{judges}
 use Rattle.bolfrega.proofs.bolfrega_judge.Statement.{statement}

@@ -1,4 +1,4 @@
--- The index stays within the records. Assumes nothing.
+-- The invariant: `i` is at most 1,290. The measure is 1290 - i, which falls by 1 at each turn. Assumes nothing.
 use Prim.Native.Nat.{_≤_, _-_}
 use borrow.Author.Needs.{needs}
 use Rattle.case_files.proofs.fill.Statement.{statement}

@@ -1,4 +1,4 @@
--- The part is as long as its end says. Assumes nothing.
+-- The end of the part is within the bytes, by the test. Assumes nothing.
 use mathlib.Core.Path.{sym}
 use lib.Seq.{length-take-le}
 use borrow.Author.Needs.{needs}

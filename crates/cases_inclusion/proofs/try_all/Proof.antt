@@ -1,5 +1,5 @@
--- `cases_inclusion::try_all` is safe and ends: the measure is what is left of the range, nothing has to hold from turn to turn, and
--- each need is found by `search`. Assumes nothing.
+-- `cases_inclusion::try_all` is safe and ends. The loop needs no invariant; the measure is the files left to try, one fewer at each turn.
+-- `search` finds each need. Assumes nothing.
 use Prim.Native.Nat.{_-_}
 use borrow.Author.Needs.{needs}
 use Rattle.cases_inclusion.proofs.try_all.Statement.{statement}

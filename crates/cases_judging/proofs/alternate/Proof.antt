@@ -1,4 +1,4 @@
--- The index stays within the word. Assumes nothing.
+-- The invariant: `i` is at most the length of `word`. The measure is 65536 - i, which falls by 1 at each turn. Assumes nothing.
 use Prim.Native.Nat.{_≤_, _-_}
 use borrow.Author.Needs.{needs}
 use Rattle.cases_judging.proofs.alternate.Statement.{statement}

@@ -1,4 +1,4 @@
--- So many bytes of the buffer are the text. Assumes nothing.
+-- The text that is printed is within the buffer. Assumes nothing.
 use borrow.Author.Needs.{needs}
 use Rattle.page.specs.StandsLaws.{text-count, text-within}
 use Rattle.cases_p.proofs.print.Statement.{statement}

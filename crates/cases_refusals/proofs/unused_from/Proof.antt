@@ -1,4 +1,4 @@
--- The byte rises to the record's end. Assumes nothing.
+-- The loop needs no invariant. The measure is 8 - at, which falls by 1 at each turn. Assumes nothing.
 use Prim.Native.Nat.{_≤_, _-_}
 use borrow.Author.Needs.{needs}
 use Rattle.cases_refusals.proofs.unused_from.Statement.{statement}

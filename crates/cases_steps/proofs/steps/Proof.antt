@@ -1,4 +1,4 @@
--- The place rises to the end. Assumes nothing.
+-- The loop needs no invariant. The measure is to - place, which falls by 1 at each turn. Assumes nothing.
 use Prim.Native.Nat.{_≤_, _-_}
 use borrow.Author.Needs.{needs}
 use Rattle.cases_steps.proofs.steps.Statement.{statement}

@@ -1,4 +1,4 @@
--- The turns stay within the records. Assumes nothing.
+-- The invariant: `turns` is at most 1,290. The measure is 1290 - turns, which falls by 1 at each turn. Assumes nothing.
 use Prim.Native.Nat.{_≤_, _-_}
 use borrow.Author.Needs.{needs}
 use Rattle.cases_steps.proofs.walk_file.Statement.{statement}

@@ -1,4 +1,4 @@
--- The index stays within the front. Assumes nothing.
+-- The invariant: `i` is at most 8. The measure is 8 - i, which falls by 1 at each turn. Assumes nothing.
 use Prim.Native.Nat.{_≤_, _-_}
 use borrow.Author.Needs.{needs}
 use Rattle.cases_writing.proofs.print_front.Statement.{statement}

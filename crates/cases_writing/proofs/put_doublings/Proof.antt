@@ -1,4 +1,4 @@
--- The index stays within the rules. Assumes nothing.
+-- The invariant: `i` is at most 32. The measure is 32 - i, which falls by 1 at each turn. Assumes nothing.
 use Prim.Native.Nat.{_≤_, _-_}
 use borrow.Author.Needs.{needs}
 use Rattle.cases_writing.proofs.put_doublings.Statement.{statement}

@@ -1,4 +1,4 @@
--- The index stays within the table. Assumes nothing.
+-- The invariant: `i` is at most length cases. The measure is length cases - i, which falls by 1 at each turn. Assumes nothing.
 use Prim.Native.Nat.{_≤_, _-_}
 use lib.ListN.{length}
 use borrow.Author.Needs.{needs}

@@ -1,4 +1,4 @@
--- The bytes that are lent are a part of the buffer. Assumes nothing.
+-- The bytes that are lent are within the buffer, by the test. Assumes nothing.
 use mathlib.Core.Path.{sym}
 use lib.Seq.{length-take-le}
 use borrow.Author.Needs.{needs}

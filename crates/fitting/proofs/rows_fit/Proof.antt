@@ -1,4 +1,5 @@
--- The loop over the rows: each is read with the rows that its pointers name, where lower, and added to the test. The loop's variable is the row's number, the test so far and what it says.
+-- The loop over the rows: each is read with the rows that its pointers name, where lower, and added to the test. The invariant: `fit` says
+-- whether the first `i` rows fit, and has the length in the last of them. The measure is the rows that are left, one fewer at each turn.
 -- Assumes nothing.
 use mathlib.Core.Path.{_≡_, refl, subst}
 use mathlib.Core.Bool.{Bool, true, false, not}

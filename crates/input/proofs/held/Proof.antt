@@ -1,4 +1,4 @@
--- Still short of the most, or at it. Assumes nothing.
+-- By whether all bytes so far still fit a file. Assumes nothing.
 use mathlib.Core.Logic.{⊎-elim}
 use native.Mathlib.Omega.{arith}
 use borrow.Author.Needs.{needs}

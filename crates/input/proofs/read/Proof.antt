@@ -1,4 +1,4 @@
--- What is handed over lies within the buffer, and the turns fall. Assumes nothing.
+-- The invariant: `at`, the bytes that are handed over, is within the buffer. The measure is `turns`, which each turn counts down. Assumes nothing.
 use Prim.Native.Nat.{_≤_}
 use borrow.Author.Needs.{needs}
 use Rattle.input.proofs.read.Statement.{statement}

@@ -1,4 +1,4 @@
--- By the sign of the number. Assumes nothing.
+-- The sign of the number picks the same case in code and definition. Assumes nothing.
 use mathlib.Core.Path.{_≡_, sym, ap, _∙_, subst}
 use mathlib.Core.Bool.{true, false}
 use lib.IntN.{ℤ, pos}

@@ -1,4 +1,4 @@
--- The three lines. Assumes nothing.
+-- Putting the three lines one after the other is putting their text in one list. Assumes nothing.
 use Rattle.page.specs.PageLaws.{puts-then}
 use Rattle.lines.specs.Lines.{brokenText}
 use borrow.Author.Needs.{needs}
@@ -7,7 +7,11 @@ use Rattle.lines.proofs.put_broken.Tie as tie
 
 returns : tie.Need-returns
 unfolding brokenText
-returns c = puts-then _ _ _ _ _ (c .before .before .before .before .before .before .before .before .before .before .put-totals .ensures) (puts-then _ _ _ _ _ (c .before .before .before .before .before .before .put-row .ensures) (c .before .before .put-run .ensures))
+returns c =
+    let third = c .before .before in
+    let second = third .before .before .before .before in
+    let first = second .before .before .before .before in
+    puts-then _ _ _ _ _ (first .put-totals .ensures) (puts-then _ _ _ _ _ (second .put-row .ensures) (third .put-run .ensures))
 
 pub put-broken-spec : {M : Type 1} → statement M
 put-broken-spec =

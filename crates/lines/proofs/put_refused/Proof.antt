@@ -1,4 +1,4 @@
--- The word, the number, and the end of the line. Assumes nothing.
+-- Putting the word, the number and the end of the line is putting them in one list. Assumes nothing.
 use Rattle.calls.specs.Printing.{refusedLine}
 use Rattle.lines.specs.LineLaws.{puts-end, puts-blank, puts-word}
 use borrow.Author.Needs.{needs}
@@ -7,7 +7,11 @@ use Rattle.lines.proofs.put_refused.Tie as tie
 
 returns : tie.Need-returns
 unfolding refusedLine
-returns c = puts-word _ _ _ _ _ (c .before .before .before .before .before .before .before .before .before .before .put-all .ensures) (puts-blank _ _ _ _ _ _ (c .before .before .before .before .before .before .put-blanked .ensures) (puts-end _ _ (c .before .before .put .ensures)))
+returns c =
+    let end = c .before .before in
+    let number = end .before .before .before .before in
+    let word = number .before .before .before .before in
+    puts-word _ _ _ _ _ (word .put-all .ensures) (puts-blank _ _ _ _ _ _ (number .put-blanked .ensures) (puts-end _ _ (end .put .ensures)))
 
 pub put-refused-spec : {M : Type 1} → statement M
 put-refused-spec =

@@ -1,4 +1,4 @@
--- The three numbers, and the end of the line. Assumes nothing.
+-- Putting the three numbers, and the end of the line, is putting them in one list. Assumes nothing.
 use Rattle.lines.specs.Lines.{rowLine}
 use Rattle.lines.specs.LineLaws.{puts-end, puts-blank, puts-first}
 use borrow.Author.Needs.{needs}
@@ -7,7 +7,13 @@ use Rattle.lines.proofs.put_row.Tie as tie
 
 returns : tie.Need-returns
 unfolding rowLine
-returns c = puts-first _ _ _ _ _ (c .before .before .before .before .before .before .before .before .before .before .before .before .before .before .put-decimal .ensures) (puts-blank _ _ _ _ _ _ (c .before .before .before .before .before .before .before .before .before .before .put-blanked .ensures) (puts-blank _ _ _ _ _ _ (c .before .before .before .before .before .before .put-blanked2 .ensures) (puts-end _ _ (c .before .before .put .ensures))))
+returns c =
+    let end = c .before .before in
+    let third = end .before .before .before .before in
+    let second = third .before .before .before .before in
+    let first = second .before .before .before .before in
+    puts-first _ _ _ _ _ (first .put-decimal .ensures)
+    (puts-blank _ _ _ _ _ _ (second .put-blanked .ensures) (puts-blank _ _ _ _ _ _ (third .put-blanked2 .ensures) (puts-end _ _ (end .put .ensures))))
 
 pub put-row-spec : {M : Type 1} → statement M
 put-row-spec =

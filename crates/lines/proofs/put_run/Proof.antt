@@ -1,4 +1,4 @@
--- Refused or written. Assumes nothing.
+-- Whether the run was refused picks the same line in code and definition. Assumes nothing.
 use mathlib.Core.Path.{ap, _∙_}
 use mathlib.Core.List.{List}
 use Prim.Native.Nat.{ℕ}

@@ -15,10 +15,13 @@ slice-aggregate-put-separated c = sym (length-take-le _ _ (c .before .before .le
 
 returns : tie.Need-returns
 returns c =
-    let a = c .before .before .before .before .before .before .before .before .before .before .before .before .args in
+    let end = c .before .before in
+    let steps = end .before .before .before .before in
+    let count = steps .before .before .before in
+    let a = count .before .before .before .args in
     let p = page (a .at) (a .text .now) in
-    let few = take-least (a .n) _ (a .buffer .now) (c .before .before .before .before .before .before .before .before .before .least .ensures .0) in
-    puts-line _ _ _ _ (c .before .before .before .before .before .before .put-separated .ensures) (c .before .before .put .ensures) ∙ ap (λ (xs : List ℕ). puts (numbersLine xs) p) few
+    let few = take-least (a .n) _ (a .buffer .now) (count .least .ensures .0) in
+    puts-line _ _ _ _ (steps .put-separated .ensures) (end .put .ensures) ∙ ap (λ (xs : List ℕ). puts (numbersLine xs) p) few
 
 pub put-steps-spec : {M : Type 1} → statement M
 put-steps-spec =

@@ -1,4 +1,4 @@
--- By the number that is told. Assumes nothing.
+-- The number of the answer picks the same lines in code and definition. Assumes nothing.
 use mathlib.Core.Path.{ap, _∙_}
 use mathlib.Core.List.{List}
 use Prim.Native.Nat.{ℕ}
@@ -26,28 +26,63 @@ machine c =
 
 returns : tie.Need-returns
 returns c =
-    let a = c .before .before .before .before .before .before .before .before .before .args in
-    (c .before .before .put-totals .ensures ∙ ap (λ (xs : List ℕ). puts xs (page 0 (a .text .now))) (told-holds (a .told) (a .buffer .now) (c .before .before .before .before .before .if1 .taken)), told-long (a .told) (a .buffer .now) (machine (c .before .before .before .before .before .before)))
+    let first = c .before .before .before .before .before in
+    let known = first .before in
+    let a = known .before .before .before .args in (
+      c .before .before .put-totals .ensures ∙ ap (λ (xs : List ℕ). puts xs (page 0 (a .text .now))) (told-holds (a .told) (a .buffer .now) (first .if1 .taken)),
+      told-long (a .told) (a .buffer .now) (machine known),
+    )
 
 returns-2 : tie.Need-returns-2
 returns-2 c =
-    let a = c .before .before .before .before .before .before .before .before .before .before .before .args in
-    (c .before .before .put-totals2 .ensures ∙ ap (λ (xs : List ℕ). puts xs (page 0 (a .text .now))) (told-full (a .told) (a .buffer .now) (c .before .before .before .before .before .before .before .if1 .left) (c .before .before .before .before .before .if2 .taken)), told-long (a .told) (a .buffer .now) (machine (c .before .before .before .before .before .before .before .before)))
+    let second = c .before .before .before .before .before in
+    let first = second .before .before in
+    let known = first .before in
+    let a = known .before .before .before .args in (
+      c .before .before .put-totals2 .ensures
+          ∙ ap (λ (xs : List ℕ). puts xs (page 0 (a .text .now))) (told-full (a .told) (a .buffer .now) (first .if1 .left) (second .if2 .taken)),
+      told-long (a .told) (a .buffer .now) (machine known),
+    )
 
 returns-3 : tie.Need-returns-3
 returns-3 c =
-    let a = c .before .before .before .before .before .before .before .before .before .before .before .before .before .args in
-    (c .before .before .put-totals3 .ensures ∙ ap (λ (xs : List ℕ). puts xs (page 0 (a .text .now))) (told-spent (a .told) (a .buffer .now) (c .before .before .before .before .before .before .before .before .before .if1 .left) (c .before .before .before .before .before .before .before .if2 .left) (c .before .before .before .before .before .if3 .taken)), told-long (a .told) (a .buffer .now) (machine (c .before .before .before .before .before .before .before .before .before .before)))
+    let third = c .before .before .before .before .before in
+    let second = third .before .before in
+    let first = second .before .before in
+    let known = first .before in
+    let a = known .before .before .before .args in (
+      c .before .before .put-totals3 .ensures
+          ∙ ap (λ (xs : List ℕ). puts xs (page 0 (a .text .now))) (told-spent (a .told) (a .buffer .now) (first .if1 .left) (second .if2 .left) (third .if3 .taken)),
+      told-long (a .told) (a .buffer .now) (machine known),
+    )
 
 returns-4 : tie.Need-returns-4
 returns-4 c =
-    let a = c .before .before .before .before .before .before .before .before .before .before .before .before .before .before .args in
-    (c .before .before .put-broken .ensures ∙ ap (λ (xs : List ℕ). puts xs (page 0 (a .text .now))) (told-broken (a .told) (a .buffer .now) (c .before .before .before .before .before .before .before .before .before .before .if1 .left) (c .before .before .before .before .before .before .before .before .if2 .left) (c .before .before .before .before .before .before .if3 .left) (c .before .before .before .before .if4 .taken)), told-long (a .told) (a .buffer .now) (machine (c .before .before .before .before .before .before .before .before .before .before .before)))
+    let fourth = c .before .before .before .before in
+    let third = fourth .before .before in
+    let second = third .before .before in
+    let first = second .before .before in
+    let known = first .before in
+    let a = known .before .before .before .args in (
+      c .before .before .put-broken .ensures
+          ∙ ap (λ (xs : List ℕ). puts xs (page 0 (a .text .now)))
+          (told-broken (a .told) (a .buffer .now) (first .if1 .left) (second .if2 .left) (third .if3 .left) (fourth .if4 .taken)),
+      told-long (a .told) (a .buffer .now) (machine known),
+    )
 
 returns-5 : tie.Need-returns-5
 returns-5 c =
-    let a = c .before .before .before .before .before .before .before .before .before .before .before .before .before .before .args in
-    (c .before .before .put-refused .ensures ∙ ap (λ (xs : List ℕ). puts xs (page 0 (a .text .now))) (told-refused (a .told) (a .buffer .now) (c .before .before .before .before .before .before .before .before .before .before .if1 .left) (c .before .before .before .before .before .before .before .before .if2 .left) (c .before .before .before .before .before .before .if3 .left) (c .before .before .before .before .if4 .left)), told-long (a .told) (a .buffer .now) (machine (c .before .before .before .before .before .before .before .before .before .before .before)))
+    let fourth = c .before .before .before .before in
+    let third = fourth .before .before in
+    let second = third .before .before in
+    let first = second .before .before in
+    let known = first .before in
+    let a = known .before .before .before .args in (
+      c .before .before .put-refused .ensures
+          ∙ ap (λ (xs : List ℕ). puts xs (page 0 (a .text .now)))
+          (told-refused (a .told) (a .buffer .now) (first .if1 .left) (second .if2 .left) (third .if3 .left) (fourth .if4 .left)),
+      told-long (a .told) (a .buffer .now) (machine known),
+    )
 
 pub put-told-spec : {M : Type 1} → statement M
 put-told-spec =

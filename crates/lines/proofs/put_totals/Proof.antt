@@ -1,4 +1,4 @@
--- The word, and the three numbers after it. Assumes nothing.
+-- Putting the word and then the three numbers is putting them in one list. Assumes nothing.
 use Rattle.lines.specs.Lines.{totalsLine}
 use Rattle.lines.specs.LineLaws.{puts-word}
 use borrow.Author.Needs.{needs}

@@ -1,4 +1,5 @@
--- A number of one digit, or the digits in front of the last one, put by the call on the tenth part, and then that one. Assumes nothing.
+-- A number of one digit, or the digits in front of the last one, put by the call on n / 10, and then that one. The measure is `n`, which the
+-- division makes smaller, since `n` is at least 10 there. Assumes nothing.
 use borrow.Author.Needs.{needs}
 use Rattle.page.specs.Page.{put}
 use Rattle.page.specs.DecimalLaws.{puts-small, puts-digits}

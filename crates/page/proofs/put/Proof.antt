@@ -1,4 +1,4 @@
--- With room for the byte and without. Assumes nothing.
+-- The byte is stored where there is room, and else nothing is: the test is that of the definition. Assumes nothing.
 use borrow.Author.Needs.{needs}
 use borrow.Author.Tests.{lt-ltb, le-ltb}
 use Rattle.page.specs.Page.{put}

@@ -1,4 +1,5 @@
--- The bytes from i on, put where the loop stands, are all of them put where it began. Assumes nothing.
+-- The invariant: putting the bytes from `i` on at `place` gives what putting all of them at `at` gives, and the buffer keeps its length. The
+-- measure is the bytes that are left, one fewer at each turn. Assumes nothing.
 use mathlib.Core.Path.{_≡_, sym, ap, _∙_}
 use mathlib.Core.List.{List}
 use Prim.Native.Nat.{ℕ, _+_, _≤_, _-_}

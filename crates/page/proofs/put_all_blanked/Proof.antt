@@ -1,4 +1,5 @@
--- The numbers from i on, put where the loop stands, are all of them put where it began. Assumes nothing.
+-- The invariant: putting the numbers from `i` on at `place` gives what putting all of them at `at` gives, and the buffer keeps its length. The
+-- measure is the numbers that are left, one fewer at each turn. Assumes nothing.
 use mathlib.Core.Path.{_≡_, sym, ap, _∙_}
 use mathlib.Core.List.{List, _∷_}
 use Prim.Native.Nat.{ℕ, _≤_, _-_}
@@ -22,8 +23,9 @@ abbrev μ-loop : tie.MeasureT-loop
 
 loop-again : tie.Need-loop-again Inv-loop μ-loop
 loop-again c =
-    let l = c .before .before .before .before .before .before .before .loop in
-    let ns = c .before .before .before .before .before .before .before .before .before .before .args .numbers .now in
+    let at-loop = c .before .before .before .before .before .before .before in
+    let l = at-loop .loop in
+    let ns = at-loop .before .before .before .args .numbers .now in
     let p = page (l .place) (l .text) in
     let put = c .before .before .put-blanked in
     let wide = c .before .before .before .wide in

@@ -1,4 +1,4 @@
--- The blank, and then the number. Assumes nothing.
+-- Putting the blank and then the digits is putting them in one list. Assumes nothing.
 use borrow.Author.Needs.{needs}
 use Rattle.page.specs.PageLaws.{puts-byte}
 use Rattle.page.proofs.put_blanked.Statement.{statement}

@@ -1,4 +1,4 @@
--- No number, or the first one and then those after it. Assumes nothing.
+-- For no number nothing is stored, and else the first and then the others, each after a blank. Assumes nothing.
 use mathlib.Core.Path.{_≡_, ap, _∙_}
 use mathlib.Core.List.{List}
 use Prim.Native.Nat.{ℕ, _-_}
@@ -17,15 +17,17 @@ returns c = puts-no-number _ _ (c .if1 .taken)
 
 returns-2 : tie.Need-returns-2
 returns-2 c =
-    let a = c .before .before .before .before .before .before .before .before .before .before .before .before .before .before .args in
+    let at-first = c .before .before .before .before .before .before .before in
+    let at-test = at-first .before .before .before .before in
+    let a = at-test .before .before .before .args in
     let ns = a .numbers .now in
     let p = page (a .at) (a .text .now) in
-    let first = c .before .before .before .before .before .before .before .put-decimal in
+    let first = at-first .put-decimal in
     let q = page (first .result) (first .last .0) in
     let rest = c .before .before .put-all-blanked in
     let tail : take (length ns - 1) (drop 1 ns) ≡ drop 1 ns = take-all (length ns - 1) (drop 1 ns) (omega (arith, length-drop 1 ns)) in
-    puts-numbers ns p q _ (c .before .before .before .before .before .before .before .before .before .before .before .if1 .left)
-    (first .ensures ∙ ap (λ (n : ℕ). puts (decimal n) p) (c .before .before .before .before .before .before .before .before .wide .ensures))
+    puts-numbers ns p q _ (at-test .if1 .left)
+    (first .ensures ∙ ap (λ (n : ℕ). puts (decimal n) p) (at-first .before .wide .ensures))
     (rest .ensures ∙ ap (λ (xs : List ℕ). puts (blanked xs) q) tail)
 
 pub put-separated-spec : {M : Type 1} → statement M

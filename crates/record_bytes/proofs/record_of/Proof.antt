@@ -1,4 +1,4 @@
--- The kind picks the case. Assumes nothing.
+-- The kind byte picks the same case in code and definition. Assumes nothing.
 use borrow.Author.Needs.{needs}
 use borrow.Author.Tests.{eq-eqb, ne-eqb}
 use Rattle.record_bytes.proofs.record_of.Statement.{statement}

@@ -1,4 +1,4 @@
--- Past the last whole record, or not. Assumes nothing.
+-- Zeros past the last whole record, and else its bytes: the test is that of the definition. Assumes nothing.
 use borrow.Author.Needs.{needs}
 use borrow.Author.Tests.{le-leb, lt-leb}
 use Rattle.plan_file.specs.Entries.{wholeRecord}

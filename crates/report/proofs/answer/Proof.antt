@@ -1,4 +1,4 @@
--- With the check program's numbers. Assumes nothing.
+-- `render` with document 01's rows and budget, over rows of zeros. Assumes nothing.
 use borrow.Author.Needs.{needs}
 use Rattle.calls.specs.Printing.{programText}
 use Rattle.report.proofs.answer.Statement.{statement}

@@ -1,4 +1,4 @@
--- Every text fits, so all of it stands. Assumes nothing.
+-- Every text fits, so all of it is at the front of the buffer. Assumes nothing.
 use mathlib.Core.Path.{ap, _∙_}
 use Prim.Native.Nat.{_≤_}
 use native.Mathlib.Omega.{arith}

@@ -1,4 +1,4 @@
--- The lines of what is told are the text of the check. Assumes nothing.
+-- The lines that the code makes from the numbers of the check are its text. Assumes nothing.
 use mathlib.Core.Path.{refl, subst}
 use mathlib.Core.List.{List}
 use Prim.Native.Nat.{ℕ}

@@ -1,4 +1,5 @@
--- The loop's invariant: the count is that of the first i records. Assumes nothing.
+-- The loop's invariant: `count` is the number of records of the kind among the first `i`. The measure is n - i, which falls by 1 at each turn.
+-- Assumes nothing.
 use mathlib.Core.Path.{_≡_, refl, ap, _∙_}
 use mathlib.Core.Logic.{⊎-elim}
 use Prim.Native.Nat.{ℕ, _+_, _-_, _≤_}

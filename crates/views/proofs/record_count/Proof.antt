@@ -1,4 +1,4 @@
--- The quotient of the definition. Assumes nothing.
+-- The length divided by 8 is the count of the definition. Assumes nothing.
 use mathlib.Core.Path.{refl}
 use Rattle.views.proofs.record_count.Statement.{statement}
 use Rattle.views.proofs.record_count.Tie as tie

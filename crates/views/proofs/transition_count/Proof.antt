@@ -1,4 +1,4 @@
--- The count of all whole records. Assumes nothing.
+-- `count_of` over all whole records is the count of the definition. Assumes nothing.
 use borrow.Author.Needs.{needs}
 use Rattle.views.proofs.transition_count.Statement.{statement}
 use Rattle.views.proofs.transition_count.Tie as tie

@@ -1,4 +1,5 @@
--- The row writer and the symbol writer, which call each other. What falls: twice the row number and 1, and for a symbol its rank.
+-- The row writer and the symbol writer, which call each other. The measure of writing row i is 2 * i + 1, and of a symbol that hands over to
+-- row p one more than that of row p: it falls, since a row points to lower rows only.
 -- Assumes nothing.
 use mathlib.Core.Path.{refl, subst}
 use Prim.Native.Nat.{ℕ, _+_, _<_}

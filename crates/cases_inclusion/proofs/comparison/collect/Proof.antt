@@ -1,5 +1,5 @@
--- `cases_inclusion::comparison::collect` is safe and ends: the measure is what is left of the range, the journal keeps its length, and
--- each need is found by `search`. Assumes nothing.
+-- `cases_inclusion::comparison::collect` is safe and ends. The invariant: `journal` keeps its length. The measure is the rows left to ask
+-- for, one fewer at each turn. `search` finds each need. Assumes nothing.
 use mathlib.Core.Path.{_≡_}
 use Prim.Native.Nat.{_-_}
 use lib.ListN.{length}

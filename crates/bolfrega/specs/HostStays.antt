@@ -1,0 +1,58 @@
+-- Two checks of one file whose answers agree tell a host the same verdict, joins, pass and run. Assumes nothing.
+use mathlib.Core.Path.{_≡_, sym, ap, ap₂, _∙_}
+use mathlib.Core.List.{List, [], _∷_}
+use Prim.Native.Nat.{ℕ}
+use lib.ListN.{length, getD}
+use Rattle.relation.specs.Relation.{states, pairs}
+use Rattle.language.specs.WordRelation.{wordRelation}
+use Rattle.plan_file.specs.Refusals.{refuse}
+use Rattle.plan_file.specs.Views.{automatonOf}
+use Rattle.working_order.specs.Journal.{capped}
+use Rattle.working_order.specs.Order.{Answer, Verdict, broken}
+use Rattle.calls.specs.Checking.{checkOf, shown}
+use Rattle.calls.specs.Codes.{verdictCode}
+use Rattle.calls.specs.DemandThree.{Agrees, Promises}
+use Rattle.calls.specs.Replies.{answered, unless}
+use Rattle.calls.specs.Writing.{roomFault, writtenBy}
+use Rattle.telling.specs.Telling.{refusedBy}
+use Rattle.standalone.specs.Told.{lastThree, shownBy}
+use Rattle.bolfrega.specs.BrokenLaws.{if-broken-same}
+use Rattle.bolfrega.specs.Hosts.{toldJoins, toldPass, toldPairs, toldLength, toldRefused, TellsAlike}
+use Rattle.bolfrega.specs.HostReplies.{brokenRow, writing, ToldAnswer}
+use Rattle.bolfrega.specs.HostShows.{row-length, row-relation}
+
+-- the last three details of a broken answer, by its run w and the buffer
+module _ (bs old : List ℕ) where
+  abbrev ofRun : List ℕ → List ℕ
+  ofRun w =
+      pairs states (wordRelation states (automatonOf bs .transitions) w) ∷ capped (length w)
+      ∷ refusedBy (unless (refuse (roomFault w (length old)) 0) (answered (length w))) ∷ []
+
+  of-run : (J B : ℕ) (a : Answer ℕ) → checkOf bs J B ≡ answered a → Promises bs J B a → a .verdict ≡ broken
+      → lastThree broken (brokenRow a) (writing bs old a) ≡ ofRun (shown bs a)
+  of-run J B a reply p v =
+      ap₂ (λ (e n : ℕ). pairs states e ∷ n ∷ refusedBy (writing bs old a) ∷ []) (row-relation bs J B a reply v p) (row-length bs J B a reply v p)
+
+-- the call with J rows and a budget of B joins told d, new and r of its answer a, and the call with J′ and B′ told d′, new′ and r′ of a′
+module _ (bs : List ℕ) (J B J′ B′ : ℕ) (d d′ old new new′ : List ℕ) (r r′ : ℕ) (a a′ : Answer ℕ) (p : Promises bs J B a) (p′ : Promises bs J′ B′ a′)
+    (t : ToldAnswer bs J B d old new r a) (t′ : ToldAnswer bs J′ B′ d′ old new′ r′ a′) (g : Agrees bs a a′) where
+  last-same : lastThree (a′ .verdict) (brokenRow a′) (writing bs old a′) ≡ lastThree (a .verdict) (brokenRow a) (writing bs old a)
+  last-same =
+      ap (λ (v : Verdict). lastThree v (brokenRow a′) (writing bs old a′)) (g .verdict)
+      ∙ if-broken-same (a .verdict) _ _ (0 ∷ 0 ∷ 0 ∷ [])
+      (λ q. of-run bs old J′ B′ a′ (t′ .reply) p′ (g .verdict ∙ q) ∙ ap (ofRun bs old) (g .word) ∙ sym (of-run bs old J B a (t .reply) p q))
+
+  pub tells-alike : TellsAlike bs J B d old new r d′ new′ r′
+  tells-alike =
+      record {
+        same-number = t′ .number ∙ ap verdictCode (g .verdict) ∙ sym (t .number);
+        same-joins = ap toldJoins (t′ .details) ∙ g .joins ∙ sym (ap toldJoins (t .details));
+        same-pass = ap toldPass (t′ .details) ∙ g .pass ∙ sym (ap toldPass (t .details));
+        same-pairs = ap toldPairs (t′ .details) ∙ ap (λ (xs : List ℕ). getD xs 0 0) last-same ∙ sym (ap toldPairs (t .details));
+        same-length = ap toldLength (t′ .details) ∙ ap (λ (xs : List ℕ). getD xs 1 0) last-same ∙ sym (ap toldLength (t .details));
+        same-refused = ap toldRefused (t′ .details) ∙ ap (λ (xs : List ℕ). getD xs 2 0) last-same ∙ sym (ap toldRefused (t .details));
+        same-buffer =
+            t′ .buffer
+            ∙ ap₂ (λ (v : Verdict) (w : List ℕ). shownBy v (writtenBy w old (unless (refuse (roomFault w (length old)) 0) (answered (length w)))) old) (g .verdict) (g .word)
+            ∙ sym (t .buffer);
+      }

@@ -59,9 +59,10 @@ pub fn compare(row: Row, candidate: Candidate) -> Comparison
     let formed = candidate.relation;
     let alike = (row.head == candidate.head as u64) & (row.retired == 0);
     let within = held.contained(formed);
+    let over = formed.contained(held);
     Comparison {
         covers: alike & within,
-        larger: alike & (formed.contained(held) & !within),
+        larger: alike & (over & !within),
     }
 }
 

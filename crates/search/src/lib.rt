@@ -22,8 +22,8 @@ fn find(journal: &[Row], table: &[u32], state: State, candidate: Candidate) -> C
     let slot = rows::slot_unless(compared, candidate);
     let mut cursor = search_cover::begin(table, state, head, last, compared, slot);
     while cursor.active {
-        let row = cursor.row;
-        let held = journal[row];
+        let at = cursor.row;
+        let held = journal[at];
         let compared = rows::compare(held, candidate);
         cursor = search_cover::step(table, state, head, cursor, compared);
     }

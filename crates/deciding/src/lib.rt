@@ -4,6 +4,42 @@ ghost use mathlib.Core.Path.{_≡_};
 ghost use Rattle.deciding.specs.Positions.{positionRow};
 ghost use Rattle.deciding.specs.Fates.{fateIn};
 
+// ---- the table
+
+// The search finds rows through one array of cells of 32 bits, and this is where it has what:
+//
+//   0           FIRSTS       LASTS        SLOTS              LISTS                                  CELLS
+//   |  links    |  firsts    |  lasts     |  slots           |  lists                               |
+//   |  ROWS     |  HEADS     |  HEADS     |  SLOT_CELLS      |  links and firsts, copied            |
+//
+// Links: cell i has the live row after row i in the list of its nonterminal. Firsts: cell FIRSTS + x has the first live row of nonterminal x.
+// Lasts and slots are hints, rows to compare first: cell LASTS + x has the row of x that covered last, and a slot has a row by its nonterminal
+// and relation. Lists: the links and firsts as they were when the pass began.
+pub const ROWS: usize = 4096;
+
+pub const HEADS: usize = 256;
+
+// A digest is below 32,749, and sixteen times a nonterminal is added to it.
+pub const SLOT_CELLS: usize = 36864;
+
+pub const FIRSTS: usize = ROWS;
+
+pub const LASTS: usize = FIRSTS + HEADS;
+
+pub const SLOTS: usize = LASTS + HEADS;
+
+pub const LISTS: usize = SLOTS + SLOT_CELLS;
+
+pub const CELLS: usize = LISTS + LASTS;
+
+// The position of a symbol that is no row.
+pub const ABSENT: usize = 65535;
+
+// No position is left: what a cell has that leads to no row.
+pub const END: usize = ABSENT + 1;
+
+// ---- the state
+
 // Where a candidate stands in a pass: its rule, and the rows of its two symbols.
 pub struct Place {
     pub rule: usize,

@@ -1,6 +1,7 @@
 // What becomes of a candidate, in steps on values: it is noted where looking for it ended, and counted.
 use deciding::Counts;
 use deciding::Fate;
+use deciding::LASTS;
 use deciding::State;
 use search_cover::CoverCursor;
 use verdicts::Outcome;
@@ -9,9 +10,6 @@ use verdicts::Unbroken;
 ghost use mathlib.Core.Path.{_≡_};
 ghost use Rattle.verdicts.specs.Meanings.{bornBy, decidedIn};
 ghost use Rattle.verdicts.specs.Running.{MayNote, Notes, MayDecide};
-
-// Where the table has the row that covered last (crate covers).
-const LASTS: usize = 4352;
 
 // Updates the hints: a covering row found through the links becomes the last-cover hint of its nonterminal and the hint of its relation; a
 // new row becomes the hint of its relation.

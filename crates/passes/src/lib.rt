@@ -1,11 +1,11 @@
 // The passes of the search, in steps on values: the place after a candidate, the pass after this one, and the end.
 use deciding::Counts;
+use deciding::END;
 use deciding::Fate;
 use deciding::Place;
 use deciding::State;
 use deciding::Terms;
 use search_cover::CoverCursor;
-use semi_naive::END;
 use verdicts::Outcome;
 use verdicts::Reached;
 ghost use Rattle.verdicts.specs.Running.{MayOpen, Opens, MayGoOn, Closes, GoesFrom, GoesOn, MayAdvance, Advances};

@@ -2,6 +2,8 @@
 // row, moved in steps that know neither a row nor a candidate. A step is given what comparing the row at the cursor with the candidate gave,
 // keeps the links, and returns the cursor at the row to compare next.
 use deciding::Comparison;
+use deciding::END;
+use deciding::FIRSTS;
 use deciding::Fate;
 use deciding::State;
 use search_cover::CoverCursor;
@@ -10,12 +12,6 @@ ghost use lib.ListN.{length};
 ghost use Rattle.covers.specs.Covers.{tableCells};
 ghost use Rattle.retiring.specs.Steps.{retireFrom, begun, stepped, linksAfter};
 ghost use Rattle.retiring.specs.Clearing.{MayClear};
-
-// Where the links begin (crate covers).
-const HEADS: usize = 4096;
-
-// No row comes after.
-const END: usize = 65536;
 
 // While the cursor is `active`, `row` is the row to replace next: the linked row to which the link in `cell` leads, or, if `new`, the first
 // row that is not used, and `cell` is the last link of the nonterminal.
@@ -59,11 +55,11 @@ pub fn begin(table: &[u32], state: State, fate: Fate, found: CoverCursor) -> Ret
             active: false,
             new: false,
             row: used,
-            cell: HEADS,
+            cell: FIRSTS,
         };
     }
     if found.larger {
-        let cell = HEADS + fate.head as usize;
+        let cell = FIRSTS + fate.head as usize;
         return at_link(used, places::position(table[cell]), cell);
     }
     at_link(used, END, found.cell)

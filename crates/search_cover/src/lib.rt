@@ -1,6 +1,9 @@
 // Looking for a row that covers a candidate: a cursor over the live rows of its nonterminal, moved in steps that know neither a row nor a
 // candidate. A step is given what comparing the row at the cursor with the candidate gave, and returns the cursor at the row to compare next.
 use deciding::Comparison;
+use deciding::FIRSTS;
+use deciding::LASTS;
+use deciding::SLOTS;
 use deciding::State;
 ghost use mathlib.Core.Path.{_≡_};
 ghost use Prim.Native.Nat.{_<_};
@@ -10,13 +13,6 @@ ghost use Rattle.rows.specs.Forming.{slotCells};
 ghost use Rattle.places.specs.Lists.{rowCells};
 ghost use Rattle.covers.specs.Covers.{tableCells};
 ghost use Rattle.search_cover.specs.Steps.{lastNoted, firstLinked, begun, foundAt, stepped};
-
-// Where the table has what (crate covers).
-const HEADS: usize = 4096;
-
-const LASTS: usize = 4352;
-
-const SLOTS: usize = 4608;
 
 // While the cursor is `active`, `row` is the row to compare next. If `linked`, the link in `cell` led to it, and otherwise it is a hint. `larger`
 // says whether one of the linked rows that were compared is larger than the candidate. Once the cursor is not `active`, either `row` covers
@@ -47,7 +43,7 @@ fn at_first_link(table: &[u32], used: usize, head: u8, slot: usize) -> CoverCurs
     requires { ⌜ length (now table) ≡ tableCells ⌝ }
     ensures { λ r. ⌜ r ≡ firstLinked (now (table .entry)) used head slot ⌝ }
 {
-    let cell = HEADS + head as usize;
+    let cell = FIRSTS + head as usize;
     let row = places::position(table[cell]);
     CoverCursor {
         active: row < used,
@@ -82,7 +78,7 @@ pub fn begin(
             covers: true,
             linked: false,
             row: last,
-            cell: HEADS,
+            cell: FIRSTS,
             larger: false,
             slot,
         };
@@ -94,7 +90,7 @@ pub fn begin(
             covers: false,
             linked: false,
             row: hint,
-            cell: HEADS,
+            cell: FIRSTS,
             larger: false,
             slot,
         };

@@ -5,16 +5,21 @@ ghost use Rattle.relation.specs.Relation.{states};
 ghost use Rattle.relation.specs.Representation.{value};
 ghost use Rattle.language.specs.WordRelation.{rejected};
 ghost use Rattle.plan_file.specs.Views.{automatonOf};
-ghost use Rattle.calls.specs.Judging.{wordFault};
+ghost use Rattle.plan_file.specs.Answers.{refusalOf};
+ghost use Rattle.plan_file.specs.Refusals.{firstOf};
+ghost use Rattle.calls.specs.Judging.{wordFault, judgeRefusals};
 ghost use Rattle.acceptance.specs.Answers.{Judging};
 ghost use Rattle.acceptance.specs.Letters.{strays};
 ghost use Rattle.acceptance.specs.TableRelation.{tableRelation};
+use calls::LONG_WORD;
+use plan_file::LETTER_WORDS;
+use plan_file::Letters;
 use plan_file::Refusal;
+use plan_file::TERMINALS;
 use relation::Relation;
 
-const WORD_LIMIT: usize = 65534;
-
-const TERMINALS: u8 = 128;
+// The most letters of a word that is judged.
+const WORD_LIMIT: usize = LONG_WORD as usize - 1;
 
 // A refusal has a number from 1 to 7 or 11.
 pub enum Judged {
@@ -23,8 +28,8 @@ pub enum Judged {
     Refused(Refusal),
 }
 
-// 11 where the word is too long or has a letter that is no terminal, else 0.
-fn word_fault(word: &[u8]) -> u64
+// Returns 11 where `word` is too long or has a letter that is no terminal, and else 0.
+pub fn word_fault(word: &[u8]) -> u64
     ensures { λ r. ⌜ r ≡ wordFault (now (word .entry)) ⌝ }
 {
     if WORD_LIMIT < word.len() {
@@ -40,8 +45,8 @@ fn word_fault(word: &[u8]) -> u64
     0
 }
 
-// The relation of a word of terminals, by the table of their relations: one composition for each letter.
-fn relation_by(table: &[u64; 128], word: &[u8]) -> Relation
+// Returns the relation of `word`, all of whose letters are terminals, by the `table` of their relations: one composition for each letter.
+fn relation_by(table: &Letters, word: &[u8]) -> Relation
     requires { ⌜ strays (now word) ≡ false ⌝ }
     ensures { λ r. ⌜ value r ≡ tableRelation states (now (table .entry)) (now (word .entry)) ⌝ }
 {
@@ -49,7 +54,7 @@ fn relation_by(table: &[u64; 128], word: &[u8]) -> Relation
     let mut i: usize = 0;
     while i < word.len() {
         let c = word[i] as usize;
-        let letter = Relation { bits: table[c] };
+        let letter = Relation::read(table, c);
         r = r.compose(letter);
         i += 1;
     }
@@ -61,23 +66,30 @@ fn turns_away(file: &[u8], word: &[u8]) -> bool
     requires { ⌜ strays (now word) ≡ false ⌝ }
     ensures { λ r. ⌜ r ≡ rejected states (automatonOf (now (file .entry))) (now (word .entry)) ⌝ }
 {
-    let mut table = [0u64; 128];
+    let mut table: Letters = [0; LETTER_WORDS];
     tables::letter_relations(file, &mut table);
     let r = relation_by(&table, word);
     let finals = tables::final_states(file);
     r.rejects(finals)
 }
 
-// The file's refusal, then 11, then whether a path on the word leads from state 0 to a final state.
-pub fn judge(file: &[u8], word: &[u8]) -> Judged
-    ensures { λ r. ⌜ Judging (now (file .entry)) (now (word .entry)) r ⌝ }
+// Returns the first refusal of a call on `file` and `word`: the file's, then 11. Number 0: none.
+pub fn refusal_for(file: &[u8], word: &[u8]) -> Refusal
+    ensures { λ r. ⌜ refusalOf r ≡ firstOf (judgeRefusals (now (file .entry)) (now (word .entry))) ⌝ }
 {
     let of_file = walk::file_refusal(file);
     let of_word = Refusal {
         number: word_fault(word),
         place: 0,
     };
-    let refusal = of_file.or(of_word);
+    of_file.or(of_word)
+}
+
+// Returns what refuses the call, or whether a path on `word` leads from state 0 to a final state of the automaton of `file`.
+pub fn judge(file: &[u8], word: &[u8]) -> Judged
+    ensures { λ r. ⌜ Judging (now (file .entry)) (now (word .entry)) r ⌝ }
+{
+    let refusal = refusal_for(file, word);
     if refusal.number != 0 {
         return Judged::Refused(refusal);
     }

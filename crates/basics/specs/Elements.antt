@@ -1,9 +1,10 @@
--- Membership in a list, by recursion on the list; a test on some element; a list for each element, put together. Definitions only.
--- Assumes nothing.
+-- Membership in a list, by recursion on the list; a test on some element; a list for each element, put together; the list of a
+-- function's values. Definitions only. Assumes nothing.
 use mathlib.Core.Path.{_≡_}
 use mathlib.Core.Logic.{_⊎_}
 use mathlib.Core.Bool.{Bool, false, _||_}
 use mathlib.Core.List.{List, [], _∷_, _++_}
+use Prim.Native.Nat.{ℕ, zero, suc}
 
 module _ {A : Type 0} where
   -- x is an element of the list
@@ -21,3 +22,9 @@ module _ {A B : Type 0} where
   abbrev pub concatMap : (A → List B) → List A → List B
   concatMap f [] = []
   concatMap f (x ∷ xs) = f x ++ concatMap f xs
+
+module _ {A : Type 0} (g : ℕ → A) where
+  -- the list of g at the m numbers from i on
+  unfoldable pub every : ℕ → ℕ → List A
+  every zero i = []
+  every (suc m) i = g i ∷ every m (suc i)

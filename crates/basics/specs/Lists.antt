@@ -1,4 +1,5 @@
--- Laws of membership, of a test on some element, and of a list for each element, put together. Assumes nothing.
+-- Laws of membership, of a test on some element, of a list for each element, put together, and of the list of a function's values.
+-- Assumes nothing.
 use mathlib.Core.Path.{_≡_, refl, sym, ap, ap₂, _∙_, subst}
 use mathlib.Core.Logic.{_⊎_, inl, inr}
 use mathlib.Core.Bool.{Bool, true, false, _||_, false≢true, or-assoc}
@@ -6,9 +7,9 @@ use mathlib.Core.List.{List, [], _∷_, _++_, map}
 use Prim.Native.Nat.{ℕ, zero, suc, _+_, _-_, _*_, _≤_, _<_, suc-le-suc, zero-le}
 use native.Mathlib.Nat.{zero-lt-suc, le-trans, le-of-eq, add-le-add, suc-mul, not-suc-le-zero, le-of-suc-le-suc}
 use native.Mathlib.Omega.{arith}
-use lib.ListN.{length, getD, take, drop, length-append}
+use lib.ListN.{length, getD, take, drop, replicate, length-append}
 use lib.Seq.{drop-drop}
-use Rattle.basics.specs.Elements.{In, any, concatMap}
+use Rattle.basics.specs.Elements.{In, any, concatMap, every}
 use Rattle.basics.specs.Tests.{or-right}
 
 -- ---- membership
@@ -134,3 +135,46 @@ module _ {A B : Type 0} where
       le-trans (le-of-eq (length-append (f x) (concatMap f xs)))
       (le-trans (add-le-add (h x) (length-concatMap f b h xs))
       (le-of-eq (let e : b + length xs * b ≡ length xs * b + b = omega arith in e ∙ sym (suc-mul (length xs) b))))
+
+-- ---- the list of a function's values
+
+module _ {A : Type 0} (g : ℕ → A) where
+  pub length-every : (m i : ℕ) → length (every g m i) ≡ m
+  unfolding every
+  length-every zero i = refl
+  length-every (suc m) i = ap suc (length-every m (suc i))
+
+  pub getD-every : (d : A) (m i j : ℕ) → j < m → getD (every g m i) j d ≡ g (i + j)
+  unfolding every
+  getD-every d zero i j h = absurd (not-suc-le-zero h)
+  getD-every d (suc m) i zero h = let z : i ≡ i + 0 = omega arith in ap g z
+  getD-every d (suc m) i (suc j) h = let z : suc i + j ≡ i + suc j = omega arith in getD-every d m (suc i) j (le-of-suc-le-suc h) ∙ ap g z
+
+  pub every-append : (a m i : ℕ) → every g (a + m) i ≡ every g a i ++ every g m (i + a)
+  unfolding every
+  every-append zero m i = let z : i ≡ i + 0 = omega arith in let y : 0 + m ≡ m = omega arith in ap₂ (every g) y z
+  every-append (suc a) m i =
+      let z : suc i + a ≡ i + suc a = omega arith in
+      let y : suc a + m ≡ suc (a + m) = omega arith in
+      ap (λ (l : ℕ). every g l i) y ∙ ap (λ (l : List A). g i ∷ l) (every-append a m (suc i) ∙ ap (λ (j : ℕ). every g a (suc i) ++ every g m j) z)
+
+  -- two functions that agree from i of the one and i′ of the other on
+  pub every-same : (h : ℕ → A) (m i i′ : ℕ) → ((j : ℕ) → j < m → g (i + j) ≡ h (i′ + j)) → every g m i ≡ every h m i′
+  unfolding every
+  every-same h zero i i′ e = refl
+  every-same h (suc m) i i′ e =
+      let z : i ≡ i + 0 = omega arith in
+      let z′ : i′ + 0 ≡ i′ = omega arith in
+      ap₂ (λ (x : A) (xs : List A). x ∷ xs) (ap g z ∙ e 0 (omega arith) ∙ ap h z′) (every-same h m (suc i) (suc i′) (λ j l. next j ∙ e (suc j) (omega arith) ∙ next′ j))
+    where
+      next : (j : ℕ) → g (suc i + j) ≡ g (i + suc j)
+      next j = let z : suc i + j ≡ i + suc j = omega arith in ap g z
+
+      next′ : (j : ℕ) → h (i′ + suc j) ≡ h (suc i′ + j)
+      next′ j = let z : i′ + suc j ≡ suc i′ + j = omega arith in ap h z
+
+-- the function that is always x
+pub every-one : {A : Type 0} (g : ℕ → A) (x : A) → ((j : ℕ) → g j ≡ x) → (m i : ℕ) → replicate m x ≡ every g m i
+unfolding every
+every-one g x h zero i = refl
+every-one {A} g x h (suc m) i = ap₂ (λ (y : A) (ys : List A). y ∷ ys) (sym (h i)) (every-one g x h m (suc i))

@@ -33,7 +33,8 @@ module _ (bs old : List ℕ) where
   of-run J B a reply p v =
       ap₂ (λ (e n : ℕ). pairs states e ∷ n ∷ refusedBy (writing bs old a) ∷ []) (row-relation bs J B a reply v p) (row-length bs J B a reply v p)
 
--- the call with J rows and a budget of B joins told d, new and r of its answer a, and the call with J′ and B′ told d′, new′ and r′ of a′
+-- a: the answer of the call with J rows and a budget of B joins, which gave the details d, the buffer new and the number r. The letters with a
+-- prime: the same of the call with J′ rows and a budget of B′
 module _ (bs : List ℕ) (J B J′ B′ : ℕ) (d d′ old new new′ : List ℕ) (r r′ : ℕ) (a a′ : Answer ℕ) (p : Promises bs J B a) (p′ : Promises bs J′ B′ a′)
     (t : ToldAnswer bs J B d old new r a) (t′ : ToldAnswer bs J′ B′ d′ old new′ r′ a′) (g : Agrees bs a a′) where
   last-same : lastThree (a′ .verdict) (brokenRow a′) (writing bs old a′) ≡ lastThree (a .verdict) (brokenRow a) (writing bs old a)

@@ -140,7 +140,7 @@ module _ (bs : List ℕ) (J B : ℕ) (d old new : List ℕ) (r : ℕ) where
     -- it is written, or refused with 10: exactly where it has 65,535 steps or more, or more than the buffer has bytes
     pub written-or-not : (toldRefused d ≡ 0) ⊎ (toldRefused d ≡ 10)
     pub refused-exactly : (toldRefused d ≡ 10) ↔ ((longWord ≤ length w) ⊎ (length old < length w))
-    -- the same by the length that is told
+    -- the same by the length among the details
     pub refused-told : (toldRefused d ≡ 10) ↔ ((toldLength d ≡ longWord) ⊎ (length old < toldLength d))
     -- written, it is as many of the buffer's first bytes as the length tells, and the others keep their values
     pub first-bytes : toldRefused d ≡ 0 → take (toldLength d) new ≡ w

@@ -9,7 +9,7 @@ use lib.Dec.{leb}
 use lib.ListN.{length, take, replicate, length-replicate, replicate-append-replicate}
 use lib.Seq.{take-at}
 use borrow.Author.Tests.{lt-ltb, ne-eqb, leb-true, leb-false}
-use Rattle.relation.specs.Representation.{value}
+use Rattle.relation.specs.Representation.{value-none}
 use Rattle.plan_file.specs.Refusals.{Refusal, refuse, fault}
 use Rattle.working_order.specs.Journal.{Row}
 use Rattle.working_order.specs.Order.{Answer}
@@ -41,8 +41,11 @@ map-replicate f (suc n) a = ap (λ xs. f a ∷ xs) (map-replicate f n a)
 
 -- a blank row, read so
 zero-read : rowOf blank ≡ zeroRow
-unfolding value
-zero-read = refl
+zero-read = ap zeros-but value-none
+  where
+    -- a row of zeros but for its effect
+    zeros-but : ℕ → Row ℕ
+    zeros-but e = record { head = 0; rule = 0; effect = e; left = 0; right = 0; len = 0; birth = 0; retired = 0 }
 
 zeros-read : (n : ℕ) → map rowOf (replicate n blank) ≡ zeroRows n
 unfolding zeroRows

@@ -2,7 +2,7 @@
 use mathlib.Core.List.{List}
 use Prim.Native.Nat.{ℕ}
 use lib.ListN.{getD}
-use Rattle.relation.specs.Representation.{value}
+use Rattle.relation.specs.Representation.{value, none}
 use Rattle.language.specs.Grammar.{Rule}
 use Rattle.plan_file.specs.Views.{bodyOf}
 use Rattle.working_order.specs.Journal.{Row}
@@ -12,9 +12,9 @@ abbrev pub rowOf : LentRow → Row ℕ
 rowOf r =
     record { head = r .head; rule = r .rule; effect = value (r .relation); left = r .left; right = r .right; len = r .len; birth = r .birth; retired = r .retired }
 
--- what is read past the end of a journal
+-- a row of zeros: what is read past the end of a journal
 abbrev pub blank : LentRow
-blank = record { head = 0; rule = 0; relation = record { bits = 0 }; left = 0; right = 0; len = 0; birth = 0; retired = 0 }
+blank = record { head = 0; rule = 0; relation = none; left = 0; right = 0; len = 0; birth = 0; retired = 0 }
 
 -- four numbers: nonterminal, body length, the bytes of the two symbols
 abbrev pub entryOf : List ℕ → Rule

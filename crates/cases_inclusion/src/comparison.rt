@@ -4,6 +4,8 @@ use calls::Row;
 use random_files::Trial;
 use relation::Relation;
 use telling::Told;
+use unpruned::Found;
+use unpruned::Numbers;
 use unpruned::rows;
 
 const ROWS: usize = 1024;
@@ -19,13 +21,15 @@ const KEPT: usize = 64;
 
 // ---- rows as numbers
 
-// Returns a row as eight numbers.
-fn numbers(row: Row) -> [u64; 8] {
+// Returns a row as eight numbers, its relation as one of them.
+fn numbers(row: Row) -> Numbers {
     let relation = row.relation;
+    let mut words = [0; relation::WORDS];
+    relation.store(&mut words, 0);
     [
         row.head,
         row.rule,
-        relation.bits,
+        words[0],
         row.left,
         row.right,
         row.len,
@@ -35,11 +39,12 @@ fn numbers(row: Row) -> [u64; 8] {
 }
 
 // Returns the row of eight numbers.
-fn row_of(x: [u64; 8]) -> Row {
+fn row_of(x: Numbers) -> Row {
+    let words = [x[2]; relation::WORDS];
     Row {
         head: x[0],
         rule: x[1],
-        relation: Relation { bits: x[2] },
+        relation: Relation::read(&words, 0),
         left: x[3],
         right: x[4],
         len: x[5],
@@ -63,21 +68,14 @@ fn ask(file: &[u8], rows: usize, old: Row, budget: u64, probe: usize) -> Told {
     standalone::checked(file, rows, old, budget, probe, &mut buffer)
 }
 
-fn put(journal: &mut [[u64; 8]], i: usize, row: [u64; 8]) {
+fn put(journal: &mut [Numbers], i: usize, row: Numbers) {
     if i < journal.len() {
         journal[i] = row;
     }
 }
 
 // Stores the first `count` rows that a check leaves in `journal`, each from a check of its own.
-fn collect(
-    file: &[u8],
-    rows: usize,
-    old: Row,
-    budget: u64,
-    count: usize,
-    journal: &mut [[u64; 8]],
-) {
+fn collect(file: &[u8], rows: usize, old: Row, budget: u64, count: usize, journal: &mut [Numbers]) {
     for i in 0..count {
         let told = ask(file, rows, old, budget, i);
         let row = numbers(told.shown);
@@ -107,7 +105,7 @@ fn turned_away(file: &[u8], buffer: &[u8], size: usize) -> bool {
 }
 
 // Tests whether the word in `buffer` is as long as the broken row says, is turned away, and has the row's relation.
-fn shown(file: &[u8], journal: &[[u64; 8]], told: Told, buffer: &[u8]) -> bool {
+fn shown(file: &[u8], journal: &[Numbers], told: Told, buffer: &[u8]) -> bool {
     let row = told.row as usize;
     if journal.len() <= row {
         return false;
@@ -121,7 +119,7 @@ fn shown(file: &[u8], journal: &[[u64; 8]], told: Told, buffer: &[u8]) -> bool {
 }
 
 // Tests whether the verdict is the one of the unpruned search, and a broken one has a word to show.
-fn right(file: &[u8], journal: &[[u64; 8]], told: Told, buffer: &[u8], broken: bool) -> bool {
+fn right(file: &[u8], journal: &[Numbers], told: Told, buffer: &[u8], broken: bool) -> bool {
     if broken {
         return (told.code == telling::BROKEN) & shown(file, journal, told, buffer);
     }
@@ -130,7 +128,7 @@ fn right(file: &[u8], journal: &[[u64; 8]], told: Told, buffer: &[u8], broken: b
 
 // Tests whether the used rows have relations that the unpruned search found, and the live ones are an antichain; if the check holds, no relation
 // is without a live row below it, so that the live rows are the smallest relations.
-fn accounted(journal: &[[u64; 8]], told: Told, found: &[[u64; 2]; 512], count: usize) -> bool {
+fn accounted(journal: &[Numbers], told: Told, found: &Found, count: usize) -> bool {
     let used = told.used as usize;
     let sound = rows::sound(journal, used, found, count);
     if told.code == telling::HOLDS {
@@ -140,18 +138,11 @@ fn accounted(journal: &[[u64; 8]], told: Told, found: &[[u64; 2]; 512], count: u
 }
 
 // Tests whether a longer journal and a larger budget give the same answer and the same rows.
-fn same_with_more(file: &[u8], journal: &[[u64; 8]], told: Told) -> bool {
+fn same_with_more(file: &[u8], journal: &[Numbers], told: Told) -> bool {
     let mut longer = [[0u64; 8]; KEPT];
-    let again = ask(file, MORE_ROWS, telling::blank_row(), LARGER_BUDGET, 0);
+    let again = ask(file, MORE_ROWS, Row::blank(), LARGER_BUDGET, 0);
     let n = looked_at(again.used);
-    collect(
-        file,
-        MORE_ROWS,
-        telling::blank_row(),
-        LARGER_BUDGET,
-        n,
-        &mut longer,
-    );
+    collect(file, MORE_ROWS, Row::blank(), LARGER_BUDGET, n, &mut longer);
     same(told, again) & rows::same(journal, &longer, 0, told.used as usize)
 }
 
@@ -161,7 +152,7 @@ fn far_row(drawn: u64) -> usize {
 }
 
 // Tests whether a journal with other old contents gives the same answer and the same rows, and the rest of it is untouched.
-fn same_with_old(file: &[u8], journal: &[[u64; 8]], told: Told, old: [u64; 8]) -> bool {
+fn same_with_old(file: &[u8], journal: &[Numbers], told: Told, old: Numbers) -> bool {
     let mut other = [old; KEPT];
     let again = ask(file, ROWS, row_of(old), BUDGET, 0);
     let n = looked_at(again.used);
@@ -215,15 +206,9 @@ pub struct Outcome {
 }
 
 // Makes the comparisons of `file`, of which the unpruned search has listed the first `count` pairs of `found`, and said whether it is `broken`.
-pub fn compare(
-    file: &[u8],
-    found: &[[u64; 2]; 512],
-    count: usize,
-    broken: bool,
-    trial: Trial,
-) -> Outcome {
+pub fn compare(file: &[u8], found: &Found, count: usize, broken: bool, trial: Trial) -> Outcome {
     let mut buffer = [0u8; 4096];
-    let old = telling::blank_row();
+    let old = Row::blank();
     let told = standalone::checked(file, ROWS, old, BUDGET, 0, &mut buffer);
     let mut journal = [[0u64; 8]; KEPT];
     let n = looked_at(told.used);

@@ -95,9 +95,9 @@ fn try_file(number: u64, buffer: &[u8; 192], size: usize, trial: Trial, tally: &
         return;
     }
     let file = &whole[0..size];
-    let mut found = [[0u64; 2]; 512];
+    let mut found = [[0u64; 2]; unpruned::LIMIT];
     let count = unpruned::search(file, &mut found);
-    if count == 512 {
+    if count == unpruned::LIMIT {
         count_one(tally, SKIPPED);
         return;
     }

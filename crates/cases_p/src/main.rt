@@ -168,20 +168,21 @@ fn print(file: &[u8], rows: usize, old: Row, budget: u64) {
 }
 
 fn with_1024(file: &[u8], budget: u64) {
-    print(file, 1024, telling::blank_row(), budget);
+    print(file, 1024, Row::blank(), budget);
 }
 
 // Prints the text of a check of `file` over `rows` rows of zeros, with the check program's budget.
 fn with_rows(file: &[u8], rows: usize) {
-    print(file, rows, telling::blank_row(), 1000000);
+    print(file, rows, Row::blank(), 1000000);
 }
 
 // A row that holds 7s.
 fn sevens() -> Row {
+    let words = [7; relation::WORDS];
     Row {
         head: 7,
         rule: 7,
-        relation: Relation { bits: 7 },
+        relation: Relation::read(&words, 0),
         left: 7,
         right: 7,
         len: 7,

@@ -38,7 +38,7 @@ struct Asked {
 // Returns row `place` of the journal after a check of `file` over `lent` rows.
 fn row_at(file: &[u8], lent: usize, place: usize) -> Row {
     let mut run = [0u8; 8];
-    let told = standalone::checked(file, lent, telling::blank_row(), BUDGET, place, &mut run);
+    let told = standalone::checked(file, lent, Row::blank(), BUDGET, place, &mut run);
     told.shown
 }
 
@@ -47,7 +47,7 @@ fn entered(head: u64, rule: u64, left: u64, right: u64, len: u64) -> Row {
     Row {
         head,
         rule,
-        relation: Relation { bits: 0 },
+        relation: Relation::empty(),
         left,
         right,
         len,
@@ -101,15 +101,21 @@ fn either(field: u64, other: u64, x: u64, old: u64) -> u64 {
     old
 }
 
+// Returns the relation of which each word is `x` if `field` is the effect, else `old`.
+fn effect_or(field: u64, x: u64, old: Relation) -> Relation {
+    if field == EFFECT {
+        let words = [x; relation::WORDS];
+        return Relation::read(&words, 0);
+    }
+    old
+}
+
 // Returns `row` with `x` in the field `field`.
 fn with(row: Row, field: u64, x: u64) -> Row {
-    let relation = row.relation;
     Row {
         head: either(field, PROCEDURE, x, row.head),
         rule: either(field, RULE, x, row.rule),
-        relation: Relation {
-            bits: either(field, EFFECT, x, relation.bits),
-        },
+        relation: effect_or(field, x, row.relation),
         left: either(field, LEFT, x, row.left),
         right: either(field, RIGHT, x, row.right),
         len: either(field, LENGTH, x, row.len),

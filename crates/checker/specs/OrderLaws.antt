@@ -3,10 +3,8 @@ use mathlib.Core.Path.{_≡_, refl, sym, ap, _∙_, subst}
 use mathlib.Core.Bool.{Bool, true, false, _&&_}
 use mathlib.Core.List.{List, map}
 use Prim.Native.Nat.{ℕ, _≤_, _<_}
-use native.Mathlib.Nat.{le-trans, le-of-eq}
 use native.Mathlib.Omega.{arith}
 use lib.Dec.{eqb, ltb}
-use lib.ListN.{getD, List·getD-eq-default}
 use lib.Pow.{pow-pos}
 use borrow.Author.Tests.{eqb-true, ltb-true, ltb-false}
 use Rattle.basics.specs.Tests.{fails, and-fst, and-snd}
@@ -33,7 +31,7 @@ use Rattle.rows.specs.Meanings.{letterIn}
 use Rattle.verdicts.specs.Contracts.{orderOf}
 use Rattle.verdicts.specs.OnAutomaton.{order-on}
 use Rattle.tables.specs.Tables.{letterTable}
-use Rattle.tables.specs.LetterLaws.{letters-length, letters-at}
+use Rattle.tables.specs.LetterLaws.{letters-at, letters-past}
 
 -- a letter that no transition has: its relation is empty
 letter-absent : (n : ℕ) (ts : List Transition) (c : ℕ) → ((t : Transition) → In t ts → t .letter ≡ c → ⊥) → letterRelation n ts c ≡ 0
@@ -57,13 +55,12 @@ module _ (bs : List ℕ) (v : fault bs .number ≡ 0) where
 
   -- the table has the relation of every letter
   letters-all : (c : ℕ) → value (letterIn (letterTable states (transitionsOf bs)) c) ≡ letterRelation states (transitionsOf bs) c
-  unfolding value
   letters-all c = by (ltb c terminals) (ltb-true c terminals) (ltb-false c terminals)
     where
-      by : (b : Bool) → (b ≡ true → c < terminals) → (b ≡ false → terminals ≤ c) → getD (letterTable states (transitionsOf bs)) c 0 ≡ letterRelation states (transitionsOf bs) c
-      by true p q = letters-at states (transitionsOf bs) c (p refl)
+      by : (b : Bool) → (b ≡ true → c < terminals) → (b ≡ false → terminals ≤ c) → value (letterIn (letterTable states (transitionsOf bs)) c) ≡ letterRelation states (transitionsOf bs) c
+      by true p q = letters-at (transitionsOf bs) c (p refl)
       by false p q =
-          List·getD-eq-default (letterTable states (transitionsOf bs)) 0 (le-trans (le-of-eq (letters-length states (transitionsOf bs))) (q refl))
+          letters-past (transitionsOf bs) c (q refl)
           ∙ sym (letter-absent states (transitionsOf bs) c (λ t h e. let l = letter-low t h in let m = q refl in omega arith))
 
   pub order-same : (rules : List (List ℕ)) → map entryOf rules ≡ rulesOf bs → (J B : ℕ) → orderOf (letterTable states (transitionsOf bs)) rules (number states (isFinal (automatonOf bs))) J B ≡ orderOn bs J B

@@ -1,6 +1,9 @@
 // The inclusion check on a file. It asks nothing of its caller; a refused call does not change the journal.
 use calls::Row;
 use deciding::State;
+use plan_file::LETTER_WORDS;
+use plan_file::Letters;
+use plan_file::RULE_LIMIT;
 use plan_file::Refusal;
 use verdicts::Answer;
 ghost use mathlib.Core.Path.{_≡_};
@@ -14,8 +17,9 @@ pub enum Checked {
     Answered(Answer),
 }
 
+// Returns `told` where it has a number, and else the answer of `last`, the state in which the search ended.
 fn as_checked(told: Refusal, last: State) -> Checked
-    ensures { λ r. ⌜ r ≡ checkedBy (told .number) told (answerIn last) ⌝ }
+    ensures { λ r. ⌜ r ≡ checkedBy told (answerIn last) ⌝ }
 {
     if told.number != 0 {
         return Checked::Refused(told);
@@ -27,8 +31,8 @@ fn as_checked(told: Refusal, last: State) -> Checked
 pub fn check(file: &[u8], journal: &mut [Row], budget: u64) -> Checked
     ensures { λ r. ⌜ Checks (now (file .entry)) budget (now (journal .entry)) (now (journal .exit)) r ⌝ }
 {
-    let mut letters = [0u64; 128];
-    let mut rules = [[0u8; 4]; 256];
+    let mut letters: Letters = [0; LETTER_WORDS];
+    let mut rules = [[0u8; 4]; RULE_LIMIT];
     let mut table = [65536u32; 45824];
     let rows = journal.len();
     let start = starting::prepare(file, &mut letters, &mut rules, &mut table, rows, budget);

@@ -1,7 +1,7 @@
 // For tests only (cases_writing): a check, one row of its journal replaced, and the run behind a row written. The parameters and the answer
 // are plain values and lent bytes, so a caller needs no walk.
+use calls::JOURNAL_LIMIT;
 use calls::Row;
-use telling::ROWS;
 use writer::Writing;
 ghost use Rattle.damaged.specs.Contracts.{WritesDamaged};
 
@@ -19,7 +19,7 @@ pub fn write_damaged(
 ) -> Writing
     ensures { λ r. ⌜ WritesDamaged (now (file .entry)) rows budget place row used named (now (buffer .entry)) (now (buffer .exit)) r ⌝ }
 {
-    let mut journal = [row; ROWS];
+    let mut journal = [row; JOURNAL_LIMIT];
     let n = telling::front(rows);
     checker::check(file, &mut journal[..n], budget);
     let at = telling::row_number(place);

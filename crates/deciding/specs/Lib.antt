@@ -1,3 +1,4 @@
+pub mod Budgets
 pub mod Positions
 pub mod PositionLaws
 pub mod Fates

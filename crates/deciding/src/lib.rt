@@ -1,6 +1,8 @@
 // The state of the search, by value, and what is said of one candidate on its way through it. No effect is named here: these types are the
 // same whatever an effect is.
+use relation::StateSet;
 ghost use mathlib.Core.Path.{_≡_};
+ghost use Rattle.deciding.specs.Budgets.{isSpent};
 ghost use Rattle.deciding.specs.Positions.{positionRow};
 ghost use Rattle.deciding.specs.Fates.{fateIn};
 
@@ -15,7 +17,7 @@ ghost use Rattle.deciding.specs.Fates.{fateIn};
 // Links: cell i has the live row after row i in the list of its nonterminal. Firsts: cell FIRSTS + x has the first live row of nonterminal x.
 // Lasts and slots are hints, rows to compare first: cell LASTS + x has the row of x that covered last, and a slot has a row by its nonterminal
 // and relation. Lists: the links and firsts as they were when the pass began.
-pub const ROWS: usize = 4096;
+pub const ROWS: usize = calls::JOURNAL_LIMIT;
 
 pub const HEADS: usize = 256;
 
@@ -33,7 +35,7 @@ pub const LISTS: usize = SLOTS + SLOT_CELLS;
 pub const CELLS: usize = LISTS + LASTS;
 
 // The position of a symbol that is no row.
-pub const ABSENT: usize = 65535;
+pub const ABSENT: usize = calls::ABSENT as usize;
 
 // No position is left: what a cell has that leads to no row.
 pub const END: usize = ABSENT + 1;
@@ -47,20 +49,32 @@ pub struct Place {
     pub right: usize,
 }
 
-// Rows used and joins made.
+// The rows used and the joins made since the check began, and the rows added since the pass began. Whether a pass was the last is read from
+// `added`: where rows may be dropped, `used` can not tell.
 pub struct Counts {
     pub used: usize,
     pub joins: u64,
+    pub added: usize,
 }
 
-// What stands fast in a pass: the joins that may be made, the final states, the number of the pass, the rows used when it began and when
-// the pass before began.
+// What does not change in a pass: the joins that may be made, the final states, the number of the pass, and the rows used when it began
+// (`start`, which the next pass takes as its `before`) and when the pass before began.
 pub struct Terms {
     pub budget: u64,
-    pub finals: u8,
+    pub finals: StateSet,
     pub pass: u64,
     pub start: usize,
     pub before: usize,
+}
+
+impl Terms {
+    // Returns whether the budget is used up by `joins` joins: the only place where this is decided. No check makes more joins than its
+    // budget, so "at least" says the same as document 01's "equal", and leaves room for one more join where it is false.
+    pub fn spent(self, joins: u64) -> bool
+        ensures { λ r. ⌜ r ≡ isSpent (self .budget) joins ⌝ }
+    {
+        self.budget <= joins
+    }
 }
 
 // The search between two candidates. While `going`, `place` is the candidate to form next, and `left` and `right` are the journal rows to
@@ -95,7 +109,7 @@ pub struct Fate {
     pub breaks: bool,
 }
 
-// The row of `position`, if that is one of the first `count` rows, and else row 0, which every journal has.
+// Returns the row of `position` among the first `count` rows, or row 0 where `position` is no row: ABSENT and END are below no count.
 pub fn position_row(position: usize, count: usize) -> usize
     ensures { λ r. ⌜ r ≡ positionRow position count ⌝ }
 {

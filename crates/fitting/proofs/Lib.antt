@@ -1,3 +1,2 @@
-pub mod Rows
 mod Turn
 mod Views

@@ -1,6 +1,8 @@
 // Whether the rows of a journal fit the rules (document 01, "Numbers a call may refuse with", 9). One loop holds the journal and is proved by
 // a walk; each test takes rows by value. A rule is four bytes: its head, its body's length, its two symbols.
+use calls::ABSENT;
 use calls::Row;
+use plan_file::TERMINALS;
 ghost use mathlib.Core.Bool.{_&&_};
 ghost use mathlib.Core.Path.{_≡_};
 ghost use lib.Dec.{eqb};
@@ -24,17 +26,17 @@ fn lower(pointer: u64, i: usize) -> usize
     i
 }
 
-// Tests the `pointer` of `symbol` in row `i`: at a terminal it is 65,535, at a nonterminal a lower row of that nonterminal. `named` is the row
+// Tests the `pointer` of `symbol` in row `i`: at a terminal it is ABSENT, at a nonterminal a lower row of that nonterminal. `named` is the row
 // that `lower` gives for it.
 fn pointer_fits(i: usize, symbol: u8, pointer: u64, named: Row) -> bool
     ensures { λ r. ⌜ r ≡ pointerBy i (symbolOf symbol) pointer (rowOf named) ⌝ }
 {
-    if symbol < 128 {
-        return pointer == 65535;
+    if symbol < TERMINALS {
+        return pointer == ABSENT;
     }
     let p = pointer as usize;
     if p < i {
-        return named.head == (symbol - 128) as u64;
+        return named.head == (symbol - TERMINALS) as u64;
     }
     false
 }
@@ -43,7 +45,7 @@ fn pointer_fits(i: usize, symbol: u8, pointer: u64, named: Row) -> bool
 fn symbol_length(symbol: u8, named: Row) -> u64
     ensures { λ r. ⌜ r ≡ lengthBy (symbolOf symbol) (rowOf named) ⌝ }
 {
-    if symbol < 128 {
+    if symbol < TERMINALS {
         return 1;
     }
     named.len
@@ -56,13 +58,13 @@ fn body_fits(i: usize, rule: [u8; 4], row: Row, left: Row, right: Row) -> bool
 {
     let symbols = rule[1];
     if symbols == 0 {
-        return ((row.left == 65535) & (row.right == 65535)) & (row.len == 0);
+        return ((row.left == ABSENT) & (row.right == ABSENT)) & (row.len == 0);
     }
     let a = rule[2];
     let first = pointer_fits(i, a, row.left, left);
     let n = symbol_length(a, left);
     if symbols == 1 {
-        return (first & (row.right == 65535)) & (row.len == calls::capped_sum(n, 0));
+        return (first & (row.right == ABSENT)) & (row.len == calls::capped_sum(n, 0));
     }
     let b = rule[3];
     let second = pointer_fits(i, b, row.right, right);

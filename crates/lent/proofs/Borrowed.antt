@@ -1,5 +1,6 @@
--- A parameter `&κ mut T` in a walk, where T's machine value is one: what lies behind it is had, and given back as another value.
---     borrows          the reference and the token are opened.        hands-back     and closed at the value h
+-- A parameter `&κ mut T` in a walk, where T has one machine value: the walk takes out the value that it points to, and gives back another.
+--     borrows          opens the reference and the token
+--     hands-back       closes them at the value h
 -- Assumes `Given`.
 use mathlib.Core.Path.{refl}
 use mathlib.Core.List.{List, [], _∷_}

@@ -1,4 +1,5 @@
--- A call as one step of a walk, as `CallStep`, where the callee's tokens and what its parameters own stand first; and how what a callee's parameters own is had of what the caller's own.
+-- A call as one step of a walk, as `CallStep`, where the callee's tokens and what its parameters own come first in the context; and how the
+-- walk gets what the callee's parameters own from what the caller's own.
 --     with-plain       what a type owns, and plain data after it, which own nothing
 --     yields           what the first of several types gives, being kept, they give, being kept
 --     calls-owning     the call: the operands are read as if nothing were handed over

@@ -1,5 +1,7 @@
--- A call as one step of a walk, as `CallStep`, for a callee that takes and returns plain data: the caller hands over nothing of its context, and has the result's machine value and the fact.
---     past-head        operands are read as they were with another entry at the head. So no position shifts at a call's operands, whatever the callee is handed
+-- A call as one step of a walk, as `CallStep`, for a callee that takes and returns plain data: the walk gives it nothing of its context, and
+-- then has the result's machine value and the fact.
+--     past-head        operands are read as they were with another entry at the head, so no position shifts at a call's operands, whatever
+--                      the callee is given
 --     calls-plain      the call
 -- Assumes `Given`.
 use mathlib.Core.List.{List, [], _∷_}

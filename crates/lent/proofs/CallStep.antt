@@ -1,4 +1,7 @@
--- A call as one step of a walk, for a callee whose `ensures` is a fact: the caller hands over what the callee asks, and has the result, at its machine value, the fact and the tokens. `calls-lasting` keeps what is said of the last values of what the callee was lent.
+-- A call as one step of a walk, for a callee whose `ensures` is a fact. Before the call the walk gives the callee what its contract asks for;
+-- after it the walk owns the result, at its machine value, and the tokens, and knows the fact.
+--     calls-lasting    keeps what the contract says of the last values of what the callee was lent
+--     calls-for        for a contract that says nothing of them
 -- Assumes `Given`.
 use mathlib.Core.Path.{sym, ap, subst}
 use mathlib.Core.List.{List, [], _∷_}
@@ -27,14 +30,14 @@ module _ {M : Type 1} (𝓤 : URA M) (H : Heap 𝓤) (A : Atoms 𝓤) (T : Ended
   abbrev pub Called : Clauses 𝓤 T → Contract 𝓤
   Called c = tripleOf 𝓤 H A (T .signature) (closing 𝓤 H A T c)
 
-  -- the result's type, and what is had of a result r at the machine value u
+  -- the result's type, and what the walk owns for a result r at the machine value u
   abbrev pub Result : Bound 𝓤 H A (T .signature) → RattleType
   Result x = typeAt (T .signature .result) (x .0)
 
   abbrev pub Back : (x : Bound 𝓤 H A (T .signature)) → Result x .Denot → Val → List (Item 𝓤) → List (Item 𝓤)
   Back x r u Γ = ‵ (Result x .own r (u ∷ [])) ∷ raw (alive 𝓤 H A (T .signature) (x .0) (x .1)) ∷ Γ
 
--- what follows the call goes on from the result r and the last values ws
+-- the walk of what follows the call, for each result r and the last values ws
 abbrev pub After : {M : Type 1} {𝓤 : URA M} {H : Heap 𝓤} {A : Atoms 𝓤} (K : Type 0) (W : Given 𝓤 H A) (Γ : List (Item 𝓤)) (T : Ended) (x : Bound 𝓤 H A (T .signature))
     (φ : Result 𝓤 H A T x .Denot → Lasts T (x .0) (x .3) → Type 0) (val : Result 𝓤 H A T x .Denot → Val) (after : Val → Goal 𝓤 H) → Type 1
 After {𝓤 = 𝓤} {H = H} {A = A} K W Γ T x φ val after =

@@ -1,7 +1,11 @@
--- The last steps of a walk: the result is read, and the locals are freed, whether they hold a value or not; and what is left is what the function owes.
---     closing, closing-within      the step, at the end and inside a branch: n is the number of entries that stand before the locals, and both equations are `refl`
---     locals-of        the locals, of which the first hold what is listed.        keeping     the locals after the first m are emptied
---     leaving          it is over, where what is left is the result, the tokens, and what is had of the parameters, and the function's `ensures` is shown
+-- The last steps of a walk: the result is read, and the locals are freed, whether they hold a value or not; what remains is what the function
+-- owes its caller.
+--     closing, closing-within      the step, at the end and inside a branch: n is the number of entries before the locals, and both equations
+--                                  are `refl`
+--     locals-of                    the locals, of which the first hold what is listed
+--     keeping                      the locals after the first m are emptied
+--     leaving                      the end of the walk: what remains is the result, the tokens and what the parameters own, and the function's
+--                                  `ensures` is shown
 -- Definitions assume nothing; the steps assume `Given`.
 use mathlib.Core.Path.{_≡_, refl, sym, subst}
 use mathlib.Core.Option.{Option, some, none}
@@ -35,7 +39,7 @@ module _ {M : Type 1} (𝓤 : URA M) (H : Heap 𝓤) (A : Atoms 𝓤) where
   past : (P Q R : SProp 𝓤) → ent 𝓤 (sep 𝓤 P (sep 𝓤 Q R)) (sep 𝓤 Q (sep 𝓤 P R))
   past P Q R = via 𝓤 (sep 𝓤 (sep 𝓤 P Q) R) (assoc′ 𝓤 P Q R) (via 𝓤 (sep 𝓤 (sep 𝓤 Q P) R) (monoL 𝓤 R (comm∗ 𝓤 P Q)) (assoc∗ 𝓤 Q P R))
 
-  -- what stands beside the locals is had where they are freed, and the other way
+  -- entries beside the locals stay as they are where the locals are freed, and the other way round
   into : (E : Env 𝓤 H) (Q P : SProp 𝓤) {P′ : SProp 𝓤} → ent 𝓤 (sep 𝓤 Q P) P′ → ent 𝓤 (sep 𝓤 Q (release 𝓤 H E P)) (release 𝓤 H E P′)
   into [] Q P h = h
   into (e ∷ E) Q P h = via 𝓤 (sep 𝓤 (one e) (sep 𝓤 Q (release 𝓤 H E P))) (past Q (one e) (release 𝓤 H E P)) (monoR 𝓤 (one e) (into E Q P h))
@@ -54,7 +58,7 @@ module _ {M : Type 1} (𝓤 : URA M) (H : Heap 𝓤) (A : Atoms 𝓤) where
       (out E (one e) P)
 
 module _ {M : Type 1} {𝓤 : URA M} {H : Heap 𝓤} {A : Atoms 𝓤} {K : Type 0} {W : Given 𝓤 H A} where
-  -- Δ is what stands before the locals, and is left
+  -- Δ: the entries before the locals, which remain
   releases : K → (Δ : List (Item 𝓤)) {E : Env 𝓤 H} {g : Goal 𝓤 H} → Step K W Δ g (Δ ++ rooms E []) (frees E g)
   releases t Δ {E} {g} = step (λ s. record {
     prf = via 𝓤 (sep 𝓤 (⋆ 𝓤 H A Δ) (⋆ 𝓤 H A (rooms E []))) (⊢++ 𝓤 H A Δ (rooms E []))

@@ -1,8 +1,10 @@
 -- An element of a slice that a walk holds (`Loans.antt`, `Sharing.antt`): it is read, and in a `&mut [T]` another is stored in its place.
 --     points           the address of element i is computed
---     Cell, Shut       while the slice is open: the element's cell, which stands first, and what shuts the slice again
---     elem-read        `d = *p`, p being the address of element i.        elem-store     `*p = x`.        seen-read     `d = *p` in a `&[T]`
--- The premises are read with the slice open: there each entry of Γ stands one place further on.
+--     Cell, Shut       while the slice is open: the element's cell, which comes first, and what shuts the slice again
+--     elem-read        `d = *p`, p being the address of element i
+--     elem-store       `*p = x`
+--     seen-read        `d = *p` in a `&[T]`
+-- The premises are read with the slice open: there each entry of Γ is one place further on.
 -- Assumes `Given`.
 use mathlib.Core.Path.{_≡_, refl, sym, ap, subst}
 use mathlib.Core.List.{List, [], _∷_}
@@ -44,7 +46,7 @@ module _ (R : RattleType) (L : Loan) where
   Shut ys i = fsep (room R (length ys)) (fsep (others (shares R) fullShare ys i (L .block) (L .start)) (fsep (fobor (L .lifetime) (L .share) (Held R (length ys) (L .block) (L .start) (L .label)))
       (fsep (fobs (L .label) (codedHoleys R .code (heres R ys))) (fauth (L .label) (codedHoleys R .code (heres R ys))))))
 
-  -- of a `&[T]`: some share of the elements is had
+  -- of a `&[T]`: the walk has some share of the elements
   abbrev pub ShutSeen : Share → List (R .Denot) → ℕ → Fml
   ShutSeen q ys i = fsep (others (shares R) q ys i (L .block) (L .start)) (fsep (fobor (L .lifetime) (L .share) (arr-parts (shares R) (length ys) .part q ys (L .block) (L .start)))
       (fsep (fshr-bor (L .lifetime) (λ q′. arr-parts (shares R) (length ys) .part q′ ys (L .block) (L .start))) (fres (L .label) (codedHoleys R .code (heres R ys)))))

@@ -1,8 +1,11 @@
 -- A function that is proved by a walk of its MIR, and from the walk to the theorem about it.
---     Callee           a function that it calls, with the theorem about that.        Knows     the theorems, as a walk has them
+--     Callee           a function that it calls, with the theorem about that
+--     Knows            the theorems about all callees, as a walk cites them
 --     Function         its parameters, its contract, its callees and its MIR
---     Walk             the walk that is to be shown: from what there is on entry.        WalkAsking     beside what the function asks: `needs` learns it
---     walked           the theorem about a function that asks nothing.        walked-asking     and about one that asks something
+--     Walk             the walk that is to be shown, from what the function owns on entry
+--     WalkAsking       the same for a function with a `requires`, which `needs` brings in as a fact
+--     walked           the theorem about a function with no `requires`
+--     walked-asking    and about one that has one
 -- `walked` is for every model; the rest assumes nothing.
 use mathlib.Core.Path.{_≡_}
 use mathlib.Core.List.{List, [], _∷_}

@@ -1,6 +1,8 @@
--- A `&mut [T]` that a walk holds (`Loans.antt`) is lent on for a call: as a `&mut [T]`, which comes back at the last list that the callee says, or as a `&[T]`, which comes back as it was.
+-- A `&mut [T]` that a walk holds (`Loans.antt`) is lent on for a call: as a `&mut [T]`, which comes back at the last list that the callee says,
+-- or as a `&[T]`, which comes back as it was.
 --     passed-on L ν δ      what the callee is lent: the same elements, for the lifetime ν that is made for the call, under a name δ of its own
---     Keeping              what the holder keeps meanwhile: the lender's part at ν, its own borrow, open, and both halves of its name.        Kept, KeptSeen     for either loan
+--     Keeping              what the holder keeps meanwhile: the lender's part at ν, its own borrow, open, and both halves of its name
+--     Kept, KeptSeen       that, for either loan
 --     passes-on, comes-back, shows-on, seen-back       the loan, and its end
 -- Assumes `Given`.
 use mathlib.Core.Path.{_≡_, refl, sym, ap, subst}

@@ -1,8 +1,10 @@
--- A part of a `&κ mut [T]`, from element n to the end, is lent for the time of a call, and comes back with what the callee left there. At n = 0 all of it is lent.
+-- A part of a `&κ mut [T]`, from element n to the end, is lent for the time of a call, and comes back with what the callee left there. At n = 0
+-- all of it is lent.
 --     start            where the part begins: n elements further
 --     Keeps            what the lender keeps meanwhile
---     part-call        [i; own (the slice at ys); [κ]_q; Γ] runs the call, and goes on at [j; own (the slice at take n ys ++ zs); [κ]_q; Γ], where P r zs is what the callee's `post` says of its result and of the part's last list.
---                      i is what the callee takes beside the part, and j what it gives back. The operands are read at [the callee's pre; what the lender keeps; Γ].
+--     part-call        from [i; own (the slice at ys); [κ]_q; Γ] the walk runs the call, and then is at [j; own (the slice at take n ys ++ zs);
+--                      [κ]_q; Γ], where P r zs is what the callee's `post` says of its result and of the part's last list. i is what the callee
+--                      takes beside the part, and j what it gives back. The operands are read at [the callee's pre; what the lender keeps; Γ]
 -- Assumes `Given`, and that the table of calls is monotone under a frame.
 use mathlib.Core.Path.{_≡_, refl, sym, _∙_, ap, subst}
 use Prim.Native.Nat.{ℕ, _+_, _≤_}

@@ -1,7 +1,9 @@
 -- A `&κ mut [T]` that a walk holds and uses again, as one entry of the context: the reference and the token of its lifetime.
---     Loan, Lent       where it points, its name, its lifetime and the share of the token.        Lent R L ys     what is held, where the list is ys
+--     Loan             where it points, its name, its lifetime and the share of the token
+--     Lent R L ys      what the walk holds, where the list is ys
 --     offset-fits      where the slice has room, so has the offset of an element
---     takes, gives     a parameter's reference and token, out of all that there is at entry, and into what a callee asks and what there is at exit
+--     takes, gives     a parameter's reference and token, out of all that there is at entry, and into what a callee asks and what there is at
+--                      exit
 -- Definitions assume nothing; the steps assume `Given`.
 use mathlib.Core.Path.{_≡_, refl}
 use mathlib.Core.List.{List, [], _∷_}

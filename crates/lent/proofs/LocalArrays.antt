@@ -1,7 +1,9 @@
--- A local array in a walk: it is made, lent or shared as a slice, whole or its first elements, comes back, is read by the element, and is let go. What is had of it stands in the context where the local's cell stood, so no position shifts.
+-- A local array in a walk: it is made, lent or shared as a slice, whole or its first elements, comes back, is read by the element, and is let
+-- go. Its entry is in the context where the local's cell was, so no position shifts.
 --     lifts, lays      entry k comes to the head, with nothing left in its place, and the head goes to entry k
 --     entry-as         entry k becomes what it entails
---     array-made       `a = [v; n]`: the local's cell becomes n elements in a row.        row-of-cell     the same of any array's machine value
+--     array-made       `a = [v; n]`: the local's cell becomes n elements in a row
+--     row-of-cell      the same of any array's machine value
 --     array-gone       the row becomes the room of the local, to be freed
 --     lends-array, array-back        the row is lent as a `&mut [T]` for a lifetime that is made, and comes back at the list that the callee left
 --     lends-front, front-back        the same of the first m elements, `&mut a[..m]`
@@ -297,7 +299,7 @@ module _ {M : Type 1} {𝓤 : URA M} {H : Heap 𝓤} {A : Atoms 𝓤} {K : Type 
       → Seq K W Γ G
   shares-front t z R xs m le = shares-part t z R xs (take m xs) (dropFirst m xs) (take-append-drop m xs) m (take-all m xs le)
 
-  -- what was shared is had again, as it was
+  -- the walk gets back what was shared, as it was
   pub part-unshared : K → Soaks G → (R : RattleType) (ν : ℕ) (xs ys rest : List (R .Denot)) → ys ++ rest ≡ xs → (b k : ℕ) → nth 𝓤 H A k Γ ≡ ‵ (Shared R ν ys rest b)
       → Step K W (put 𝓤 H A k (‵ (Elements R xs b)) Γ) G (‵ (flft (ν ∷ []) fullShare) ∷ Γ) G
   part-unshared t z R ν xs ys rest e b k at = step (λ s. lft-end t z $ gives t z k (Unit {0}) (‵ (Elements R xs b)) (via 𝓤 _ (shared-in 𝓤 H A W R ν xs ys rest e b) (W .laws .⇛-mono _ _ (guardI 𝓤 (Unit {0}) _ tt))) at (λ _. s))

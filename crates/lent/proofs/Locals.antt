@@ -1,7 +1,8 @@
 -- The locals of a function in a walk, the test of a `while`, and an `if`.
 --     has, free        a local that holds a value, and one that holds none, with what is owed at its death
 --     its, field-of, behind, sets      a local is read, as it is, a field of it, and what lies where it points; and it is set
---     tests            the test of a `while`.        if-then     `if c { a }`, with what follows it
+--     tests            the test of a `while`
+--     if-then          `if c { a }`, with what follows it
 -- Definitions assume nothing; the steps assume `Given`.
 use mathlib.Core.Path.{_≡_, sym, subst}
 use mathlib.Core.Bool.{Bool, not}

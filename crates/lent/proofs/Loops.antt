@@ -1,5 +1,7 @@
--- A loop in a walk, with the last part of the function after it: its variable is of a type X, and `left` falls with each turn.
---     Falls            the order.        Turn     what a turn owes: it goes on at a variable that is less (`again`), or leaves for the last part
+-- A loop in a walk, with the last part of the function after it. The loop's variable has a type X of the walk's choice, and the measure `left`
+-- falls with each turn.
+--     Falls            the order by which it falls
+--     Turn             what the walk of a turn must show: it comes to a variable with a smaller measure (`again`), or leaves for the last part
 --     loops-from       so the loop runs from any variable
 -- Definitions assume nothing; the step assumes `Given`.
 use mathlib.Core.List.{List}

@@ -1,8 +1,10 @@
 -- The first step of a walk: a function's locals are made, and its arguments stored.
 --     Blocks, env      where the locals lie, and the environment that they are
---     Arguments        the arguments are of the types of the locals that they are stored in: `denote.Laws.all-typed` shows it of a function's parameters
---     opened           the context then: each local stands before those that were made before it, and all before what there was
---     entering         the step.        walking     it, from what there is at entry: the tokens, and what the parameters own
+--     Arguments        the arguments are of the types of the locals that they are stored in: `denote.Laws.all-typed` shows it of a function's
+--                      parameters
+--     opened           the context then: each local comes before those that were made before it, and all before what there was
+--     entering         the step
+--     walking          the step, from what there is at entry: the tokens, and what the parameters own
 -- Definitions assume nothing; the steps assume `Given`.
 use mathlib.Core.Path.{refl}
 use mathlib.Core.List.{List, [], _∷_}

@@ -1,8 +1,11 @@
 -- A function's parameters.
---     Param            a parameter: its slot, what is had of it at exit, and its machine values
---     shared, lent     a `&'j [T]` and a `&'j mut [T]`, which are owned at exit.        handed     a `&'j mut [T]` that a callee was given for good
---     by-value, number, datum      plain data: of any type, an unsigned number, a declared struct.        dropped     a parameter of which nothing is had at exit
---     stays, all-go, spells, all-tell      what the theorem asks of all of them (`Functions.antt`).        typed-all     and what `Opening.antt` does
+--     Param            a parameter: its slot, what the walk owns of it at exit, and its machine values
+--     shared, lent     a `&'j [T]` and a `&'j mut [T]`, which are owned at exit
+--     handed           a `&'j mut [T]` that a callee was given for good
+--     by-value, number, datum      plain data: of any type, an unsigned number, a declared struct
+--     dropped          a parameter of which nothing is owned at exit
+--     stays, all-go, spells, all-tell      what the theorem asks of all of them (`Functions.antt`)
+--     typed-all        and what `Opening.antt` asks
 -- Assumes nothing.
 use mathlib.Core.Path.{_≡_, refl}
 use mathlib.Core.List.{List, [], _∷_}
@@ -80,7 +83,7 @@ module _ {n : ℕ} where
       lawful = λ 𝓤 H A W κs. shr-slice-lawful 𝓤 H A W (named j) (lftAt n j ok κs) (s .row κs);
     }
 
-    -- a `&'j mut [T]`, of which h is had at exit
+    -- a `&'j mut [T]`, which holds h at exit
     abbrev mutable : (h : Stay (mutSliceOf (j ∷ []) ok s) yes) → ((M : Type 1) (𝓤 : URA M) (H : Heap 𝓤) (A : Atoms 𝓤) (W : Given 𝓤 H A) → Goes 𝓤 H A W n (mutSliceOf (j ∷ []) ok s) yes h) → Param n
     mutable h go = record {
       slot = mutSliceOf (j ∷ []) ok s;

@@ -1,6 +1,6 @@
 -- The first elements of a `&κ [T]` that a walk holds, as a `&κ [T]` of the same lifetime: `&s[..m]`. Nothing is to come back but the token.
 --     front-of         the reference to the first m elements, under the name δ
---     sees-front       [[κ]_q; own (the slice); Γ] goes on at [[κ]_q; own (its first m elements); Γ], where T is Copy
+--     sees-front       from [[κ]_q; own (the slice); Γ] to [[κ]_q; own (its first m elements); Γ], where T is Copy
 -- Assumes `Given`.
 use mathlib.Core.Path.{sym, ap}
 use mathlib.Core.List.{List, [], _∷_}

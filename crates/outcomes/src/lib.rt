@@ -49,15 +49,17 @@ pub fn decide(state: State, fate: Fate) -> Outcome
     let counts = state.counts;
     let used = counts.used;
     let joins = counts.joins + 1;
+    let added = counts.added;
     if fate.covered {
-        return Outcome::Going(Counts { used, joins });
+        return Outcome::Going(Counts { used, joins, added });
     }
     if fate.full {
-        return Outcome::Stopped(Stop::Ended(Unbroken::Full, Counts { used, joins }));
+        return Outcome::Stopped(Stop::Ended(Unbroken::Full, Counts { used, joins, added }));
     }
     let more = Counts {
         used: used + 1,
         joins,
+        added: added + 1,
     };
     born(fate.breaks, used, more)
 }

@@ -6,6 +6,7 @@ use deciding::END;
 use deciding::FIRSTS;
 use deciding::Place;
 use deciding::ROWS;
+use plan_file::TERMINALS;
 ghost use mathlib.Core.Path.{_≡_};
 ghost use Prim.Native.Nat.{_≤_};
 ghost use lib.ListN.{length};
@@ -14,8 +15,6 @@ ghost use Rattle.calls.specs.Rows.{entryOf};
 ghost use Rattle.rows.specs.Forming.{some, leftPart, rightPart};
 ghost use Rattle.places.specs.Lists.{listCells, end, afterIn};
 ghost use Rattle.places.specs.Places.{Begins, Opens, Follows};
-
-const TERMINALS: u8 = 128;
 
 // ---- positions
 

@@ -1,8 +1,8 @@
--- The counts of the kinds; a record read as a rule, as a transition or as a final state, whatever its kind; lists of such readings.
+-- The counts of the kinds; a record read as a rule, as a transition or as a final state, whatever its kind.
 -- Definitions only. Assumes nothing.
 use mathlib.Core.Bool.{cond}
 use mathlib.Core.List.{List, [], _∷_}
-use Prim.Native.Nat.{ℕ, zero, suc}
+use Prim.Native.Nat.{ℕ}
 use lib.Dec.{leb}
 use Rattle.language.specs.Grammar.{Rule as GrammarRule}
 use Rattle.language.specs.Automaton.{Transition as AutomatonTransition}
@@ -50,11 +50,3 @@ grammarRule r = record { head = r .head; body = bodyOf (r .size) (r .first) (r .
 
 abbrev pub automatonTransition : Transition → AutomatonTransition
 automatonTransition t = record { source = t .source; letter = t .letter; target = t .target }
-
--- ---- readings of neighbouring records
-
-module _ {A : Type 0} (g : ℕ → A) where
-  -- g at m numbers from i on
-  unfoldable pub every : ℕ → ℕ → List A
-  every zero i = []
-  every (suc m) i = g i ∷ every m (suc i)

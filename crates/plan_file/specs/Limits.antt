@@ -1,5 +1,6 @@
 -- The numbers of document 01 on files. Definitions only. Assumes nothing.
-use Prim.Native.Nat.{ℕ}
+use Prim.Native.Nat.{ℕ, _*_}
+use Rattle.relation.specs.Stored.{relationWords}
 
 -- records of the file
 abbrev pub recordLimit : ℕ
@@ -24,3 +25,7 @@ nonterminals = 64
 -- symbols, terminals first, are below this
 abbrev pub symbolBytes : ℕ
 symbolBytes = 192
+
+-- words in the table of the terminals' relations
+abbrev pub letterWords : ℕ
+letterWords = terminals * relationWords

@@ -7,14 +7,15 @@ use native.Mathlib.Omega.{arith}
 use lib.ListN.{length, getD, take, drop, length-take, length-drop}
 use lib.Seq.{drop-cons, getD-take, getD-drop}
 use borrow.Author.Tests.{eq-eqb, ne-eqb}
-use Rattle.basics.specs.Elements.{concatMap}
+use Rattle.basics.specs.Elements.{concatMap, every}
+use Rattle.basics.specs.Lists.{every-append, every-same}
 use Rattle.plan_file.specs.Records.{recordCount, recordAt, transitionKind}
 use Rattle.plan_file.specs.Refusals.{fault}
 use Rattle.plan_file.specs.Reading.{stretch}
 use Rattle.plan_file.specs.Views.{transitionsOf, collect}
-use Rattle.plan_file.specs.Entries.{ruleCount, transitionCount, transitionIn, wholeRecord, transitionAt, automatonTransition, every}
+use Rattle.plan_file.specs.Entries.{ruleCount, transitionCount, transitionIn, wholeRecord, transitionAt, automatonTransition}
 use Rattle.plan_file.specs.Sorted.{counts-le, transitions-next}
-use Rattle.plan_file.specs.EntryLaws.{every-append, every-same, whole, transitions-read}
+use Rattle.plan_file.specs.EntryLaws.{whole, transitions-read}
 
 module _ (bs : List ℕ) where
   abbrev at : ℕ → ℕ

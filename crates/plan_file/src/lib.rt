@@ -4,8 +4,9 @@
 // refused: Valid, Ranges, Sorted and Rising (rules first, then transitions, then finals), EntryLaws, StretchLaws; of reading by steps WalkLaws;
 // of the order of refusals RefusalLaws.
 ghost use mathlib.Core.Path.{_≡_};
-ghost use Rattle.plan_file.specs.Answers.{refusalOf};
-ghost use Rattle.plan_file.specs.Refusals.{refuse, byNumber};
+ghost use mathlib.Core.Bool.{cond};
+ghost use Rattle.plan_file.specs.Answers.{numbered};
+ghost use Rattle.plan_file.specs.Refusals.{byNumber};
 
 // The kinds of records.
 pub const RULE_KIND: u8 = 1;
@@ -14,6 +15,26 @@ pub const TRANSITION_KIND: u8 = 2;
 
 pub const FINAL_KIND: u8 = 3;
 
+// The most rules and transitions of a file (document 01: rules, and moves), and the most records: a file has each state as a final one at most
+// once.
+pub const RULE_LIMIT: usize = 256;
+
+pub const TRANSITION_LIMIT: usize = 1024;
+
+pub const RECORD_LIMIT: usize = RULE_LIMIT + TRANSITION_LIMIT + relation::STATES as usize;
+
+// Terminals are below this (document 01: step codes), and so are nonterminals (procedures) and the bytes of symbols, terminals first.
+pub const TERMINALS: u8 = 128;
+
+pub const NONTERMINALS: u8 = 64;
+
+pub const SYMBOL_BYTES: u8 = TERMINALS + NONTERMINALS;
+
+// The table of the terminals' relations, in their order: how many words it has, and its type.
+pub const LETTER_WORDS: usize = TERMINALS as usize * relation::WORDS;
+
+pub type Letters = [relation::Letter; LETTER_WORDS];
+
 // A number from 1 to 7 with the record's number for 3 to 7; number 0: nothing is refused.
 pub struct Refusal {
     pub number: u64,
@@ -21,9 +42,9 @@ pub struct Refusal {
 }
 
 impl Refusal {
-    // Nothing is refused.
+    // Returns the refusal with number 0: nothing is refused.
     pub fn none() -> Refusal
-        ensures { λ r. ⌜ refusalOf r ≡ refuse 0 0 ⌝ }
+        ensures { λ r. ⌜ r ≡ numbered 0 ⌝ }
     {
         Refusal {
             number: 0,
@@ -31,7 +52,17 @@ impl Refusal {
         }
     }
 
-    // The first of two refusals: this one, where it has a number, and else the next.
+    // Returns the refusal `number` of a call, which names no record, where its test `holds`, and else none.
+    pub fn when(number: u64, holds: bool) -> Refusal
+        ensures { λ r. ⌜ r ≡ numbered (cond holds number 0) ⌝ }
+    {
+        if holds {
+            return Refusal { number, place: 0 };
+        }
+        Refusal::none()
+    }
+
+    // Returns the first of two refusals: this one, where it has a number, and else `next`.
     pub fn or(self, next: Refusal) -> Refusal
         ensures { λ r. ⌜ r ≡ byNumber (self .number) self next ⌝ }
     {

@@ -8,10 +8,9 @@ ghost use Rattle.plan_file.specs.Reading.{stepFrom, stepAt};
 ghost use Rattle.plan_file.specs.Records.{recordCount};
 ghost use Rattle.plan_file.specs.Refusals as refusals;
 ghost use Rattle.reader.specs.Answers.{stepOf, placeAfter};
+use plan_file::RECORD_LIMIT;
 use plan_file::Record;
 use plan_file::Refusal;
-
-const RECORD_LIMIT: usize = 1288;
 
 // The file's bytes, and the place of the next record.
 pub struct Reader<'a> {

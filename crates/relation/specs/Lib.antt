@@ -6,3 +6,5 @@ pub mod Product
 pub mod Counting
 pub mod Masks
 pub mod Representation
+pub mod Stored
+pub mod StoredLaws

@@ -1,13 +1,29 @@
-// Relations on the states of an automaton as one word: the pair (a, b) is bit a * 8 + b. Definitions in specs/: Digits (binary digits), Relation
-// (pairs, identity, composition, containment, rejecting), Representation (how the code holds one). Laws, for every number of states: DigitLaws,
-// RelationLaws, Product (composition by words), Counting (pairs), Masks (final states).
+// Relations on the states of an automaton as one word: the pair (a, b) is bit a * 8 + b. No other crate knows that. Definitions in specs/:
+// Digits (binary digits), Relation (pairs, identity, composition, containment, rejecting), Representation (how the code holds one), Stored
+// (relations in a table). Laws, for every number of states: DigitLaws, RelationLaws, Product (composition by words), Counting (pairs), Masks
+// (final states).
 ghost use mathlib.Core.Path.{_≡_};
+ghost use Prim.Native.Nat.{_+_, _*_, _≤_};
 ghost use lib.Dec.{eqb};
+ghost use lib.ListN.{length};
 ghost use Rattle.relation.specs.Digits.{bit};
 ghost use Rattle.relation.specs.Relation.{states, identity, compose, contained, single, insert, pairs, digest, rejects};
-ghost use Rattle.relation.specs.Representation.{value};
+ghost use Rattle.relation.specs.Representation.{value, none};
+ghost use Rattle.relation.specs.Stored.{relationWords, relationIn, withRelation};
 
-const STATES: u32 = 8;
+// How many states an automaton has.
+pub const STATES: u8 = 8;
+
+// The same number as wide as a place: how many places a row of a relation has.
+const SIDE: u32 = STATES as u32;
+
+// A set of states: state `s` is in it where bit `s` is set.
+pub type StateSet = u8;
+
+// One word of a table of letters' relations, and how many words one relation takes there.
+pub type Letter = u64;
+
+pub const WORDS: usize = 1;
 
 // The lowest bit of each row, and the bits of the lowest row.
 const COLUMN: u64 = 0x0101_0101_0101_0101;
@@ -17,14 +33,18 @@ const ROW: u64 = 255;
 // A prime.
 const DIGESTS: u64 = 32749;
 
+// A relation. Its word is known to this crate only: a caller makes, joins, compares and stores relations by the functions below.
 pub struct Relation {
-    pub bits: u64,
+    bits: u64,
 }
+
+// What a check compares and joins (document 01: an effect).
+pub type Effect = Relation;
 
 impl Relation {
     // No pair: the relation of a terminal without transitions.
     pub fn empty() -> Relation
-        ensures { λ r. ⌜ value r ≡ 0 ⌝ }
+        ensures { λ r. ⌜ r ≡ none ⌝ }
     {
         Relation { bits: 0 }
     }
@@ -44,13 +64,13 @@ impl Relation {
     {
         let from = a as u32;
         let to = b as u32;
-        if STATES <= from {
+        if SIDE <= from {
             return Relation { bits: 0 };
         }
-        if STATES <= to {
+        if SIDE <= to {
             return Relation { bits: 0 };
         }
-        let place = from * STATES + to;
+        let place = from * SIDE + to;
         let bit: u64 = 1 << place;
         Relation { bits: bit }
     }
@@ -65,6 +85,22 @@ impl Relation {
         Relation { bits: old | new }
     }
 
+    // Reads relation `i` of `table`.
+    pub fn read(table: &[Letter], i: usize) -> Relation
+        requires { ⌜ (i + 1) * relationWords ≤ length (now table) ⌝ }
+        ensures { λ r. ⌜ r ≡ relationIn (now (table .entry)) i ⌝ }
+    {
+        Relation { bits: table[i] }
+    }
+
+    // Stores the relation in `table` as relation `i`.
+    pub fn store(self, table: &mut [Letter], i: usize)
+        requires { ⌜ (i + 1) * relationWords ≤ length (now table) ⌝ }
+        ensures { λ _. ⌜ now (table .exit) ≡ withRelation (now (table .entry)) i (value self) ⌝ }
+    {
+        table[i] = self.bits;
+    }
+
     // One relation after the other: for each middle state, its column here times its row there.
     pub fn compose(self, next: Relation) -> Relation
         ensures { λ r. ⌜ value r ≡ compose states (value self) (value next) ⌝ }
@@ -73,9 +109,9 @@ impl Relation {
         let y = next.bits;
         let mut bits: u64 = 0;
         let mut m: u32 = 0;
-        while m < STATES {
+        while m < SIDE {
             let column = (x >> m) & COLUMN;
-            let row = (y >> (m * STATES)) & ROW;
+            let row = (y >> (m * SIDE)) & ROW;
             bits = bits | (column * row);
             m += 1;
         }
@@ -110,8 +146,8 @@ impl Relation {
         (self.bits % DIGESTS) as usize
     }
 
-    // No pair (0, f) with f final; state f is final where bit f of the mask is set.
-    pub fn rejects(self, finals: u8) -> bool
+    // No pair (0, f) with f final; `finals` is the set of the final states.
+    pub fn rejects(self, finals: StateSet) -> bool
         ensures { λ r. ⌜ r ≡ rejects states (bit finals) (value self) ⌝ }
     {
         self.bits & (finals as u64) == 0

@@ -1,4 +1,4 @@
--- What the walks of `check` and `write` share: a rule as its four bytes, and the row of zeros that the table of rules is made of; the token of a loan; and that a struct's machine value is of its type.
+-- What the walks of `check` and `write` share: the row of zeros that the table of rules is made of; the token of a loan; and that a struct's machine value is of its type.
 -- Definitions assume nothing; the laws of a model assume `Given`.
 use mathlib.Core.List.{[], _∷_}
 use Prim.Native.Nat.{ℕ}
@@ -13,17 +13,14 @@ use base.Fml.{flft}
 use prog.Wp.{Heap}
 use ghost.Atoms.{Atoms}
 use types.Kit.{Given, Item, ‵}
-use denote.Array.{Array, arrayVal, array-lawful, array-makes}
+use denote.Array.{arrayVal, array-lawful, array-makes}
 use denote.Builtin.{u8}
 use denote.Laws.{Is, Typed, Lawful, Makes}
 use denote.Plain.{uint-lawful, uint-makes}
-use denote.RattleType.{RattleType}
 use denote.Struct.Declared.{Declared, row}
 use denote.Struct.Laws as LL
 use Rattle.lent.proofs.LocalArrays.{repeat-is, repeat-typed}
-
-abbrev pub Entry : RattleType
-Entry = Array u8 4
+use Rattle.calls.proofs.Types.{Entry}
 
 abbrev pub zeros : Val
 zeros = arrayVal (replicate 4 (vint w8 0))

@@ -86,8 +86,8 @@ amongFirst r i n = cond (ltb i n) r blank
 abbrev pub ruleAt : List (List ℕ) → ℕ → Rule
 ruleAt rules r = entryOf (getD rules r [])
 
--- the candidate of the place, from the rows that the pass began with
+-- the candidate of the place, from the used rows
 abbrev pub formedIn : List ℕ → List (List ℕ) → State → LentRow → LentRow → Candidate
 formedIn letters rules s left right =
-    formedBy letters (ruleAt rules (s .place .rule)) (s .place) (rowOf (amongFirst left (s .place .left) (s .terms .start)))
-    (rowOf (amongFirst right (s .place .right) (s .terms .start)))
+    formedBy letters (ruleAt rules (s .place .rule)) (s .place) (rowOf (amongFirst left (s .place .left) (s .counts .used)))
+    (rowOf (amongFirst right (s .place .right) (s .counts .used)))

@@ -1,9 +1,9 @@
 -- What the code's candidates, choices and letter tables stand for in the working order. Definitions only. Assumes nothing.
 use mathlib.Core.List.{List}
 use Prim.Native.Nat.{ℕ}
-use lib.ListN.{getD}
 use Rattle.relation.specs.Relation.{states}
 use Rattle.relation.specs.Representation.{value}
+use Rattle.relation.specs.Stored.{relationIn}
 use Rattle.relation.specs.declared.Relation.{Relation}
 use Rattle.working_order.specs.Algebra.{Forms, Algebra}
 use Rattle.calls.specs.Base.{formsBy, baseBy}
@@ -13,7 +13,7 @@ use Rattle.rows.specs.declared.Choice.{Choice}
 
 -- the relation of a terminal, from the table
 abbrev pub letterIn : List ℕ → ℕ → Relation
-letterIn letters c = record { bits = getD letters c 0 }
+letterIn letters c = relationIn letters c
 
 abbrev pub formsOf : List ℕ → Forms ℕ
 formsOf letters = formsBy states (λ c. value (letterIn letters c))

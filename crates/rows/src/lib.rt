@@ -1,16 +1,21 @@
 // One row of the journal, one way to take a symbol, and one candidate of the working order, each by value. All that is done with an effect in
 // a search stands here: forming, comparing, retiring, opening, breaking, the digest. A rule is four bytes: its head, its body's size and its
 // symbols.
+use calls::ABSENT;
 use calls::Row;
 use deciding::Comparison;
 use deciding::Fate;
 use deciding::Place;
 use deciding::State;
-use relation::Relation;
+use plan_file::TERMINALS;
+use relation::Effect;
+use relation::Letter;
+use relation::StateSet;
 ghost use mathlib.Core.Path.{_≡_};
 ghost use Prim.Native.Nat.{_≤_, _<_};
 ghost use lib.ListN.{length};
 ghost use Rattle.relation.specs.Relation.{contained};
+ghost use Rattle.plan_file.specs.Limits.{letterWords};
 ghost use Rattle.plan_file.specs.Views.{symbolOf};
 ghost use Rattle.working_order.specs.Candidates.{sole};
 ghost use Rattle.working_order.specs.Order.{larger, born};
@@ -20,16 +25,11 @@ ghost use Rattle.rows.specs.Meanings.{candidateOf, choiceOf};
 ghost use Rattle.deciding.specs.Fates.{fateIn};
 ghost use Rattle.rows.specs.Forming.{isBelow, retiredIn, replacedBy, slotCells, symbolChoice, formedBy, amongFirst, formedIn};
 
-// A pointer that names no row.
-const ABSENT: u64 = 65535;
-
-const TERMINALS: u8 = 128;
-
 // What would become a row.
 pub struct Candidate {
     pub head: u8,
     pub rule: u64,
-    pub relation: Relation,
+    pub relation: Effect,
     pub left: u64,
     pub right: u64,
     pub len: u64,
@@ -43,7 +43,7 @@ struct Origin {
 
 // One way to take a symbol.
 struct Choice {
-    relation: Relation,
+    relation: Effect,
     pointer: u64,
     len: u64,
 }
@@ -121,8 +121,8 @@ pub fn replacement(
     held
 }
 
-// The candidate is of the initial nonterminal, and rejects.
-fn breaks(finals: u8, candidate: Candidate) -> bool
+// Returns whether `candidate` is of the initial nonterminal and its relation rejects, where `finals` are the final states.
+fn breaks(finals: StateSet, candidate: Candidate) -> bool
     ensures { λ r. ⌜ r ≡ breaking finals (candidateOf candidate) ⌝ }
 {
     let formed = candidate.relation;
@@ -156,16 +156,14 @@ pub fn slot_unless(compared: Comparison, candidate: Candidate) -> usize
 
 // ---- forming a candidate
 
-// A terminal is taken by its relation, a nonterminal by a row.
-fn taken(letters: &[u64], symbol: u8, i: usize, row: Row) -> Choice
-    requires { ⌜ 128 ≤ length (now letters) ⌝ }
+// Returns how `symbol` is taken: a terminal by its relation in `letters`, a nonterminal by row `i`, which is `row`.
+fn taken(letters: &[Letter], symbol: u8, i: usize, row: Row) -> Choice
+    requires { ⌜ letterWords ≤ length (now letters) ⌝ }
     ensures { λ r. ⌜ choiceOf r ≡ symbolChoice (now (letters .entry)) (symbolOf symbol) i (rowOf row) ⌝ }
 {
     if symbol < TERMINALS {
         return Choice {
-            relation: Relation {
-                bits: letters[symbol as usize],
-            },
+            relation: Effect::read(letters, symbol as usize),
             pointer: ABSENT,
             len: 1,
         };
@@ -184,7 +182,7 @@ fn empty_body(origin: Origin) -> Candidate
     Candidate {
         head: origin.head,
         rule: origin.rule,
-        relation: Relation::identity(),
+        relation: Effect::identity(),
         left: ABSENT,
         right: ABSENT,
         len: 0,
@@ -220,9 +218,9 @@ fn two_symbols(origin: Origin, first: Choice, second: Choice) -> Candidate
     }
 }
 
-// The candidate of a place, whose rule and rows these are.
-fn formed(letters: &[u64], rule: [u8; 4], place: Place, left: Row, right: Row) -> Candidate
-    requires { ⌜ 128 ≤ length (now letters) ⌝ }
+// Returns the candidate of `place`, whose rule is `rule` and whose rows are `left` and `right`.
+fn formed(letters: &[Letter], rule: [u8; 4], place: Place, left: Row, right: Row) -> Candidate
+    requires { ⌜ letterWords ≤ length (now letters) ⌝ }
     ensures { λ r. ⌜ candidateOf r ≡ formedBy (now (letters .entry)) (entryOf rule) place (rowOf left) (rowOf right) ⌝ }
 {
     let origin = Origin {
@@ -241,35 +239,26 @@ fn formed(letters: &[u64], rule: [u8; 4], place: Place, left: Row, right: Row) -
     two_symbols(origin, first, second)
 }
 
-// Returns `row`, if `position` is one of the rows that the pass began with, and else a row of zeros.
-fn among(row: Row, position: usize, start: usize) -> Row
-    ensures { λ r. ⌜ r ≡ amongFirst row position start ⌝ }
+// Returns `row`, which was read for `position`, or a row of zeros where `position` is none of the `used` rows.
+fn among(row: Row, position: usize, used: usize) -> Row
+    ensures { λ r. ⌜ r ≡ amongFirst row position used ⌝ }
 {
-    if position < start {
+    if position < used {
         return row;
     }
-    Row {
-        head: 0,
-        rule: 0,
-        relation: Relation { bits: 0 },
-        left: 0,
-        right: 0,
-        len: 0,
-        birth: 0,
-        retired: 0,
-    }
+    Row::blank()
 }
 
 // Forms the candidate of the place at which `state` stands, from the two rows that were read for it.
-pub fn form(letters: &[u64], rules: &[[u8; 4]], state: State, left: Row, right: Row) -> Candidate
-    requires { ⌜ (128 ≤ length (now letters)) × (state .place .rule < length (now rules)) ⌝ }
+pub fn form(letters: &[Letter], rules: &[[u8; 4]], state: State, left: Row, right: Row) -> Candidate
+    requires { ⌜ (letterWords ≤ length (now letters)) × (state .place .rule < length (now rules)) ⌝ }
     ensures { λ r. ⌜ candidateOf r ≡ formedIn (now (letters .entry)) (now (rules .entry)) state left right ⌝ }
 {
-    let terms = state.terms;
+    let counts = state.counts;
     let place = state.place;
     let r = place.rule;
     let rule = rules[r];
-    let first = among(left, place.left, terms.start);
-    let second = among(right, place.right, terms.start);
+    let first = among(left, place.left, counts.used);
+    let second = among(right, place.right, counts.used);
     formed(letters, rule, place, first, second)
 }

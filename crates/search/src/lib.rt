@@ -3,6 +3,7 @@
 use calls::Row;
 use deciding::Fate;
 use deciding::State;
+use relation::Letter;
 use rows::Candidate;
 use search_cover::CoverCursor;
 ghost use Rattle.rows.specs.Meanings.{candidateOf};
@@ -59,7 +60,7 @@ fn settle(
 pub fn run(
     journal: &mut [Row],
     table: &mut [u32],
-    letters: &[u64],
+    letters: &[Letter],
     rules: &[[u8; 4]],
     state: State,
 ) -> State

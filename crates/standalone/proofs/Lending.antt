@@ -33,8 +33,9 @@ use denote.Triple.Statement.{Contract}
 use Rattle.lent.proofs.CallPlain.{asks-plain}
 use Rattle.lent.proofs.CallStep.{Called}
 use Rattle.lent.proofs.LocalArrays.{from-start}
-use Rattle.lent.proofs.PlainData.{Data}
 use Rattle.calls.specs.declared.Row.{Row}
+use Rattle.calls.specs.Checking.{journalLimit}
+use Rattle.calls.proofs.Types.{rowBytes}
 use Rattle.calls.proofs.Row as T
 use Rattle.calls.proofs.Row.Laws as T′
 use Rattle.checker.proofs.check as checks
@@ -42,14 +43,11 @@ use Rattle.telling.proofs.front as front
 use Rattle.telling.proofs.row_number as row-number
 use Rattle.writer.proofs.write as write
 
-abbrev pub row : Data
-row = record { type = T.the-type; laws = T′.the-laws; plain = T′.the-plain; copy = T′.the-copy; low = T′.lowers }
-
 -- so few rows have room
-pub rows-room : (n : ℕ) → n ≤ 4096 → Room T.the-row n
+pub rows-room : (n : ℕ) → n ≤ journalLimit → Room T.the-row n
 rows-room n le = (omega arith, omega arith)
 
-pub row-offset : (i : ℕ) → i < 4096 → i * 64 < 2 ^ 64
+pub row-offset : (i : ℕ) → i < journalLimit → i * rowBytes < 2 ^ 64
 row-offset i lt = omega arith
 
 module _ {M : Type 1} (𝓤 : URA M) (H : Heap 𝓤) (A : Atoms 𝓤) (W : Given 𝓤 H A) (mem : Memory → SProp 𝓤) (run : Routine → Fun 𝓤) where

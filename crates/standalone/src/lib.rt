@@ -1,7 +1,7 @@
 // One call for programs and hosts: the check over a journal of the library's own, and the run of a broken answer in the lent buffer. Its
 // parameters and its answer are plain values and lent bytes, so whoever calls it is proved by the toolchain.
+use calls::JOURNAL_LIMIT;
 use calls::Row;
-use telling::ROWS;
 use telling::Told;
 ghost use Rattle.standalone.specs.Contracts.{ChecksAlone};
 
@@ -18,7 +18,7 @@ pub fn checked(
 ) -> Told
     ensures { λ r. ⌜ ChecksAlone (now (file .entry)) rows old budget probe (now (buffer .entry)) (now (buffer .exit)) r ⌝ }
 {
-    let mut journal = [old; ROWS];
+    let mut journal = [old; JOURNAL_LIMIT];
     let n = telling::front(rows);
     let checked = checker::check(file, &mut journal[..n], budget);
     let named = telling::named_in(checked, file.len());

@@ -3,7 +3,10 @@ use deciding::Counts;
 use deciding::Place;
 use deciding::State;
 use deciding::Terms;
+use plan_file::Letters;
+use plan_file::RULE_LIMIT;
 use plan_file::Refusal;
+use relation::StateSet;
 ghost use mathlib.Core.Path.{_≡_};
 ghost use lib.ListN.{replicate};
 ghost use Rattle.places.specs.Lists.{end};
@@ -17,7 +20,7 @@ pub struct Start {
 }
 
 // Before the first pass, on so many rules.
-fn wait(rows: usize, rules: usize, budget: u64, finals: u8) -> State
+fn wait(rows: usize, rules: usize, budget: u64, finals: StateSet) -> State
     ensures { λ r. ⌜ r ≡ waiting rows rules budget finals ⌝ }
 {
     State {
@@ -31,7 +34,11 @@ fn wait(rows: usize, rules: usize, budget: u64, finals: u8) -> State
             start: 0,
             before: 0,
         },
-        counts: Counts { used: 0, joins: 0 },
+        counts: Counts {
+            used: 0,
+            joins: 0,
+            added: 0,
+        },
         place: Place {
             rule: 0,
             left: 0,
@@ -47,8 +54,8 @@ fn wait(rows: usize, rules: usize, budget: u64, finals: u8) -> State
 // Fills in the tables and begins the first pass, where nothing refuses.
 pub fn prepare(
     file: &[u8],
-    letters: &mut [u64; 128],
-    rules: &mut [[u8; 4]; 256],
+    letters: &mut Letters,
+    rules: &mut [[u8; 4]; RULE_LIMIT],
     table: &mut [u32],
     rows: usize,
     budget: u64,

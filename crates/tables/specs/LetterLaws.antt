@@ -3,23 +3,22 @@
 use mathlib.Core.Path.{_≡_, refl, sym, ap, ap₂, _∙_}
 use mathlib.Core.Bool.{Bool, true, false, _&&_, _||_, and-true, and-false, or-false}
 use mathlib.Core.List.{List, [], _∷_, _++_}
-use Prim.Native.Nat.{ℕ, zero, suc, _+_, _*_, _<_}
-use native.Mathlib.Omega.{arith}
+use Prim.Native.Nat.{ℕ, _*_, _≤_, _<_}
 use lib.Dec.{eqb}
-use lib.ListN.{length, getD, set, replicate, length-set}
+use lib.ListN.{length, replicate}
 use lib.Pow.{pow-pos}
-use lib.Seq.{ext-getD, getD-set-same, getD-set-other}
-use borrow.Author.Tests.{eqb-true, eqb-false}
+use borrow.Author.Tests.{eq-eqb, ne-eqb}
 use Rattle.basics.specs.Tests.{eqb-comm}
 use Rattle.basics.specs.Lists.{any-append}
-use Rattle.relation.specs.Relation.{has, insert}
+use Rattle.relation.specs.Relation.{states, has, insert}
 use Rattle.relation.specs.RelationLaws.{has-table, ext-has, has-empty, insert-lt, has-insert}
+use Rattle.relation.specs.Representation.{value}
+use Rattle.relation.specs.Stored.{relationIn}
+use Rattle.relation.specs.StoredLaws.{relations-length, relations-at, relations-past, relations-none, relations-with}
 use Rattle.language.specs.Automaton.{Transition}
 use Rattle.language.specs.WordRelation.{moves, letterRelation}
 use Rattle.language.specs.Paths.{letterRelation-lt}
-use Rattle.plan_file.specs.Limits.{terminals}
-use Rattle.plan_file.specs.Entries.{every}
-use Rattle.plan_file.specs.EntryLaws.{length-every, getD-every}
+use Rattle.plan_file.specs.Limits.{terminals, letterWords}
 use Rattle.tables.specs.Tables.{letterTable, withTransition}
 
 -- ---- one terminal, on any number of states
@@ -71,49 +70,29 @@ module _ (n : ℕ) (ts : List Transition) (t : Transition) (c : ℕ) where
 
 -- ---- the table
 
-zeros : (g : ℕ → ℕ) → ((c : ℕ) → g c ≡ 0) → (m i : ℕ) → replicate m 0 ≡ every g m i
-unfolding every
-zeros g h zero i = refl
-zeros g h (suc m) i = ap₂ (λ (x : ℕ) (xs : List ℕ). x ∷ xs) (sym (h i)) (zeros g h m (suc i))
-
-pub letters-none : (n : ℕ) → replicate terminals 0 ≡ letterTable n []
+pub letters-none : (n : ℕ) → replicate letterWords 0 ≡ letterTable n []
 unfolding letterTable
-letters-none n = zeros (letterRelation n []) (letter-none n) terminals 0
+letters-none n = relations-none (letterRelation n []) terminals (letter-none n)
 
-module _ (n : ℕ) (ts : List Transition) where
-  pub letters-length : length (letterTable n ts) ≡ terminals
-  unfolding letterTable
-  letters-length = length-every (letterRelation n ts) terminals 0
+pub letters-length : (n : ℕ) (ts : List Transition) → length (letterTable n ts) ≡ letterWords
+unfolding letterTable
+letters-length n ts = relations-length (letterRelation n ts) terminals
 
-  pub letters-at : (c : ℕ) → c < terminals → getD (letterTable n ts) c 0 ≡ letterRelation n ts c
-  unfolding letterTable
-  letters-at c h = let z : 0 + c ≡ c = omega arith in getD-every (letterRelation n ts) 0 terminals 0 c h ∙ ap (letterRelation n ts) z
+-- the relation of terminal c, on the states that the code has
+pub letters-at : (ts : List Transition) (c : ℕ) → c < terminals → value (relationIn (letterTable states ts) c) ≡ letterRelation states ts c
+unfolding letterTable
+letters-at ts c h = relations-at (letterRelation states ts) terminals c h (letterRelation-lt states ts c)
 
-pub letters-next : (n : ℕ) (ts : List Transition) (t : Transition) → withTransition n (letterTable n ts) t ≡ letterTable n (ts ++ (t ∷ []))
-letters-next n ts t =
-    ext-getD 0 new (letterTable n (ts ++ (t ∷ [])))
-    (length-set old (t .letter) _ ∙ letters-length n ts ∙ sym (letters-length n (ts ++ (t ∷ []))))
-    (λ c h. by (eqb (t .letter) c) c refl (let l : c < terminals = omega (arith, length-set old (t .letter) entry, letters-length n ts) in l))
-  where
-    old : List ℕ
-    old = letterTable n ts
+-- no pair past the terminals
+pub letters-past : (ts : List Transition) (c : ℕ) → terminals ≤ c → value (relationIn (letterTable states ts) c) ≡ 0
+unfolding letterTable
+letters-past ts = relations-past (letterRelation states ts) terminals
 
-    entry : ℕ
-    entry = insert n (getD old (t .letter) 0) (t .source) (t .target)
-
-    new : List ℕ
-    new = set old (t .letter) entry
-
-    by : (b : Bool) → (c : ℕ) → eqb (t .letter) c ≡ b → c < terminals → getD new c 0 ≡ getD (letterTable n (ts ++ (t ∷ []))) c 0
-    by true c e h =
-        let q = eqb-true (t .letter) c e in
-        ap (λ (j : ℕ). getD new j 0) (sym q)
-        ∙ getD-set-same old (t .letter) entry 0 (let l : t .letter < length old = omega (arith, letters-length n ts) in l)
-        ∙ ap (λ (r : ℕ). insert n r (t .source) (t .target)) (ap (λ (j : ℕ). getD old j 0) q ∙ letters-at n ts c h)
-        ∙ letter-same n ts t c e
-        ∙ sym (letters-at n (ts ++ (t ∷ [])) c h)
-    by false c e h =
-        getD-set-other old (t .letter) c entry 0 (λ q. eqb-false (t .letter) c e (sym q))
-        ∙ letters-at n ts c h
-        ∙ letter-other n ts t c e
-        ∙ sym (letters-at n (ts ++ (t ∷ [])) c h)
+pub letters-next : (ts : List Transition) (t : Transition) → withTransition states (letterTable states ts) t ≡ letterTable states (ts ++ (t ∷ []))
+unfolding letterTable
+letters-next ts t =
+    relations-with (letterRelation states ts) terminals (letterRelation states (ts ++ (t ∷ []))) (t .letter) _
+    (λ h.
+    sym (letter-same states ts t (t .letter) (eq-eqb (t .letter) (t .letter) refl))
+    ∙ ap (λ (r : ℕ). insert states r (t .source) (t .target)) (sym (letters-at ts (t .letter) h)))
+    (λ c n. sym (letter-other states ts t c (ne-eqb (t .letter) c (λ e. n (sym e)))))

@@ -5,26 +5,27 @@ use mathlib.Core.Bool.{_||_, cond}
 use mathlib.Core.List.{List, [], _∷_, _++_, map}
 use Prim.Native.Nat.{ℕ, _+_}
 use lib.Dec.{eqb, ltb}
-use lib.ListN.{length, getD, take, drop, set}
+use lib.ListN.{length, take, drop, set}
 use Rattle.relation.specs.Digits.{bit, number}
 use Rattle.relation.specs.Relation.{insert}
+use Rattle.relation.specs.Representation.{value}
+use Rattle.relation.specs.Stored.{relationIn, withRelation, relationsOf}
 use Rattle.language.specs.Automaton.{Transition}
 use Rattle.language.specs.WordRelation.{letterRelation}
 use Rattle.plan_file.specs.Limits.{terminals, ruleLimit}
 use Rattle.plan_file.specs.Records.{recordCount, byte, ruleKind}
 use Rattle.plan_file.specs.Views.{collect, rulesOf}
-use Rattle.plan_file.specs.Entries.{every}
 use Rattle.calls.specs.Rows.{entryOf}
 
 -- ---- the relations of the terminals (document 01: the effects of the step codes)
 
 -- on n states, in the order of the terminals
 unfoldable pub letterTable : ℕ → List Transition → List ℕ
-letterTable n ts = every (letterRelation n ts) terminals 0
+letterTable n ts = relationsOf (letterRelation n ts) terminals
 
 -- with one transition more; the same table where its letter is no terminal
 abbrev pub withTransition : ℕ → List ℕ → Transition → List ℕ
-withTransition n table t = set table (t .letter) (insert n (getD table (t .letter) 0) (t .source) (t .target))
+withTransition n table t = withRelation table (t .letter) (insert n (value (relationIn table (t .letter))) (t .source) (t .target))
 
 -- ---- the mask of final states (document 01: finishing stages)
 

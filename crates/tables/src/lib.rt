@@ -8,23 +8,20 @@ ghost use lib.ListN.{length, replicate};
 ghost use Rattle.relation.specs.Relation.{states};
 ghost use Rattle.relation.specs.Digits.{number};
 ghost use Rattle.language.specs.WordRelation.{isFinal};
-ghost use Rattle.plan_file.specs.Limits.{terminals, ruleLimit};
+ghost use Rattle.plan_file.specs.Limits.{letterWords, ruleLimit};
 ghost use Rattle.plan_file.specs.Records.{recordCount, recordAt, kindAt, ruleKind, transitionKind, finalKind};
 ghost use Rattle.plan_file.specs.Views.{transitionOf, finalOf, transitionsOf, automatonOf};
 ghost use Rattle.tables.specs.Tables.{letterTable, withTransition, withState, rowIn, rowsOf, rowsIn, withRow, written, RuleTable};
+use plan_file::FINAL_KIND;
+use plan_file::LETTER_WORDS;
+use plan_file::Letters;
+use plan_file::RULE_KIND;
+use plan_file::RULE_LIMIT;
+use plan_file::TERMINALS;
+use plan_file::TRANSITION_KIND;
 use relation::Relation;
-
-const STATES: u8 = 8;
-
-const TERMINALS: u8 = 128;
-
-const RULE_LIMIT: usize = 256;
-
-const RULE_KIND: u8 = 1;
-
-const TRANSITION_KIND: u8 = 2;
-
-const FINAL_KIND: u8 = 3;
+use relation::STATES;
+use relation::StateSet;
 
 // Record i is of the kind.
 fn of_kind(file: &[u8], i: usize, kind: u8) -> bool
@@ -36,16 +33,16 @@ fn of_kind(file: &[u8], i: usize, kind: u8) -> bool
 
 // ---- the relations of the terminals
 
-// No terminal has a pair.
-fn clear(table: &mut [u64; 128])
-    ensures { λ _. ⌜ now (table .exit) ≡ replicate terminals 0 ⌝ }
+// Makes every relation of `table` empty, as they are without a transition.
+fn clear(table: &mut Letters)
+    ensures { λ _. ⌜ now (table .exit) ≡ replicate letterWords 0 ⌝ }
 {
-    *table = [0u64; 128];
+    *table = [0; LETTER_WORDS];
 }
 
-// Takes record i in, where it is a transition on a terminal.
-fn read_transition(file: &[u8], i: usize, table: &mut [u64; 128])
-    requires { ⌜ (i < recordCount (now file)) × (length (now table) ≡ terminals) ⌝ }
+// Stores the pair of record `i` in its letter's relation in `table`, where the record is a transition on a terminal; else stores nothing.
+fn read_transition(file: &[u8], i: usize, table: &mut Letters)
+    requires { ⌜ (i < recordCount (now file)) × (length (now table) ≡ letterWords) ⌝ }
     ensures { λ _. ⌜ now (table .exit) ≡ cond (eqb (kindAt (now (file .entry)) i) transitionKind) (withTransition states (now (table .entry)) (transitionOf (recordAt (now (file .entry)) i))) (now (table .entry)) ⌝ }
 {
     if !of_kind(file, i, TRANSITION_KIND) {
@@ -57,13 +54,13 @@ fn read_transition(file: &[u8], i: usize, table: &mut [u64; 128])
         return;
     }
     let at = letter as usize;
-    let old = Relation { bits: table[at] };
+    let old = Relation::read(table, at);
     let new = old.insert(t.source, t.target);
-    table[at] = new.bits;
+    new.store(table, at);
 }
 
-// Entry c is the relation of terminal c.
-pub fn letter_relations(file: &[u8], table: &mut [u64; 128])
+// Stores the relation of each terminal in `table`: relation `c` has the pairs of the transitions of `file` on terminal `c`.
+pub fn letter_relations(file: &[u8], table: &mut Letters)
     ensures { λ _. ⌜ now (table .exit) ≡ letterTable states (transitionsOf (now (file .entry))) ⌝ }
 {
     clear(table);
@@ -77,20 +74,20 @@ pub fn letter_relations(file: &[u8], table: &mut [u64; 128])
 
 // ---- the final states
 
-// The mask with a state; the same mask where it is no state.
-fn with_state(mask: u8, state: u8) -> u8
+// Returns `mask` with `state` in it; `mask` itself where `state` is none.
+fn with_state(mask: StateSet, state: u8) -> StateSet
     ensures { λ r. ⌜ r ≡ withState states mask state ⌝ }
 {
     if STATES <= state {
         return mask;
     }
     let place = state as u32;
-    let bit: u8 = 1 << place;
+    let bit: StateSet = 1 << place;
     mask | bit
 }
 
-// The mask with what record i says, where it is a final state.
-fn read_final(file: &[u8], i: usize, mask: u8) -> u8
+// Returns `mask` with the state of record `i`, where the record is a final state; else `mask`.
+fn read_final(file: &[u8], i: usize, mask: StateSet) -> StateSet
     requires { ⌜ i < recordCount (now file) ⌝ }
     ensures { λ r. ⌜ r ≡ cond (eqb (kindAt (now (file .entry)) i) finalKind) (withState states mask (finalOf (recordAt (now (file .entry)) i))) mask ⌝ }
 {
@@ -100,12 +97,12 @@ fn read_final(file: &[u8], i: usize, mask: u8) -> u8
     with_state(mask, views::final_at(file, i))
 }
 
-// Bit f is set where state f is final.
-pub fn final_states(file: &[u8]) -> u8
+// Returns the set of the final states of `file`.
+pub fn final_states(file: &[u8]) -> StateSet
     ensures { λ r. ⌜ r ≡ number states (isFinal (automatonOf (now (file .entry)))) ⌝ }
 {
     let n = file.len() / 8;
-    let mut mask: u8 = 0;
+    let mut mask: StateSet = 0;
     let mut i: usize = 0;
     while i < n {
         mask = read_final(file, i, mask);
@@ -155,8 +152,8 @@ fn read_rules(file: &[u8], rows: &mut [[u8; 4]]) -> usize
     n
 }
 
-// The first 256 rules in file order, each as a row of head, body length, first and second symbol; gives their count.
-pub fn rule_table(file: &[u8], table: &mut [[u8; 4]; 256]) -> usize
+// Stores the first rules of `file`, up to the limit, in `table`, each as head, body length, first and second symbol; returns their count.
+pub fn rule_table(file: &[u8], table: &mut [[u8; 4]; RULE_LIMIT]) -> usize
     ensures { λ n. ⌜ RuleTable (now (file .entry)) (now (table .entry)) (now (table .exit)) n ⌝ }
 {
     read_rules(file, table)

@@ -1,16 +1,18 @@
 // What a host is told of a check, and what is decided around it: how many rows are lent, which of them are looked at afterwards.
+use calls::ABSENT;
+use calls::JOURNAL_LIMIT;
 use calls::Row;
 use checker::Checked;
-use relation::Relation;
 use verdicts::Answer;
 use verdicts::Totals;
 use writer::Writing;
 ghost use mathlib.Core.Path.{_≡_};
 ghost use Prim.Native.Nat.{_≤_, _<_};
-ghost use Rattle.calls.specs.Rows.{blank};
+ghost use Rattle.calls.specs.Checking.{journalLimit};
 ghost use Rattle.writer.specs.Answers.{writingOf};
 ghost use Rattle.telling.specs.Fronts.{frontOf, placeOf, nameOf, nameIn};
-ghost use Rattle.telling.specs.Telling.{refusedBy, unbrokenBy, brokenBy, toldOf, toldBy};
+ghost use Rattle.calls.specs.Codes.{refusedBy};
+ghost use Rattle.telling.specs.Telling.{unbrokenBy, brokenBy, toldOf, toldBy};
 
 // The numbers of the verdicts, as wide as those of the refusals.
 pub const HOLDS: u64 = verdicts::HOLDS as u64;
@@ -20,12 +22,6 @@ pub const BROKEN: u64 = verdicts::BROKEN as u64;
 pub const FULL: u64 = verdicts::FULL as u64;
 
 pub const SPENT: u64 = verdicts::SPENT as u64;
-
-// A row number that names no row.
-const ABSENT: u64 = 65535;
-
-// Rows of a journal at most.
-pub const ROWS: usize = 4096;
 
 // What a host is told: the number that refuses, or the verdict's; the refused record's number; joins, used rows and pass; and of a broken
 // answer the row, its pairs, its length, and what refuses to write its run, or 0. And the row that was asked for, as it stands then.
@@ -51,27 +47,11 @@ pub struct Named {
 
 // ---- before the check
 
-// A row of zeros.
-pub fn blank_row() -> Row
-    ensures { λ r. ⌜ r ≡ blank ⌝ }
-{
-    Row {
-        head: 0,
-        rule: 0,
-        relation: Relation { bits: 0 },
-        left: 0,
-        right: 0,
-        len: 0,
-        birth: 0,
-        retired: 0,
-    }
-}
-
 // The number of rows to lend: `rows`, or 0 if the array is too short. Refusal 8 covers both cases, so the caller sees no difference.
 pub fn front(rows: usize) -> usize
-    ensures { λ r. ⌜ (r ≡ frontOf rows) × (r ≤ 4096) ⌝ }
+    ensures { λ r. ⌜ (r ≡ frontOf rows) × (r ≤ journalLimit) ⌝ }
 {
-    if rows <= ROWS {
+    if rows <= JOURNAL_LIMIT {
         return rows;
     }
     0
@@ -81,9 +61,9 @@ pub fn front(rows: usize) -> usize
 
 // The row, if a journal may have it, or else row 0.
 pub fn row_number(i: usize) -> usize
-    ensures { λ r. ⌜ (r ≡ placeOf i) × (r < 4096) ⌝ }
+    ensures { λ r. ⌜ (r ≡ placeOf i) × (r < journalLimit) ⌝ }
 {
-    if i < ROWS {
+    if i < JOURNAL_LIMIT {
         return i;
     }
     0

@@ -1,13 +1,45 @@
 // For tests only (cases_inclusion): lists the relations of all words of each nonterminal, none left out, with no code of the inclusion check.
 // The list holds pairs of a symbol, as a rule's body spells it, and the relation of a word of that symbol. A relation has pair (a, b) at bit
-// a * 8 + b. A list has room for 512 pairs, and a file for 24 records.
+// a * 8 + b.
 pub mod rows;
+
+// The numbers of document 01 that this search needs, written anew here so that nothing is shared with the check.
+const STATES: u64 = 8;
+
+pub const TERMINALS: u64 = 128;
+
+pub const NONTERMINALS: u64 = 64;
+
+const RECORD_BYTES: usize = 8;
+
+// Pairs of states, and triples.
+const PAIRS: u64 = STATES * STATES;
+
+const TRIPLES: u64 = PAIRS * STATES;
+
+// Records that are read of a file, and records that a file has room for.
+const RECORDS: usize = 24;
+
+const ROOM: usize = 32;
+
+// The most pairs of the list.
+pub const LIMIT: usize = 512;
+
+pub type Found = [[u64; 2]; LIMIT];
+
+// Turns of the search: one to begin, and one for each pair of the list.
+const TURNS: usize = LIMIT + 1;
+
+// A row of the journal as numbers, in document 01's order: nonterminal, rule, relation, left and right pointer, length, birth, retired.
+pub const FIELDS: usize = 8;
+
+pub type Numbers = [u64; FIELDS];
 
 // ---- the file
 
 // Returns byte `i` of record `record`, or 0 past the end of `file`.
 fn byte(file: &[u8], record: usize, i: usize) -> u64 {
-    let at = record % 32 * 8 + i % 8;
+    let at = record % ROOM * RECORD_BYTES + i % RECORD_BYTES;
     if at < file.len() { wide(file[at]) } else { 0 }
 }
 
@@ -18,11 +50,11 @@ fn wide(x: u8) -> u64 {
 // ---- relations
 
 fn has(relation: u64, a: u64, b: u64) -> bool {
-    (relation >> (a % 8 * 8 + b % 8)) % 2 == 1
+    (relation >> (a % STATES * STATES + b % STATES)) % 2 == 1
 }
 
 fn with(relation: u64, a: u64, b: u64) -> u64 {
-    relation | (1u64 << (a % 8 * 8 + b % 8))
+    relation | (1u64 << (a % STATES * STATES + b % STATES))
 }
 
 // Adds the pair of record `r` to `relation`, if that is a transition by the letter `code`.
@@ -36,7 +68,7 @@ fn with_transition(relation: u64, file: &[u8], code: u64, r: usize) -> u64 {
 // Returns the relation of the letter `code`: the pairs (a, b) with a transition from a to b on it.
 fn letter(file: &[u8], code: u64) -> u64 {
     let mut relation: u64 = 0;
-    for r in 0..24usize {
+    for r in 0..RECORDS {
         relation = with_transition(relation, file, code, r);
     }
     relation
@@ -53,8 +85,8 @@ fn with_linked(relation: u64, x: u64, y: u64, a: u64, b: u64, c: u64) -> u64 {
 // Composes `x` and `y`: goes through all triples (a, b, c), one for each value of `i`.
 fn compose(x: u64, y: u64) -> u64 {
     let mut relation: u64 = 0;
-    for i in 0..512u64 {
-        relation = with_linked(relation, x, y, i / 64, i / 8 % 8, i % 8);
+    for i in 0..TRIPLES {
+        relation = with_linked(relation, x, y, i / PAIRS, i / STATES % STATES, i % STATES);
     }
     relation
 }
@@ -88,7 +120,7 @@ fn accepting(file: &[u8], relation: u64, r: usize) -> bool {
 
 // Tests whether `relation` has no pair from state 0 to a final state.
 fn rejecting(file: &[u8], relation: u64) -> bool {
-    for r in 0..24usize {
+    for r in 0..RECORDS {
         if accepting(file, relation, r) {
             return false;
         }
@@ -99,8 +131,8 @@ fn rejecting(file: &[u8], relation: u64) -> bool {
 // ---- the list
 
 // Returns pair `i` of the list `found`.
-fn pair_at(found: &[[u64; 2]; 512], i: usize) -> [u64; 2] {
-    found[i % 512]
+fn pair_at(found: &Found, i: usize) -> [u64; 2] {
+    found[i % LIMIT]
 }
 
 fn same_pair(x: [u64; 2], y: [u64; 2]) -> bool {
@@ -108,7 +140,7 @@ fn same_pair(x: [u64; 2], y: [u64; 2]) -> bool {
 }
 
 // Tests whether `pair` is among the first `count` pairs of `found`.
-pub fn listed(found: &[[u64; 2]; 512], count: usize, pair: [u64; 2]) -> bool {
+pub fn listed(found: &Found, count: usize, pair: [u64; 2]) -> bool {
     for i in 0..count {
         if same_pair(pair_at(found, i), pair) {
             return true;
@@ -118,11 +150,11 @@ pub fn listed(found: &[[u64; 2]; 512], count: usize, pair: [u64; 2]) -> bool {
 }
 
 // Appends the pair of `symbol` and `relation` to the `count` pairs of `found`, if it is new and there is room. Returns the new count.
-fn add(found: &mut [[u64; 2]; 512], count: usize, symbol: u64, relation: u64) -> usize {
+fn add(found: &mut Found, count: usize, symbol: u64, relation: u64) -> usize {
     if listed(found, count, [symbol, relation]) {
         return count;
     }
-    if count < 512 {
+    if count < LIMIT {
         found[count] = [symbol, relation];
         return count + 1;
     }
@@ -130,8 +162,8 @@ fn add(found: &mut [[u64; 2]; 512], count: usize, symbol: u64, relation: u64) ->
 }
 
 // Appends `symbol` with its own relation, if it is a letter.
-fn add_letter(found: &mut [[u64; 2]; 512], count: usize, file: &[u8], symbol: u64) -> usize {
-    if symbol < 128 {
+fn add_letter(found: &mut Found, count: usize, file: &[u8], symbol: u64) -> usize {
+    if symbol < TERMINALS {
         return add(found, count, symbol, letter(file, symbol));
     }
     count
@@ -148,7 +180,7 @@ struct Rule {
 // Reads record `r` as a rule.
 fn read_rule(file: &[u8], r: usize) -> Rule {
     Rule {
-        head: 128 + byte(file, r, 1) % 64,
+        head: TERMINALS + byte(file, r, 1) % NONTERMINALS,
         size: byte(file, r, 2),
         first: byte(file, r, 3),
         second: byte(file, r, 4),
@@ -156,7 +188,7 @@ fn read_rule(file: &[u8], r: usize) -> Rule {
 }
 
 // Appends what `rule` gives by itself: the empty word of a body with no symbol, and the letters of its body.
-fn begin(found: &mut [[u64; 2]; 512], count: usize, file: &[u8], rule: Rule) -> usize {
+fn begin(found: &mut Found, count: usize, file: &[u8], rule: Rule) -> usize {
     if rule.size == 0 {
         return add(found, count, rule.head, identity());
     }
@@ -168,13 +200,7 @@ fn begin(found: &mut [[u64; 2]; 512], count: usize, file: &[u8], rule: Rule) -> 
 }
 
 // Appends the head of `rule` with the composition of the two relations, if the symbols of `left` and `right` are its body.
-fn spelled(
-    found: &mut [[u64; 2]; 512],
-    count: usize,
-    rule: Rule,
-    left: [u64; 2],
-    right: [u64; 2],
-) -> usize {
+fn spelled(found: &mut Found, count: usize, rule: Rule, left: [u64; 2], right: [u64; 2]) -> usize {
     if (left[0] == rule.first) & (right[0] == rule.second) {
         return add(found, count, rule.head, compose(left[1], right[1]));
     }
@@ -182,13 +208,7 @@ fn spelled(
 }
 
 // For a body of two symbols: tries `pair` with pair `j` of the list, in both orders.
-fn spelled_both(
-    found: &mut [[u64; 2]; 512],
-    count: usize,
-    rule: Rule,
-    pair: [u64; 2],
-    j: usize,
-) -> usize {
+fn spelled_both(found: &mut Found, count: usize, rule: Rule, pair: [u64; 2], j: usize) -> usize {
     let other = pair_at(found, j);
     let more = spelled(found, count, rule, pair, other);
     spelled(found, more, rule, other, pair)
@@ -196,7 +216,7 @@ fn spelled_both(
 
 // The same with each of the first `firsts` pairs of the list.
 fn spelled_with(
-    found: &mut [[u64; 2]; 512],
+    found: &mut Found,
     count: usize,
     rule: Rule,
     pair: [u64; 2],
@@ -210,8 +230,8 @@ fn spelled_with(
 }
 
 // Appends what `rule` gives with pair `k` of the list and those before it.
-fn by_rule(found: &mut [[u64; 2]; 512], count: usize, rule: Rule, k: usize) -> usize {
-    if 512 <= k {
+fn by_rule(found: &mut Found, count: usize, rule: Rule, k: usize) -> usize {
+    if LIMIT <= k {
         return count;
     }
     let pair = found[k];
@@ -226,13 +246,7 @@ fn by_rule(found: &mut [[u64; 2]; 512], count: usize, rule: Rule, k: usize) -> u
 
 // Appends what record `r` gives at turn `turn`, if it is a rule: at turn 0 what `begin` appends, and at turn k + 1 what the rule gives with
 // pair k and those before it.
-fn by_record(
-    found: &mut [[u64; 2]; 512],
-    count: usize,
-    file: &[u8],
-    turn: usize,
-    r: usize,
-) -> usize {
+fn by_record(found: &mut Found, count: usize, file: &[u8], turn: usize, r: usize) -> usize {
     if byte(file, r, 0) != 1 {
         return count;
     }
@@ -244,19 +258,19 @@ fn by_record(
 }
 
 // Appends what all records of `file` give at turn `turn`.
-fn by_records(found: &mut [[u64; 2]; 512], count: usize, file: &[u8], turn: usize) -> usize {
+fn by_records(found: &mut Found, count: usize, file: &[u8], turn: usize) -> usize {
     let mut count = count;
-    for r in 0..24usize {
+    for r in 0..RECORDS {
         count = by_record(found, count, file, turn, r);
     }
     count
 }
 
 // Lists every symbol with every relation of its words, and returns the number of pairs. Turn k + 1 takes up pair k, so each two pairs meet
-// once. If the list is full (512), some may be missing.
-pub fn search(file: &[u8], found: &mut [[u64; 2]; 512]) -> usize {
+// once. If the list is full, some may be missing.
+pub fn search(file: &[u8], found: &mut Found) -> usize {
     let mut count: usize = 0;
-    for turn in 0..513usize {
+    for turn in 0..TURNS {
         if turn <= count {
             count = by_records(found, count, file, turn);
         }
@@ -274,18 +288,18 @@ pub struct Verdict {
 
 // Adds `pair` to what the list says.
 fn with_pair(said: Verdict, file: &[u8], pair: [u64; 2]) -> Verdict {
-    if pair[0] < 128 {
+    if pair[0] < TERMINALS {
         return said;
     }
     Verdict {
-        words: said.words | (pair[0] == 128),
-        broken: said.broken | ((pair[0] == 128) & rejecting(file, pair[1])),
+        words: said.words | (pair[0] == TERMINALS),
+        broken: said.broken | ((pair[0] == TERMINALS) & rejecting(file, pair[1])),
         relations: std::num::wrapping_add_u64(said.relations, 1),
     }
 }
 
 // Returns what the first `count` pairs of `found` say.
-pub fn decide(file: &[u8], found: &[[u64; 2]; 512], count: usize) -> Verdict {
+pub fn decide(file: &[u8], found: &Found, count: usize) -> Verdict {
     let mut said = Verdict {
         words: false,
         broken: false,

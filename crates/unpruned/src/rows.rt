@@ -1,18 +1,22 @@
 // For tests only: compares the rows that a check leaves, each as eight numbers, with the list of the unpruned search and with another journal.
+use crate::Found;
+use crate::NONTERMINALS;
+use crate::Numbers;
+use crate::TERMINALS;
 
 // Returns the pair of the list that `row` is: its nonterminal's symbol and its relation.
-fn pair_of(row: [u64; 8]) -> [u64; 2] {
-    [128 + row[0] % 64, row[2]]
+fn pair_of(row: Numbers) -> [u64; 2] {
+    [TERMINALS + row[0] % NONTERMINALS, row[2]]
 }
 
 // Tests whether `row` is live, has the symbol of `pair`, and its relation is contained in that of `pair`.
-fn below(row: [u64; 8], pair: [u64; 2]) -> bool {
+fn below(row: Numbers, pair: [u64; 2]) -> bool {
     let own = pair_of(row);
     (row[7] == 0) & (own[0] == pair[0]) & ((own[1] | pair[1]) == pair[1])
 }
 
 // Tests whether row `i` of `journal` is below `pair`; past the end no row is.
-fn below_at(journal: &[[u64; 8]], i: usize, pair: [u64; 2]) -> bool {
+fn below_at(journal: &[Numbers], i: usize, pair: [u64; 2]) -> bool {
     if i < journal.len() {
         let row = journal[i];
         return below(row, pair);
@@ -21,7 +25,7 @@ fn below_at(journal: &[[u64; 8]], i: usize, pair: [u64; 2]) -> bool {
 }
 
 // Tests whether some of the first `used` rows, other than row `left_out`, is below `pair`.
-fn has_below(journal: &[[u64; 8]], used: usize, left_out: usize, pair: [u64; 2]) -> bool {
+fn has_below(journal: &[Numbers], used: usize, left_out: usize, pair: [u64; 2]) -> bool {
     for i in 0..used {
         if (i != left_out) & below_at(journal, i, pair) {
             return true;
@@ -31,13 +35,7 @@ fn has_below(journal: &[[u64; 8]], used: usize, left_out: usize, pair: [u64; 2])
 }
 
 // Tests whether the relation of row `i` is on the list for its nonterminal, and, if the row is live, that no other live row is below it.
-fn sound_at(
-    journal: &[[u64; 8]],
-    used: usize,
-    i: usize,
-    found: &[[u64; 2]; 512],
-    count: usize,
-) -> bool {
+fn sound_at(journal: &[Numbers], used: usize, i: usize, found: &Found, count: usize) -> bool {
     if journal.len() <= i {
         return true;
     }
@@ -47,7 +45,7 @@ fn sound_at(
 }
 
 // Tests whether the first `used` rows have relations that are on the list, and the live ones are an antichain.
-pub fn sound(journal: &[[u64; 8]], used: usize, found: &[[u64; 2]; 512], count: usize) -> bool {
+pub fn sound(journal: &[Numbers], used: usize, found: &Found, count: usize) -> bool {
     for i in 0..used {
         if !sound_at(journal, used, i, found, count) {
             return false;
@@ -57,12 +55,12 @@ pub fn sound(journal: &[[u64; 8]], used: usize, found: &[[u64; 2]; 512], count: 
 }
 
 // Tests whether `pair` has a live row below it, if its symbol is a nonterminal.
-fn covered(journal: &[[u64; 8]], used: usize, pair: [u64; 2]) -> bool {
-    (pair[0] < 128) | has_below(journal, used, used, pair)
+fn covered(journal: &[Numbers], used: usize, pair: [u64; 2]) -> bool {
+    (pair[0] < TERMINALS) | has_below(journal, used, used, pair)
 }
 
 // Tests whether each relation that the list has for a nonterminal has a live row below it.
-pub fn covering(journal: &[[u64; 8]], used: usize, found: &[[u64; 2]; 512], count: usize) -> bool {
+pub fn covering(journal: &[Numbers], used: usize, found: &Found, count: usize) -> bool {
     for i in 0..count {
         if !covered(journal, used, crate::pair_at(found, i)) {
             return false;
@@ -72,7 +70,7 @@ pub fn covering(journal: &[[u64; 8]], used: usize, found: &[[u64; 2]; 512], coun
 }
 
 // Tests whether two rows are the same in all fields.
-pub fn same_row(x: [u64; 8], y: [u64; 8]) -> bool {
+pub fn same_row(x: Numbers, y: Numbers) -> bool {
     (x[0] == y[0])
         & (x[1] == y[1])
         & (x[2] == y[2])
@@ -84,7 +82,7 @@ pub fn same_row(x: [u64; 8], y: [u64; 8]) -> bool {
 }
 
 // Tests whether both journals have a row `i`, and the two are the same.
-fn same_at(one: &[[u64; 8]], other: &[[u64; 8]], i: usize) -> bool {
+fn same_at(one: &[Numbers], other: &[Numbers], i: usize) -> bool {
     if one.len() <= i {
         return false;
     }
@@ -97,7 +95,7 @@ fn same_at(one: &[[u64; 8]], other: &[[u64; 8]], i: usize) -> bool {
 }
 
 // Tests whether two journals have the same rows from row `from` on and before row `end`.
-pub fn same(one: &[[u64; 8]], other: &[[u64; 8]], from: usize, end: usize) -> bool {
+pub fn same(one: &[Numbers], other: &[Numbers], from: usize, end: usize) -> bool {
     for i in from..end {
         if !same_at(one, other, i) {
             return false;

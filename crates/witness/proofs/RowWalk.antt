@@ -38,7 +38,7 @@ use Rattle.lent.proofs.Loans.{loan-of, offset-fits}
 use Rattle.lent.proofs.Locals.{its, field-of, behind, sets}
 use Rattle.lent.proofs.Opening.{Arguments, entering}
 use Rattle.lent.proofs.PlainData.{val, tells, copies, typed as typed-row}
-use Rattle.fitting.proofs.Rows.{rows}
+use Rattle.calls.proofs.Types.{row as rows}
 use Rattle.witness.proofs.Part as P
 use Rattle.witness.proofs.Part.Laws as P′
 use Rattle.witness.proofs.Parts as Q

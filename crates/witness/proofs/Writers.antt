@@ -74,7 +74,7 @@ module _ {M : Type 1} (𝓤 : URA M) (H : Heap 𝓤) (A : Atoms 𝓤) (X : Rattl
   abbrev pub Writer : Contract 𝓤
   Writer = tripleOf 𝓤 H A (writer X .signature) (closing 𝓤 H A (writer X) (clauses 𝓤 X to))
 
--- what is had of the journal and the rules
+-- what a walk owns of the journal and the rules
 abbrev pub Held : (κj κr : Lft) (j : RefT (List Row)) (r : RefT (List (List ℕ))) → Fml × Fml
 Held κj κr j r = (ShrSlice (named 0) κj rows.the-row .own j (slice-vals j), ShrSlice (named 1) κr Rule .own r (slice-vals r))
 

@@ -1,6 +1,7 @@
 // Writing the word behind a journal row (document 01, "Writing a run"): the row writer and the symbol writer call each other, and the row
 // number falls. Nothing is tested on the way: the caller has tested that the rows fit and that the buffer has room.
 use calls::Row;
+use plan_file::TERMINALS;
 ghost use mathlib.Core.Path.{_≡_};
 ghost use Prim.Native.Nat.{_≤_, _<_};
 ghost use mathlib.Core.List.{map};
@@ -27,7 +28,7 @@ struct Parts {
 }
 
 // Returns the part that is no symbol.
-fn no_part() -> Part
+pub fn no_part() -> Part
     ensures { λ r. ⌜ r ≡ nothing ⌝ }
 {
     Part {
@@ -42,7 +43,7 @@ fn no_part() -> Part
 fn symbol_part(symbol: u8, pointer: u64) -> Part
     ensures { λ r. ⌜ r ≡ partOf (symbolOf symbol) pointer ⌝ }
 {
-    if symbol < 128 {
+    if symbol < TERMINALS {
         return Part {
             older: false,
             terminal: true,

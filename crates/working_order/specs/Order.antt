@@ -22,7 +22,7 @@ start = record { rows = []; joins = 0 }
 pub data Verdict : Type 0 where
   holds broken full spent : Verdict
 
--- a pass goes on, or has stopped with a verdict and a row
+-- a pass is going, or has stopped with a verdict and a row
 pub data Outcome (E : Type 0) : Type 0 where
   going : Progress E → Outcome E
   stopped : Verdict → ℕ → Progress E → Outcome E

@@ -1,4 +1,4 @@
--- The walk through a pass's candidates, by what is kept at each step. `Post Q R r`: where r goes on, Q holds of its progress, and where r
+-- The walk through a pass's candidates, by what is kept at each step. `Post Q R r`: where r is going, Q holds of its progress, and where r
 -- has stopped, R does. Assumes nothing.
 use mathlib.Core.Path.{_≡_, refl, sym, subst}
 use mathlib.Core.Logic.{_⊎_, inl, inr}

@@ -41,6 +41,8 @@ use Rattle.lent.proofs.Opening.{Arguments, entering}
 use Rattle.lent.proofs.Parameters.{Param, shared, handed, number, datum, dropped, stays, typed-all}
 use Rattle.calls.specs.Rows.{rowOf, blank}
 use Rattle.calls.specs.declared.Row.{Row}
+use Rattle.calls.specs.Checking.{journalLimit}
+use Rattle.calls.proofs.Types.{row}
 use Rattle.calls.proofs.Row as T
 use Rattle.calls.proofs.Row.Laws as T′
 use Rattle.checker.specs.Contracts as contracts
@@ -63,7 +65,7 @@ use Rattle.writer.proofs.Writing.Laws as G′
 use Rattle.writer.proofs.write as write
 use Rattle.writer.proofs.write.Symbol as write-def
 use Rattle.writer.proofs.write.Met as write-thm
-use Rattle.standalone.proofs.Lending.{row, rows-room, row-offset, row-typed, to-front, asks-front, to-number, asks-number, Checks, to-checks, For-checks, asks-checks, Back, back, Writes, to-write, For-write, asks-write, Wrote, wrote}
+use Rattle.standalone.proofs.Lending.{rows-room, row-offset, row-typed, to-front, asks-front, to-number, asks-number, Checks, to-checks, For-checks, asks-checks, Back, back, Writes, to-write, For-write, asks-write, Wrote, wrote}
 use Rattle.damaged.specs.Contracts.{WritesDamaged}
 use Rattle.damaged.specs.Laws.{written-damaged}
 use Rattle.damaged.proofs.Storing.{elem-stores}
@@ -123,7 +125,7 @@ module _ {M : Type 1} (𝓤 : URA M) (H : Heap 𝓤) (A : Atoms 𝓤) (W : Given
         let l₉ = bs .1 .1 .1 .1 .1 .1 .1 .1 .1 .0 in
         -- [the locals, from _21 down; the tokens of the file and of the buffer; the file; the buffer]: local i stands at 42 - 2 i
         array-made ! T.the-row tt (LL.lawful T.the-type T′.the-laws 𝓤 H A W) (LL.makes T.the-type T′.the-plain 𝓤 H A) x (T′.lowered x) g-x 24 (its ! 32 refl) (from ! (stop !)) refl (λ xs e len.
-        calls-plain front.ended (front.clauses 𝓤 H A mem run) (to-front 𝓤 H A W mem run rows g-rows) tt (asks-front 𝓤 H A W mem run rows g-rows) (λ r. (r ≡ frontOf rows) × (r ≤ 4096)) (λ r us. id⊢ 𝓤 _) (vint w64) (uint-tells w64) ! fm (known .0) (and-then ! (its ! 38 refl) (no-more !)) (λ n en n-is.
+        calls-plain front.ended (front.clauses 𝓤 H A mem run) (to-front 𝓤 H A W mem run rows g-rows) tt (asks-front 𝓤 H A W mem run rows g-rows) (λ r. (r ≡ frontOf rows) × (r ≤ journalLimit)) (λ r us. id⊢ 𝓤 _) (vint w64) (uint-tells w64) ! fm (known .0) (and-then ! (its ! 38 refl) (no-more !)) (λ n en n-is.
         let few : n ≤ length xs = subst (λ (k : ℕ). n ≤ k) (sym len) (en .1) in
         land ! (from ! (stop !)) (init ! 22 refl (tt, record { fits = n-is .1 })) $
         -- the check
@@ -136,17 +138,17 @@ module _ {M : Type 1} (𝓤 : URA M) (H : Heap 𝓤) (A : Atoms 𝓤) (W : Given
         let zs : List Row = ws .1 .0 in
         let rest : List Row = dropFirst n xs in
         drop ! $ use2 W (Back 𝓤 H A W mem run κ q s file l₉ n (take n xs) ν δ budget g-budget zs) (back 𝓤 H A W mem run κ q s file l₉ n (take n xs) ν δ budget g-budget zs) $ split ! $ lays ! 45 $ split ! $ front-back ! tt T.the-row ν δ n zs rest l₉ 24 refl (λ nz.
-        let all : length (zs ++ rest) ≡ 4096 = front-length n zs xs nz few ∙ len in
+        let all : length (zs ++ rest) ≡ journalLimit = front-length n zs xs nz few ∙ len in
         land ! (from ! (stop !)) (init ! 18 refl (EL.lawful C.the-type C′.the-laws 𝓤 H A W tt .typed c _ c-is .0)) $
         -- the row is stored
-        calls-plain row-number.ended (row-number.clauses 𝓤 H A mem run) (to-number 𝓤 H A W mem run place g-place) tt (asks-number 𝓤 H A W mem run place g-place) (λ r. (r ≡ placeOf place) × (r < 4096)) (λ r us. id⊢ 𝓤 _) (vint w64) (uint-tells w64) ! fm (known .1 .1 .0) (and-then ! (its ! 34 refl) (no-more !)) (λ i ei i-is.
+        calls-plain row-number.ended (row-number.clauses 𝓤 H A mem run) (to-number 𝓤 H A W mem run place g-place) tt (asks-number 𝓤 H A W mem run place g-place) (λ r. (r ≡ placeOf place) × (r < journalLimit)) (λ r us. id⊢ 𝓤 _) (vint w64) (uint-tells w64) ! fm (known .1 .1 .0) (and-then ! (its ! 34 refl) (no-more !)) (λ i ei i-is.
         land ! (from ! (stop !)) (init ! 20 refl (tt, record { fits = i-is .1 })) $
         sets ! (bin ! (its ! 20 refl) (lit ! tt) (record { fits = row-offset i (ei .1) })) (init ! 12 refl (tt, record { fits = row-offset i (ei .1) })) $
         sets ! (addr ! (from ! (stop !))) (init ! 10 refl (tt, tt)) $
         sets ! (bin ! (its ! 10 refl) (its ! 12 refl) tt) (init ! 8 refl (tt, tt)) $
         elem-stores ! T.the-row T′.lowered (T′.lowers .val-is) (LL.makes T.the-type T′.the-plain 𝓤 H A) (zs ++ rest) l₉ i blank (subst (λ (k : ℕ). i < k) (sym all) (ei .1)) 24 refl x g-x (its ! 35 refl) (from ! (hop ! (look ! 11 refl) (stop !))) (store-raw ! 0 refl (row-typed 𝓤 H A W mem run x g-x)) (
         let ys : List Row = set (zs ++ rest) i x in
-        let all′ : length ys ≡ 4096 = length-set (zs ++ rest) i x ∙ all in
+        let all′ : length ys ≡ journalLimit = length-set (zs ++ rest) i x ∙ all in
         let few′ : n ≤ length ys = subst (λ (k : ℕ). n ≤ k) (sym all′) (en .1) in
         -- the writing
         sets ! (addr ! (from ! (stop !))) (init ! 6 refl (tt, tt)) $
@@ -161,7 +163,7 @@ module _ {M : Type 1} (𝓤 : URA M) (H : Heap 𝓤) (A : Atoms 𝓤) (W : Given
         let bs : List ℕ = vs .1 .1 .1 .1 .0 in
         drop ! $ use2 W (Wrote 𝓤 H A W mem run κ q s file l₉ n (take n ys) μ ε κ′ q′ b used named′ g-used g-named bs) (wrote 𝓤 H A W mem run κ q s file l₉ n (take n ys) μ ε κ′ q′ b used named′ g-used g-named bs) $ learn ! (λ nb. split ! $ lays ! 45 $ split ! $ front-unshared ! tt T.the-row μ n ys l₉ 25 refl $ split ! $ lays ! 46 $ lays ! 47 $
         land ! (from ! (stop !)) (init ! 42 refl (EL.lawful G.the-type G′.the-laws 𝓤 H A W tt .typed w _ w-is .0)) $
-        array-gone ! T.the-row 4096 ys l₉ 24 all′ refl $
+        array-gone ! T.the-row journalLimit ys l₉ 24 all′ refl $
         move ! (44 ∷ 45 ∷ 46 ∷ 47 ∷ []) $ closing ! 4 refl refl $
         by ! (exits w bs w-is nb (written-damaged (s .now) rows budget place x used named′ (b .now) bs xs e n en zs nz c ec i (ei .0) w ew)))))))))))))
 

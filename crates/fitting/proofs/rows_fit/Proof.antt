@@ -24,8 +24,7 @@ use types.Kit.{Given, Item, Sq, runs, atRet, ‵, raw, _⊛_, ⋆, _$_, _∵_, !
 use types.Part.{agg}
 use types.Run.{init, store, stop, from, lit, true-lit, of-opd, bin, and-then, no-more, assigns-last, land, again, exec}
 use sound.WpLaws.{FmC, fmOf}
-use denote.Array.{Array}
-use denote.RattleType.{RattleType, owns}
+use denote.RattleType.{owns}
 use denote.Laws.{Is, valss}
 use denote.Memory.{mem}
 use denote.Plain.{uint-tells, uint-makes}
@@ -55,12 +54,12 @@ use Rattle.lent.proofs.Sharing.{Shared, copies as sees}
 use Rattle.working_order.specs.Fitting.{rowsFit}
 use Rattle.calls.specs.Rows.{rowOf, entryOf, blank}
 use Rattle.calls.specs.declared.Row.{Row}
+use Rattle.calls.proofs.Types.{row as Rows, RowType, Entry}
 use Rattle.fitting.specs.Forms.{noForms}
 use Rattle.fitting.specs.ByValue.{lowerOf, lastLen}
 use Rattle.fitting.specs.declared.Fit.{Fit}
 use Rattle.fitting.proofs.Fit as F
 use Rattle.fitting.proofs.Fit.Laws as F′
-use Rattle.fitting.proofs.Rows.{rows as Rows, RowType}
 use Rattle.fitting.proofs.Turn.{row, Added, fits-on, len-on, inside}
 use Rattle.fitting.proofs.lower as lower
 use Rattle.fitting.proofs.lower.Symbol as lower-def
@@ -73,10 +72,6 @@ use Rattle.fitting.proofs.rows_fit as f
 use Rattle.fitting.proofs.rows_fit.Statement as stated
 use Rattle.fitting.proofs.rows_fit.Code as code
 use Rattle.fitting.proofs.rows_fit.Code.Mir as code-mir
-
--- a rule, as its four bytes
-abbrev Entry : RattleType
-Entry = Array u8 4
 
 abbrev ps : List (Param 2)
 ps = shared 0 tt (plain (λ _. RowType)) ∷ shared 1 tt (ArrayOf (plain (λ _. u8)) (λ _. tt) 4) ∷ number w64 ∷ []

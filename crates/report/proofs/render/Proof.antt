@@ -3,6 +3,7 @@ use mathlib.Core.Path.{refl, subst}
 use mathlib.Core.List.{List}
 use Prim.Native.Nat.{ℕ}
 use borrow.Author.Needs.{needs}
+use Rattle.calls.specs.Printing.{programRoom}
 use Rattle.page.specs.Contracts.{Stands}
 use Rattle.report.specs.TextLaws.{told-text}
 use Rattle.report.proofs.render.Statement.{statement}
@@ -12,7 +13,7 @@ returns : tie.Need-returns
 returns c =
     let a = c .before .before .before .before .before .before .before .args in
     let checked = c .before .before .before .before .checked in
-    subst (λ (xs : List ℕ). Stands xs (a .text .now) (c .put-whole .last .0) (c .put-whole .result)) (told-text _ _ _ _ _ _ _ 4096 refl _ (checked .ensures)) (c .put-whole .ensures)
+    subst (λ (xs : List ℕ). Stands xs (a .text .now) (c .put-whole .last .0) (c .put-whole .result)) (told-text _ _ _ _ _ _ _ programRoom refl _ (checked .ensures)) (c .put-whole .ensures)
 
 pub render-spec : {M : Type 1} → statement M
 render-spec = tie.close (tie.spec (λ c. search needs) (λ c κs. search needs) (λ c κs. search needs) returns)

@@ -44,8 +44,11 @@ use Rattle.lent.proofs.LocalArrays.{lifts, lays, uses, front-length, take-all, 
 use Rattle.lent.proofs.Opening.{Arguments, entering}
 use Rattle.lent.proofs.Parameters.{Param, shared, handed, number, datum, dropped, stays, typed-all}
 use Rattle.lent.proofs.SharedFront.{front-of, sees-front}
+use Rattle.calls.specs.Codes.{refusedBy}
 use Rattle.calls.specs.Rows.{rowOf, blank}
 use Rattle.calls.specs.declared.Row.{Row}
+use Rattle.calls.specs.Checking.{journalLimit}
+use Rattle.calls.proofs.Types.{row, rowBytes}
 use Rattle.calls.proofs.Row as T
 use Rattle.calls.proofs.Row.Laws as T′
 use Rattle.writer.specs.Answers.{writingOf}
@@ -61,7 +64,7 @@ use Rattle.checker.proofs.check.Symbol as checks-def
 use Rattle.checker.proofs.check.Met as checks-thm
 use Rattle.standalone.specs.Contracts.{ChecksAlone}
 use Rattle.telling.specs.Fronts.{frontOf, placeOf, nameIn}
-use Rattle.telling.specs.Telling.{refusedBy, toldBy}
+use Rattle.telling.specs.Telling.{toldBy}
 use Rattle.standalone.specs.TellingLaws.{few-bytes, tells-alone}
 use Rattle.telling.specs.declared.Named.{Named}
 use Rattle.telling.specs.declared.Told.{Told}
@@ -85,7 +88,7 @@ use Rattle.writer.proofs.write.Met as write-thm
 use Rattle.telling.proofs.tell as tell
 use Rattle.telling.proofs.tell.Symbol as tell-def
 use Rattle.telling.proofs.tell.Met as tell-thm
-use Rattle.standalone.proofs.Lending.{row, rows-room, row-offset, row-typed, to-front, asks-front, to-number, asks-number, Checks, to-checks, For-checks, asks-checks, Back, back, Writes, to-write, For-write, asks-write, Wrote, wrote}
+use Rattle.standalone.proofs.Lending.{rows-room, row-offset, row-typed, to-front, asks-front, to-number, asks-number, Checks, to-checks, For-checks, asks-checks, Back, back, Writes, to-write, For-write, asks-write, Wrote, wrote}
 use Rattle.standalone.proofs.checked.Key.{name as #checked}
 use Rattle.standalone.proofs.checked as f
 use Rattle.standalone.proofs.checked.Statement as stated
@@ -155,7 +158,7 @@ module _ {M : Type 1} (𝓤 : URA M) (H : Heap 𝓤) (A : Atoms 𝓤) (W : Given
         let l₇ = bs .1 .1 .1 .1 .1 .1 .1 .0 in
         -- [the locals, from _30 down; the tokens of the file and of the buffer; the file; the buffer]
         array-made ! T.the-row tt (LL.lawful T.the-type T′.the-laws 𝓤 H A W) (LL.makes T.the-type T′.the-plain 𝓤 H A) old (T′.lowered old) g-old 46 (its ! 54 refl) (from ! (stop !)) refl (λ xs e len.
-        calls-plain front.ended (front.clauses 𝓤 H A mem run) (to-front 𝓤 H A W mem run rows g-rows) tt (asks-front 𝓤 H A W mem run rows g-rows) (λ r. (r ≡ frontOf rows) × (r ≤ 4096)) (λ r us. id⊢ 𝓤 _) (vint w64) (uint-tells w64) ! fm (known .0) (and-then ! (its ! 56 refl) (no-more !)) (λ n en n-is.
+        calls-plain front.ended (front.clauses 𝓤 H A mem run) (to-front 𝓤 H A W mem run rows g-rows) tt (asks-front 𝓤 H A W mem run rows g-rows) (λ r. (r ≡ frontOf rows) × (r ≤ journalLimit)) (λ r us. id⊢ 𝓤 _) (vint w64) (uint-tells w64) ! fm (known .0) (and-then ! (its ! 56 refl) (no-more !)) (λ n en n-is.
         let few : n ≤ length xs = subst (λ (k : ℕ). n ≤ k) (sym len) (en .1) in
         land ! (from ! (stop !)) (init ! 44 refl (tt, record { fits = n-is .1 })) $
         -- the check
@@ -168,8 +171,8 @@ module _ {M : Type 1} (𝓤 : URA M) (H : Heap 𝓤) (A : Atoms 𝓤) (W : Given
         let zs : List Row = ws .1 .0 in
         let rest : List Row = dropFirst n xs in
         drop ! $ use2 W (Back 𝓤 H A W mem run κ q s file l₇ n (take n xs) ν δ x gx zs) (back 𝓤 H A W mem run κ q s file l₇ n (take n xs) ν δ x gx zs) $ split ! $ lays ! 63 $ split ! $ front-back ! tt T.the-row ν δ n zs rest l₇ 46 refl (λ nz.
-        let all : length (zs ++ rest) ≡ 4096 = front-length n zs xs nz few ∙ len in
-        let in-all : (k : ℕ) → k < 4096 → k < length (zs ++ rest) = λ k. subst (λ (l : ℕ). k < l) (sym all) in
+        let all : length (zs ++ rest) ≡ journalLimit = front-length n zs xs nz few ∙ len in
+        let in-all : (k : ℕ) → k < journalLimit → k < length (zs ++ rest) = λ k. subst (λ (l : ℕ). k < l) (sym all) in
         land ! (from ! (stop !)) (init ! 42 refl (EL.lawful C.the-type C′.the-laws 𝓤 H A W tt .typed c _ c-is .0)) $
         -- the row that is named
         sets ! (of-opd ! (field-of ! 58 refl refl refl)) (init ! 22 refl (tt, record { fits = gs .0 })) $
@@ -180,20 +183,20 @@ module _ {M : Type 1} (𝓤 : URA M) (H : Heap 𝓤) (A : Atoms 𝓤) (W : Given
         let gm : m < 2 ^ 64 = LL.lawful N.the-type N′.the-laws 𝓤 H A W .typed d _ d-is .0 .1 .1 .1 .0 .fits in
         let in-file : m ≤ length (s .now) = subst (λ (z : Named). z .bytes ≤ length (s .now)) (sym ed) (few-bytes c (length (s .now))) in
         land ! (from ! (stop !)) (init ! 40 refl (LL.lawful N.the-type N′.the-laws 𝓤 H A W .typed d _ d-is .0)) $
-        calls-plain row-number.ended (row-number.clauses 𝓤 H A mem run) (to-number 𝓤 H A W mem run (d .row) gi) tt (asks-number 𝓤 H A W mem run (d .row) gi) (λ r. (r ≡ placeOf (d .row)) × (r < 4096)) (λ r us. id⊢ 𝓤 _) (vint w64) (uint-tells w64) ! fm (known .1 .1 .0) (and-then ! (field-of ! 40 refl refl refl) (no-more !)) (λ i ei i-is.
+        calls-plain row-number.ended (row-number.clauses 𝓤 H A mem run) (to-number 𝓤 H A W mem run (d .row) gi) tt (asks-number 𝓤 H A W mem run (d .row) gi) (λ r. (r ≡ placeOf (d .row)) × (r < journalLimit)) (λ r us. id⊢ 𝓤 _) (vint w64) (uint-tells w64) ! fm (known .1 .1 .0) (and-then ! (field-of ! 40 refl refl refl) (no-more !)) (λ i ei i-is.
         land ! (from ! (stop !)) (init ! 38 refl (tt, record { fits = i-is .1 })) $
         sets ! (bin ! (its ! 38 refl) (lit ! tt) (record { fits = row-offset i (ei .1) })) (store ! 22 refl (tt, record { fits = row-offset i (ei .1) })) $
         sets ! (addr ! (from ! (stop !))) (init ! 20 refl (tt, tt)) $
         sets ! (bin ! (its ! 20 refl) (its ! 22 refl) tt) (init ! 18 refl (tt, tt)) $
-        elem-loads ! T.the-row tt T′.lowered (T′.lowers .val-is) (zs ++ rest) l₇ i blank (in-all i (ei .1)) 46 refl (i * 64 + 0) (place-is 64 0 i) (λ r. load ! (from ! (hop ! (look ! 18 refl) (stop !))) r) (λ is. init ! 16 refl (row-typed 𝓤 H A W mem run _ is)) (λ i-row.
+        elem-loads ! T.the-row tt T′.lowered (T′.lowers .val-is) (zs ++ rest) l₇ i blank (in-all i (ei .1)) 46 refl (i * rowBytes + 0) (place-is rowBytes 0 i) (λ r. load ! (from ! (hop ! (look ! 18 refl) (stop !))) r) (λ is. init ! 16 refl (row-typed 𝓤 H A W mem run _ is)) (λ i-row.
         sets ! (of-opd ! (its ! 16 refl)) (init ! 36 refl (row-typed 𝓤 H A W mem run (getD (zs ++ rest) i blank) i-row)) $
         -- the row that is asked for
-        calls-plain row-number.ended (row-number.clauses 𝓤 H A mem run) (to-number 𝓤 H A W mem run probe gp) tt (asks-number 𝓤 H A W mem run probe gp) (λ r. (r ≡ placeOf probe) × (r < 4096)) (λ r us. id⊢ 𝓤 _) (vint w64) (uint-tells w64) ! fm (known .1 .1 .0) (and-then ! (its ! 50 refl) (no-more !)) (λ j ej j-is.
+        calls-plain row-number.ended (row-number.clauses 𝓤 H A mem run) (to-number 𝓤 H A W mem run probe gp) tt (asks-number 𝓤 H A W mem run probe gp) (λ r. (r ≡ placeOf probe) × (r < journalLimit)) (λ r us. id⊢ 𝓤 _) (vint w64) (uint-tells w64) ! fm (known .1 .1 .0) (and-then ! (its ! 50 refl) (no-more !)) (λ j ej j-is.
         land ! (from ! (stop !)) (init ! 34 refl (tt, record { fits = j-is .1 })) $
         sets ! (bin ! (its ! 34 refl) (lit ! tt) (record { fits = row-offset j (ej .1) })) (store ! 22 refl (tt, record { fits = row-offset j (ej .1) })) $
         sets ! (addr ! (from ! (stop !))) (init ! 14 refl (tt, tt)) $
         sets ! (bin ! (its ! 14 refl) (its ! 22 refl) tt) (init ! 12 refl (tt, tt)) $
-        elem-loads ! T.the-row tt T′.lowered (T′.lowers .val-is) (zs ++ rest) l₇ j blank (in-all j (ej .1)) 46 refl (j * 64 + 0) (place-is 64 0 j) (λ r. load ! (from ! (hop ! (look ! 12 refl) (stop !))) r) (λ is. store ! 16 refl (row-typed 𝓤 H A W mem run _ is)) (λ j-row.
+        elem-loads ! T.the-row tt T′.lowered (T′.lowers .val-is) (zs ++ rest) l₇ j blank (in-all j (ej .1)) 46 refl (j * rowBytes + 0) (place-is rowBytes 0 j) (λ r. load ! (from ! (hop ! (look ! 12 refl) (stop !))) r) (λ is. store ! 16 refl (row-typed 𝓤 H A W mem run _ is)) (λ j-row.
         sets ! (of-opd ! (its ! 16 refl)) (init ! 32 refl (row-typed 𝓤 H A W mem run (getD (zs ++ rest) j blank) j-row)) $
         -- the writing
         sets ! (of-opd ! (field-of ! 40 refl refl refl)) (init ! 30 refl (tt, record { fits = gm })) $
@@ -215,7 +218,7 @@ module _ {M : Type 1} (𝓤 : URA M) (H : Heap 𝓤) (A : Atoms 𝓤) (W : Given
         calls-plain tell.ended (tell.clauses 𝓤 H A mem run) (to-tell c c-is (getD (zs ++ rest) i blank) (getD (zs ++ rest) j blank) i-row j-row w w-is) tt (asks-tell c c-is (getD (zs ++ rest) i blank) (getD (zs ++ rest) j blank) i-row j-row w w-is)
         (λ r. r ≡ toldBy c (getD (zs ++ rest) i blank) (getD (zs ++ rest) j blank) (refusedBy (writingOf w))) (λ r us. id⊢ 𝓤 _) D′.lowered (D′.lowers .val-is) ! fm (known .1 .1 .1 .1 .1 .0) (and-then ! (its ! 42 refl) (and-then ! (its ! 36 refl) (and-then ! (its ! 32 refl) (and-then ! (its ! 28 refl) (no-more !))))) (λ r er r-is.
         land ! (from ! (stop !)) (init ! 60 refl (LL.lawful D.the-type D′.the-laws 𝓤 H A W .typed r _ r-is .0)) $
-        array-gone ! T.the-row 4096 (zs ++ rest) l₇ 46 all refl $
+        array-gone ! T.the-row journalLimit (zs ++ rest) l₇ 46 all refl $
         move ! (62 ∷ 63 ∷ 64 ∷ 65 ∷ []) $ closing ! 4 refl refl $
         by ! (exits r bs r-is nb (tells-alone (s .now) rows old x probe (b .now) bs xs e n en (take-all n xs few) zs nz all c ec d ed i (ei .0) j ej w ew r er))))))))))))))))))
 

@@ -1,4 +1,4 @@
--- The array is lent as a slice of its 256 rows. Assumes nothing.
+-- The array is lent as a slice of its rows. Assumes nothing.
 use borrow.Author.Needs.{needs}
 use Rattle.tables.specs.RuleLaws.{all-written}
 use Rattle.tables.proofs.rule_table.Statement.{statement}

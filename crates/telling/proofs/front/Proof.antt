@@ -3,14 +3,15 @@ use mathlib.Core.Path.{sym, ap}
 use mathlib.Core.Bool.{Bool, cond}
 use native.Mathlib.Omega.{arith}
 use borrow.Author.Tests.{le-leb, lt-leb}
+use Rattle.calls.specs.Checking.{journalLimit}
 use Rattle.telling.proofs.front.Statement.{statement}
 use Rattle.telling.proofs.front.Tie as tie
 
 returns : tie.Need-returns
-returns c = let n = c .before .args .rows in (sym (ap (λ (b : Bool). cond b n 0) (le-leb n 4096 (c .if1 .taken))), c .if1 .taken)
+returns c = let n = c .before .args .rows in (sym (ap (λ (b : Bool). cond b n 0) (le-leb n journalLimit (c .if1 .taken))), c .if1 .taken)
 
 returns-2 : tie.Need-returns-2
-returns-2 c = let n = c .before .args .rows in (sym (ap (λ (b : Bool). cond b n 0) (lt-leb n 4096 (c .if1 .left))), omega arith)
+returns-2 c = let n = c .before .args .rows in (sym (ap (λ (b : Bool). cond b n 0) (lt-leb n journalLimit (c .if1 .left))), omega arith)
 
 pub front-spec : {M : Type 1} → statement M
 front-spec =

@@ -46,6 +46,8 @@ use Rattle.lent.proofs.Locals.{its, field-of, sets}
 use Rattle.lent.proofs.LocalArrays.{lifts, lays, uses, from-start, array-made, array-gone, lends-whole, whole-back, shares-front, front-unshared}
 use Rattle.lent.proofs.Opening.{Arguments, entering}
 use Rattle.lent.proofs.Parameters.{Param, shared, handed, number, dropped, stays, typed-all}
+use Rattle.plan_file.specs.Answers.{refusalOf}
+use Rattle.plan_file.specs.Limits.{ruleLimit}
 use Rattle.plan_file.specs.declared.Refusal.{Refusal}
 use Rattle.plan_file.proofs.Refusal as F
 use Rattle.plan_file.proofs.Refusal.Laws as F′
@@ -58,7 +60,7 @@ use Rattle.fitting.specs.ByValue.{lastLen}
 use Rattle.fitting.specs.declared.Fit.{Fit}
 use Rattle.fitting.proofs.Fit as Ft
 use Rattle.fitting.proofs.Fit.Laws as Ft′
-use Rattle.fitting.proofs.Rows.{RowType}
+use Rattle.calls.proofs.Types.{RowType, Entry}
 use Rattle.fitting.proofs.rows_fit as rows-fit
 use Rattle.fitting.proofs.rows_fit.Symbol as rows-fit-def
 use Rattle.fitting.proofs.rows_fit.Met as rows-fit-thm
@@ -75,7 +77,7 @@ use Rattle.writer.specs.Answers.{writingBy}
 use Rattle.writer.specs.Asking.{AskedFor, refusalBy, partBy}
 use Rattle.writer.specs.Contracts.{Writes}
 use Rattle.writer.proofs.Written.{rows-low, ready-for, writes}
-use Rattle.requests.proofs.Walks.{Entry, zeros, zeros-is, tok, entry-lawful, entry-makes, zeros-typed, typed}
+use Rattle.requests.proofs.Walks.{zeros, zeros-is, tok, entry-lawful, entry-makes, zeros-typed, typed}
 use Rattle.writer.proofs.Asked as Ask
 use Rattle.writer.proofs.Asked.Laws as Ask′
 use Rattle.writer.proofs.Writing as Wr
@@ -164,7 +166,7 @@ module _ {M : Type 1} (𝓤 : URA M) (H : Heap 𝓤) (A : Atoms 𝓤) (W : Given
     to-ask = (((κ, (ν ∷ [], tt)), (q, (fullShare, tt)), tt, (s, (from-start Entry b δ xs, (length (now j), (used, (i, tt))))), (slice-vals s, (vptr b 0 ∷ [], (vint w64 (length (now j)) ∷ [], (vint w64 used ∷ [], (vint w64 i ∷ [], tt)))))), tt)
 
     abbrev For-ask : List (Item 𝓤)
-    For-ask = ‵ (flft κ q) ∷ Bytes ∷ tok ν ∷ ‵ (MutRef (named 0) (ν ∷ []) (Array Entry 256) .own (from-start Entry b δ xs) (vptr b 0 ∷ [])) ∷ []
+    For-ask = ‵ (flft κ q) ∷ Bytes ∷ tok ν ∷ ‵ (MutRef (named 0) (ν ∷ []) (Array Entry ruleLimit) .own (from-start Entry b δ xs) (vptr b 0 ∷ [])) ∷ []
 
     asks-ask : ent 𝓤 (⋆ 𝓤 H A For-ask) (Asks .pre to-ask)
     asks-ask =
@@ -173,7 +175,7 @@ module _ {M : Type 1} (𝓤 : URA M) (H : Heap 𝓤) (A : Atoms 𝓤) (W : Given
         owned ! usize (Is usize) (uint-makes 𝓤 H A W w64) (length (now j)) _ (refl, gj .0) $ fjoin ! $ move ! (3 ∷ 0 ∷ []) $ fjoin ! $ move ! (2 ∷ 0 ∷ []) $ fjoin ! $ move ! (1 ∷ 0 ∷ []) $ join ! $ frame ! $ done !
 
     abbrev From-ask : List (List ℕ) → Item 𝓤
-    From-ask zs = ‵ (flft κ q) ⊛ (tok ν ⊛ ‵ (fres δ (Array Entry 256 .coded .code zs)))
+    From-ask zs = ‵ (flft κ q) ⊛ (tok ν ⊛ ‵ (fres δ (Array Entry ruleLimit .coded .code zs)))
 
     from-ask : (zs : List (List ℕ)) → ent 𝓤 (⋆ 𝓤 H A (raw (alive 𝓤 H A ask.signature (to-ask .0 .0) (to-ask .0 .1)) ∷ ‵ (lasts ask.ended (to-ask .0 .0) (to-ask .0 .3) (tt, (zs, (tt, (tt, (tt, tt)))))) ∷ [])) (mean 𝓤 H A (From-ask zs))
     from-ask zs =
@@ -269,17 +271,17 @@ module _ {M : Type 1} (𝓤 : URA M) (H : Heap 𝓤) (A : Atoms 𝓤) (W : Given
     low : r .rows ≤ length (now j)
     low = subst (λ (k : ℕ). r .rows ≤ k) (length-map (now j) rowOf) (rows-low (now s) rows used i zs r asked-rows)
 
-    rules-room : length zs ≡ 256 → Room Entry (r .rules)
+    rules-room : length zs ≡ ruleLimit → Room Entry (r .rules)
     rules-room l = (omega (arith, h .rules, l), omega (arith, h .rules, l))
 
-    module _ (g : Fit) (e : (g .fits ≡ rowsFit noForms rows (map entryOf (take (r .rules) zs)) (r .rows)) × (g .len ≡ lastLen rows (r .rows))) (t : Refusal) (et : t ≡ refusalBy r g (length (now d))) (x : Part) (ex : x ≡ partBy (t .number) i) where
+    module _ (g : Fit) (e : (g .fits ≡ rowsFit noForms rows (map entryOf (take (r .rules) zs)) (r .rows)) × (g .len ≡ lastLen rows (r .rows))) (t : Refusal) (et : refusalOf t ≡ refusalBy r g (length (now d))) (x : Part) (ex : x ≡ partBy t i) where
       ready : Ready (map entryOf (take (r .rules) zs)) rows x (length (now d))
-      ready = rw (ex, et) (ready-for (now s) rows used i zs r asked-rows g (e .0) (e .1) (length (now d)))
+      ready = rw ex (ready-for (now s) rows used i zs r asked-rows g (e .0) (e .1) (length (now d)) t et)
 
-      written : (new : List ℕ) (n : ℕ) → Wrote (partWord (map entryOf (take (r .rules) zs)) rows x) (now d) new n → (w : Writing) → w ≡ writingBy (t .number) t n → Writes (now s) rows used i (now d) new w
+      written : (new : List ℕ) (n : ℕ) → Wrote (partWord (map entryOf (take (r .rules) zs)) rows x) (now d) new n → (w : Writing) → w ≡ writingBy t n → Writes (now s) rows used i (now d) new w
       written new n o w ew =
-          subst (λ (z : Writing). Writes (now s) rows used i (now d) new z) (sym (ew ∙ ap (λ (u : Refusal). writingBy (u .number) u n) et))
-          (writes (now s) rows used i zs r asked-rows g (e .0) (e .1) (now d) new n (subst (λ (y : Part). Wrote (partWord (map entryOf (take (r .rules) zs)) rows y) (now d) new n) (ex ∙ ap (λ (u : Refusal). partBy (u .number) i) et) o))
+          subst (λ (z : Writing). Writes (now s) rows used i (now d) new z) (sym ew)
+          (writes (now s) rows used i zs r asked-rows g (e .0) (e .1) (now d) new n t et (subst (λ (y : Part). Wrote (partWord (map entryOf (take (r .rules) zs)) rows y) (now d) new n) ex o))
 
   module _ (𝓣 : Tables 𝓤 H) (known : Knows 𝓤 H A mem run 𝓣 callees) (wt : Arguments (code.function .locals) (sliceVal (s .ptr) (length (now s)) ∷ sliceVal (j .ptr) (length (now j)) ∷ vint w64 used ∷ vint w64 i ∷ sliceVal (d .ptr) (length (now d)) ∷ [])) where
     from-entry : ent 𝓤 (onEntry 𝓤 H A f.signature (κ, (κ′, (κ″, tt))) (q, (q′, (q″, tt))) a at)
@@ -298,11 +300,11 @@ module _ {M : Type 1} (𝓤 : URA M) (H : Heap 𝓤) (A : Atoms 𝓤) (W : Given
         sets ! (addr ! (from ! (stop !))) (init ! 8 refl (tt, tt)) $
         sets ! (of-opd ! (field-of ! 32 refl refl refl)) (init ! 6 refl (tt, record { fits = gj .0 })) $
         -- what is asked
-        lends-whole ! tt Entry 256 xs n₀ l₆ 24 refl (λ ν δ. lifts ! 41 refl $ lifts ! 41 refl $ uses ! (For-ask l₆ xs ν δ) (raw (Asks .pre (to-ask l₆ xs ν δ))) (asks-ask l₆ xs ν δ) $
+        lends-whole ! tt Entry ruleLimit xs n₀ l₆ 24 refl (λ ν δ. lifts ! 41 refl $ lifts ! 41 refl $ uses ! (For-ask l₆ xs ν δ) (raw (Asks .pre (to-ask l₆ xs ν δ))) (asks-ask l₆ xs ν δ) $
         calls-lasting ask.ended (ask.clauses 𝓤 H A mem run) (to-ask l₆ xs ν δ .0) tt (λ r ws. AskedFor (now s) (length (now j)) used i (ws .1 .0) r) (λ r ws. id⊢ 𝓤 _) Ask′.lowered (Ask′.lowers .val-is) ! fm (known .0)
         (past-head ! (and-then ! (its ! 34 refl) (and-then ! (its ! 8 refl) (and-then ! (its ! 6 refl) (and-then ! (its ! 30 refl) (and-then ! (its ! 28 refl) (no-more !))))))) (λ r ws h r-is.
         let zs = ws .1 .0 in
-        drop ! $ use2 W (From-ask l₆ xs ν δ zs) (from-ask l₆ xs ν δ zs) $ split ! $ lays ! 39 $ split ! $ whole-back ! tt Entry tt ν δ 256 zs l₆ 24 refl (λ n₁.
+        drop ! $ use2 W (From-ask l₆ xs ν δ zs) (from-ask l₆ xs ν δ zs) $ split ! $ lays ! 39 $ split ! $ whole-back ! tt Entry tt ν δ ruleLimit zs l₆ 24 refl (λ n₁.
         land ! (from ! (stop !)) (init ! 22 refl (typed 𝓤 H A W Ask.the-type Ask′.the-laws r r-is .0)) $
         sets ! (addr ! (from ! (stop !))) (init ! 4 refl (tt, tt)) $
         sets ! (agg ! (and-then ! (its ! 4 refl) (and-then ! (field-of ! 22 refl refl refl) (no-more !)))) (init ! 20 refl (tt, (tt, (typed 𝓤 H A W Ask.the-type Ask′.the-laws r r-is .0 .1 .1 .0, tt)))) $
@@ -315,9 +317,9 @@ module _ {M : Type 1} (𝓤 : URA M) (H : Heap 𝓤) (A : Atoms 𝓤) (W : Given
         land ! (from ! (stop !)) (init ! 18 refl (typed 𝓤 H A W Ft.the-type Ft′.the-laws g g-is .0)) $
         -- what is refused, and what is written
         sets ! (of-opd ! (field-of ! 26 refl refl refl)) (store ! 6 refl (tt, record { fits = gd .0 })) $
-        calls-plain refusing.ended (refusing.clauses 𝓤 H A mem run) (to-refusing r g r-is g-is) tt (asks-refusing r g r-is g-is) (λ t. t ≡ refusalBy r g (length (now d))) (λ t us. id⊢ 𝓤 _) F′.lowered (F′.lowers .val-is) ! fm (known .1 .1 .0)
+        calls-plain refusing.ended (refusing.clauses 𝓤 H A mem run) (to-refusing r g r-is g-is) tt (asks-refusing r g r-is g-is) (λ t. refusalOf t ≡ refusalBy r g (length (now d))) (λ t us. id⊢ 𝓤 _) F′.lowered (F′.lowers .val-is) ! fm (known .1 .1 .0)
         (and-then ! (its ! 22 refl) (and-then ! (its ! 18 refl) (and-then ! (its ! 6 refl) (no-more !)))) (λ t et t-is. land ! (from ! (stop !)) (init ! 16 refl (typed 𝓤 H A W F.the-type F′.the-laws t t-is .0)) $
-        calls-plain parting.ended (parting.clauses 𝓤 H A mem run) (to-parting t t-is i gi) tt (asks-parting t t-is i gi) (λ x. x ≡ partBy (t .number) i) (λ x us. id⊢ 𝓤 _) Pt′.lowered (Pt′.lowers .val-is) ! fm (known .1 .1 .1 .0)
+        calls-plain parting.ended (parting.clauses 𝓤 H A mem run) (to-parting t t-is i gi) tt (asks-parting t t-is i gi) (λ x. x ≡ partBy t i) (λ x us. id⊢ 𝓤 _) Pt′.lowered (Pt′.lowers .val-is) ! fm (known .1 .1 .1 .0)
         (and-then ! (its ! 16 refl) (and-then ! (its ! 28 refl) (no-more !))) (λ x ex x-is. land ! (from ! (stop !)) (init ! 14 refl (typed 𝓤 H A W Pt.the-type Pt′.the-laws x x-is .0)) $
         sets ! (addr ! (from ! (fld ! refl (hop ! (look-in ! 26 (sub ! 0 refl (whole !))) (stop !))))) (init ! 2 refl (tt, tt)) $
         sets ! (agg ! (and-then ! (its ! 2 refl) (and-then ! (field-of ! 26 refl refl refl) (no-more !)))) (init ! 0 refl (tt, (tt, (record { fits = gd .0 }, tt)))) $
@@ -327,9 +329,9 @@ module _ {M : Type 1} (𝓤 : URA M) (H : Heap 𝓤) (A : Atoms 𝓤) (W : Given
         let new = us .1 .1 .1 .0 in
         drop ! $ use2 W (From-writer l₆ (r .rules) zs μ ε x x-is new) (from-writer l₆ (r .rules) zs μ ε x x-is new) $ learn ! (λ ln. split ! $ lays ! 41 $ front-unshared ! tt Entry μ (r .rules) zs l₆ 24 refl $
         land ! (from ! (stop !)) (init ! 12 refl (tt, record { fits = n-is .1 })) $
-        calls-plain saying.ended (saying.clauses 𝓤 H A mem run) (to-saying t t-is n (n-is .1)) tt (asks-saying t t-is n (n-is .1)) (λ w. w ≡ writingBy (t .number) t n) (λ w vs. id⊢ 𝓤 _) writingVal (EL.tells Wr.the-type Wr′.the-laws) ! fm (known .1 .1 .1 .1 .1 .0)
+        calls-plain saying.ended (saying.clauses 𝓤 H A mem run) (to-saying t t-is n (n-is .1)) tt (asks-saying t t-is n (n-is .1)) (λ w. w ≡ writingBy t n) (λ w vs. id⊢ 𝓤 _) writingVal (EL.tells Wr.the-type Wr′.the-laws) ! fm (known .1 .1 .1 .1 .1 .0)
         (and-then ! (its ! 16 refl) (and-then ! (its ! 12 refl) (no-more !))) (λ w ew w-is. land ! (from ! (stop !)) (init ! 36 refl (writing-typed w w-is)) $
-        array-gone ! Entry 256 zs l₆ 24 n₁ refl $ move ! (38 ∷ 39 ∷ 40 ∷ 41 ∷ []) $ closing ! 4 refl refl $
+        array-gone ! Entry ruleLimit zs l₆ 24 n₁ refl $ move ! (38 ∷ 39 ∷ 40 ∷ 41 ∷ []) $ closing ! 4 refl refl $
         by ! (exits w new w-is ln (written zs r h g eg t et x ex new n o w ew))))))))))))))
 
 walk : Walk it

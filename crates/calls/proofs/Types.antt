@@ -1,0 +1,26 @@
+-- The types that the walks by hand of all crates share, each said here alone: a row of the lent journal as plain data (`lent`, PlainData.antt), with
+-- its type and how many bytes it takes; a rule of the table, which is its four bytes; and a word of the letters' table. Assumes nothing.
+use Prim.Native.Nat.{ℕ, _+_, _*_}
+use denote.Array.{Array}
+use denote.Builtin.{u8, u64}
+use denote.RattleType.{RattleType}
+use Rattle.lent.proofs.PlainData.{Data}
+use Rattle.relation.specs.Stored.{relationWords}
+use Rattle.calls.proofs.Row as R
+use Rattle.calls.proofs.Row.Laws as R′
+
+abbrev pub row : Data
+row = record { type = R.the-type; laws = R′.the-laws; plain = R′.the-plain; copy = R′.the-copy; low = R′.lowers }
+
+abbrev pub RowType : RattleType
+RowType = R.the-row
+
+-- seven numbers and a relation, eight bytes to a word
+abbrev pub rowBytes : ℕ
+rowBytes = (7 + relationWords) * 8
+
+abbrev pub Entry : RattleType
+Entry = Array u8 4
+
+abbrev pub Letter : RattleType
+Letter = u64

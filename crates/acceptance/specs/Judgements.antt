@@ -13,12 +13,12 @@ use Rattle.basics.specs.Tests.{or-left, or-neither}
 use Rattle.relation.specs.Relation.{states}
 use Rattle.language.specs.WordRelation.{rejected}
 use Rattle.plan_file.specs.Limits.{terminals}
-use Rattle.plan_file.specs.Refusals.{Refusal, refuse, orNext, fault}
-use Rattle.plan_file.specs.RefusalLaws.{number-some, number-none, neither-refuses}
+use Rattle.plan_file.specs.Refusals.{Refusal, firstOf}
+use Rattle.plan_file.specs.RefusalLaws.{number-some, number-none, not-held, none-refuses}
 use Rattle.plan_file.specs.Views.{automatonOf}
 use Rattle.calls.specs.Replies.{Reply, refused, answered, unless}
-use Rattle.calls.specs.ReplyLaws.{one-refusal}
-use Rattle.calls.specs.Judging.{Judgement, judgementBy, wordLimit, wordFault, judgeOf, Means}
+use Rattle.calls.specs.ReplyLaws.{reply-first}
+use Rattle.calls.specs.Judging.{Judgement, judgementBy, wordLimit, wordFault, judgeRefusals, judgeOf, Means}
 use Rattle.calls.specs.JudgingTruth.{judge-means}
 use Rattle.acceptance.specs.declared.Judged.{Judged}
 use Rattle.acceptance.specs.Letters.{strays}
@@ -35,13 +35,12 @@ abbrev judgement : List ℕ → List ℕ → Reply Judgement
 judgement bs w = answered (judgementBy (rejected states (automatonOf bs) w))
 
 module _ (bs w : List ℕ) where
-  -- the file's, then 11
-  abbrev pub refusal : Refusal
-  refusal = orNext (fault bs) (refuse (wordFault w) 0)
+  abbrev refusal : Refusal
+  refusal = firstOf (judgeRefusals bs w)
 
   by-refusal : judgeOf bs w ≡ unless refusal (judgement bs w)
   unfolding judgeOf
-  by-refusal = one-refusal (fault bs) (refuse (wordFault w) 0) (judgement bs w)
+  by-refusal = reply-first (judgeRefusals bs w) (judgementBy (rejected states (automatonOf bs) w))
 
   pub judge-refused : (refusal .number ≡ 0 → ⊥) → refused refusal ≡ judgeOf bs w
   judge-refused h = sym (by-refusal ∙ number-some (refused refusal) (judgement bs w) (refusal .number) h)
@@ -84,12 +83,8 @@ module _ (w : List ℕ) where
   -- a word that is not refused has terminals alone
   terminals-alone : wordFault w ≡ 0 → strays w ≡ false
   unfolding wordFault
-  terminals-alone e = by (ltb wordLimit (length w) || strays w) refl e
-    where
-      by : (b : Bool) → (ltb wordLimit (length w) || strays w) ≡ b → _≡_ {A = ℕ} (cond b 11 0) 0 → strays w ≡ false
-      by true p q = absurd (let z : ⊥ = omega arith in z)
-      by false p q = or-neither (ltb wordLimit (length w)) (strays w) p .1
+  terminals-alone e = or-neither (ltb wordLimit (length w)) (strays w) (not-held (ltb wordLimit (length w) || strays w) 10 e) .1
 
 -- nor has one where nothing refuses the call
-pub judged-alone : (bs w : List ℕ) → refusal bs w .number ≡ 0 → strays w ≡ false
-judged-alone bs w e = terminals-alone w (neither-refuses (fault bs) (refuse (wordFault w) 0) e .1)
+pub judged-alone : (bs w : List ℕ) → firstOf (judgeRefusals bs w) .number ≡ 0 → strays w ≡ false
+judged-alone bs w e = terminals-alone w (none-refuses (judgeRefusals bs w) e .1 .0)

@@ -5,7 +5,9 @@ ghost use Rattle.relation.specs.Relation.{states};
 ghost use Rattle.relation.specs.Representation.{value};
 ghost use Rattle.language.specs.WordRelation.{rejected};
 ghost use Rattle.plan_file.specs.Views.{automatonOf};
-ghost use Rattle.calls.specs.Judging.{wordFault};
+ghost use Rattle.plan_file.specs.Answers.{refusalOf};
+ghost use Rattle.plan_file.specs.Refusals.{firstOf};
+ghost use Rattle.calls.specs.Judging.{wordFault, judgeRefusals};
 ghost use Rattle.acceptance.specs.Answers.{Judging};
 ghost use Rattle.acceptance.specs.Letters.{strays};
 ghost use Rattle.acceptance.specs.TableRelation.{tableRelation};
@@ -26,8 +28,8 @@ pub enum Judged {
     Refused(Refusal),
 }
 
-// 11 where the word is too long or has a letter that is no terminal, else 0.
-fn word_fault(word: &[u8]) -> u64
+// Returns 11 where `word` is too long or has a letter that is no terminal, and else 0.
+pub fn word_fault(word: &[u8]) -> u64
     ensures { λ r. ⌜ r ≡ wordFault (now (word .entry)) ⌝ }
 {
     if WORD_LIMIT < word.len() {
@@ -71,16 +73,23 @@ fn turns_away(file: &[u8], word: &[u8]) -> bool
     r.rejects(finals)
 }
 
-// The file's refusal, then 11, then whether a path on the word leads from state 0 to a final state.
-pub fn judge(file: &[u8], word: &[u8]) -> Judged
-    ensures { λ r. ⌜ Judging (now (file .entry)) (now (word .entry)) r ⌝ }
+// Returns the first refusal of a call on `file` and `word`: the file's, then 11. Number 0: none.
+pub fn refusal_for(file: &[u8], word: &[u8]) -> Refusal
+    ensures { λ r. ⌜ refusalOf r ≡ firstOf (judgeRefusals (now (file .entry)) (now (word .entry))) ⌝ }
 {
     let of_file = walk::file_refusal(file);
     let of_word = Refusal {
         number: word_fault(word),
         place: 0,
     };
-    let refusal = of_file.or(of_word);
+    of_file.or(of_word)
+}
+
+// Returns what refuses the call, or whether a path on `word` leads from state 0 to a final state of the automaton of `file`.
+pub fn judge(file: &[u8], word: &[u8]) -> Judged
+    ensures { λ r. ⌜ Judging (now (file .entry)) (now (word .entry)) r ⌝ }
+{
+    let refusal = refusal_for(file, word);
     if refusal.number != 0 {
         return Judged::Refused(refusal);
     }

@@ -20,6 +20,7 @@ use Rattle.plan_file.specs.Views.{rulesOf, productionsOf, automatonOf}
 use Rattle.working_order.specs.Behind.{wordBehind}
 use Rattle.working_order.specs.Journal.{Row, noRow, capped}
 use Rattle.working_order.specs.Order.{Answer, Verdict, broken}
+use Rattle.calls.specs.Codes.{refusedBy}
 use Rattle.calls.specs.Base.{base, words}
 use Rattle.calls.specs.Checking.{checkOf, shown}
 use Rattle.calls.specs.DemandThree.{Promises}
@@ -28,7 +29,6 @@ use Rattle.calls.specs.Promising.{from-order}
 use Rattle.calls.specs.Replies.{answered, unless, refused}
 use Rattle.calls.specs.Writing.{longWord, roomFault, wordOf, writtenBy}
 use Rattle.calls.specs.WritingTruth.{room-cases}
-use Rattle.telling.specs.Telling.{refusedBy}
 use Rattle.standalone.specs.Told.{zeroRow, lastThree, shownBy}
 use Rattle.bolfrega.specs.Hosts.{toldPass, toldPairs, toldLength, toldRefused, InBuffer, Shows}
 use Rattle.bolfrega.specs.HostReplies.{brokenRow, writing, ToldAnswer}

@@ -6,8 +6,8 @@ use Prim.Native.String.{String}
 use Rattle.relation.specs.Digits.{bit, number, some, count, subset}
 use Rattle.relation.specs.Relation.{has, table, identity, compose, pairs, rejects}
 use Rattle.language.specs.WordRelation.{moves, letterRelation, wordRelation, isFinal, rejected}
-use Rattle.plan_file.specs.Records.{countOf}
-use Rattle.plan_file.specs.Refusals.{kindKnown, aboveRange, strayByte, risesFrom, exceeds, overLimit, faultBy, faultAt, faultFrom, fault}
+use Rattle.plan_file.specs.Records.{countIn}
+use Rattle.plan_file.specs.Refusals.{kindKnown, risesFrom, overLimit, aboveRangeIn, exceedsIn, faultAtIn, faultByIn, faultFromIn, faultIn, lengthFaultIn, strayByteIn}
 use Rattle.plan_file.specs.Views.{collect, rulesOf, transitionsOf, finalsOf}
 use Rattle.working_order.specs.Journal.{capped, live, liveOf}
 use Rattle.working_order.specs.Candidates.{liveRows, sole, paired, bare, choices, bodyCandidates, passCandidates}
@@ -51,7 +51,7 @@ says text = printed (bytes text)
 
 -- with a run buffer of so many bytes
 checkedIn : ℕ → List ℕ → ℕ → ℕ → Output
-unfolding textOf brokenLines lineOne lineTwo lineThree refusedLine wordLine numbersLine separated blanked decimal writeOf bufferAfter wordOf rowFault roomFault rowsFit rowFits bodyFits pointerFits symbolLen wordBehind wordsOf wordsFrom rowWord bodyWord symbolWord pairs count checkOf orderOn journalFault fault faultFrom faultAt faultBy kindKnown aboveRange strayByte risesFrom exceeds overLimit countOf rulesOf transitionsOf finalsOf collect check passes onePass walk consider decide added retire larger dropped answer born passCandidates bodyCandidates choices bare sole paired liveRows live liveOf capped letterRelation moves isFinal rejects compose identity table has some number subset bit
+unfolding textOf brokenLines lineOne lineTwo lineThree refusedLine wordLine numbersLine separated blanked decimal writeOf bufferAfter wordOf rowFault roomFault rowsFit rowFits bodyFits pointerFits symbolLen wordBehind wordsOf wordsFrom rowWord bodyWord symbolWord pairs count checkOf orderOn journalFault faultIn lengthFaultIn faultFromIn faultAtIn faultByIn kindKnown aboveRangeIn strayByteIn risesFrom exceedsIn overLimit countIn rulesOf transitionsOf finalsOf collect check passes onePass walk consider decide added retire larger dropped answer born passCandidates bodyCandidates choices bare sole paired liveRows live liveOf capped letterRelation moves isFinal rejects compose identity table has some number subset bit
 checkedIn room bs J B = printed (textOf bs J B room)
 
 -- with the check program's
@@ -81,7 +81,7 @@ judgedBy (refused r) = refusal (r .number) (r .place)
 judgedBy (answered j) = judged j
 
 judging : List ℕ → List ℕ → Output
-unfolding judgedBy judgeOf wordFault fault faultFrom faultAt faultBy kindKnown aboveRange strayByte risesFrom exceeds overLimit countOf transitionsOf finalsOf collect rejected wordRelation letterRelation moves isFinal rejects compose identity table has some number bit
+unfolding judgedBy judgeOf wordFault faultIn lengthFaultIn faultFromIn faultAtIn faultByIn kindKnown aboveRangeIn strayByteIn risesFrom exceedsIn overLimit countIn transitionsOf finalsOf collect rejected wordRelation letterRelation moves isFinal rejects compose identity table has some number bit
 judging bs w = judgedBy (judgeOf bs w)
 
 pub record Case : Type 0 where

@@ -6,7 +6,7 @@ use Prim.Native.Nat.{ℕ}
 use lib.Dec.{eqb, ltb}
 use lib.ListN.{length, drop}
 use Rattle.relation.specs.Relation.{states}
-use Rattle.plan_file.specs.Refusals.{refuse, fault}
+use Rattle.plan_file.specs.Refusals.{Refusal, refuse, fault}
 use Rattle.plan_file.specs.Views.{rulesOf, automatonOf}
 use Rattle.working_order.specs.Journal.{Row}
 use Rattle.working_order.specs.Order.{Answer, check}
@@ -26,9 +26,13 @@ journalFault J = cond (eqb J 0 || ltb journalLimit J) 8 0
 unfoldable pub orderOn : List ℕ → ℕ → ℕ → Answer ℕ
 orderOn bs J B = check (base states (automatonOf bs)) (rulesOf bs) J B
 
--- the file's refusal, then 8, then the answer
+-- what may refuse a check, in its order: the file's refusal, then 8
+abbrev pub checkRefusals : List ℕ → ℕ → List Refusal
+checkRefusals bs J = fault bs ∷ refuse (journalFault J) 0 ∷ []
+
+-- the first of them, and else the answer
 unfoldable pub checkOf : List ℕ → ℕ → ℕ → Reply (Answer ℕ)
-checkOf bs J B = let a = orderOn bs J B in reply (fault bs ∷ refuse (journalFault J) 0 ∷ []) a
+checkOf bs J B = let a = orderOn bs J B in reply (checkRefusals bs J) a
 
 -- the used rows, and then the old contents; the old contents whole on a refusal
 abbrev pub keptBy : List (Row ℕ) → Reply (Answer ℕ) → List (Row ℕ)

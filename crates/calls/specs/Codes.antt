@@ -32,3 +32,7 @@ module _ {A : Type 0} where
   abbrev pub codeBy : (A → ℕ) → Reply A → ℕ
   codeBy own (refused r) = r .number
   codeBy own (answered a) = own a
+
+-- the number that refuses to write the run, or 0
+abbrev pub refusedBy : Reply ℕ → ℕ
+refusedBy w = codeBy (λ n. 0) w

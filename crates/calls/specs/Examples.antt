@@ -5,8 +5,8 @@ use Prim.Native.Nat.{ℕ}
 use Rattle.relation.specs.Digits.{bit, number, some, subset}
 use Rattle.relation.specs.Relation.{has, table, identity, compose, rejects}
 use Rattle.language.specs.WordRelation.{moves, letterRelation, isFinal}
-use Rattle.plan_file.specs.Records.{countOf, ruleRecord, transitionRecord, finalRecord}
-use Rattle.plan_file.specs.Refusals.{refuse, kindKnown, aboveRange, strayByte, risesFrom, exceeds, overLimit, faultBy, faultAt, faultFrom, fault}
+use Rattle.plan_file.specs.Records.{ruleRecord, transitionRecord, finalRecord, countIn}
+use Rattle.plan_file.specs.Refusals.{refuse, kindKnown, risesFrom, overLimit, aboveRangeIn, exceedsIn, faultAtIn, faultByIn, faultFromIn, faultIn, lengthFaultIn, strayByteIn}
 use Rattle.plan_file.specs.Reading.{Step, gives, refuses, ended, stepFrom, stepAt, stretch}
 use Rattle.plan_file.specs.Views.{collect, rulesOf, transitionsOf, finalsOf}
 use Rattle.working_order.specs.Journal.{Row, capped, live, liveOf}
@@ -20,7 +20,7 @@ use Rattle.calls.specs.Writing.{rowFault, roomFault, wordOf, writeOf, bu
 use Rattle.calls.specs.Cases.{entry, sheetS, planA, planB, lone}
 
 pub step : List ℕ → ℕ → Step
-unfolding stepAt stepFrom faultBy kindKnown aboveRange strayByte risesFrom exceeds overLimit countOf
+unfolding stepAt stepFrom lengthFaultIn faultByIn kindKnown aboveRangeIn strayByteIn risesFrom exceedsIn overLimit countIn
 step bs i = stepAt bs i
 
 -- the first and the last record of plan A with sheet S, the place after it, a far place; a length that is no multiple of 8; two equal records
@@ -36,7 +36,7 @@ steps = (refl, refl, refl, refl, refl, refl, refl)
 
 -- the moves of sheet S, and none of a refused file
 pub stretches : (stretch (planA sheetS) ≡ entry 2 0 1 1 0 (entry 2 0 3 2 0 (entry 2 1 2 0 0 []))) × (stretch (lone (lone [])) ≡ [])
-unfolding stretch fault faultFrom faultAt faultBy kindKnown aboveRange strayByte risesFrom exceeds overLimit countOf planA sheetS lone
+unfolding stretch faultIn lengthFaultIn faultFromIn faultAtIn faultByIn kindKnown aboveRangeIn strayByteIn risesFrom exceedsIn overLimit countIn planA sheetS lone
 stretches = (refl, refl)
 
 -- the journal of plan B's check
@@ -45,7 +45,7 @@ unfolding planB sheetS orderOn rulesOf transitionsOf finalsOf collect check pass
 journalB = orderOn (planB sheetS) 1024 1000000 .journal
 
 pub writeOn : List ℕ → List (Row ℕ) → ℕ → ℕ → ℕ → Reply ℕ
-unfolding writeOf wordOf rowFault roomFault journalFault fault faultFrom faultAt faultBy kindKnown aboveRange strayByte risesFrom exceeds overLimit countOf rulesOf transitionsOf collect rowsFit rowFits bodyFits pointerFits symbolLen capped wordBehind wordsOf wordsFrom rowWord bodyWord symbolWord
+unfolding writeOf wordOf rowFault roomFault journalFault faultIn lengthFaultIn faultFromIn faultAtIn faultByIn kindKnown aboveRangeIn strayByteIn risesFrom exceedsIn overLimit countIn rulesOf transitionsOf collect rowsFit rowFits bodyFits pointerFits symbolLen capped wordBehind wordsOf wordsFrom rowWord bodyWord symbolWord
 writeOn bs rows used i room = writeOf bs rows used i room
 
 pub write : List (Row ℕ) → ℕ → ℕ → ℕ → Reply ℕ

@@ -9,7 +9,7 @@ use Rattle.relation.specs.Relation.{states}
 use Rattle.language.specs.Automaton.{Accepts, TurnsAway}
 use Rattle.language.specs.WordRelation.{rejected}
 use Rattle.plan_file.specs.Limits.{terminals}
-use Rattle.plan_file.specs.Refusals.{refuse, fault}
+use Rattle.plan_file.specs.Refusals.{Refusal, refuse, fault}
 use Rattle.plan_file.specs.Views.{automatonOf}
 use Rattle.calls.specs.Replies.{Reply, refused, answered, reply}
 
@@ -28,9 +28,13 @@ abbrev pub judgementBy : Bool → Judgement
 judgementBy true = turnedAway
 judgementBy false = accepted
 
--- the file's refusal, then 11, then the judgement
+-- what may refuse to judge a word, in its order: the file's refusal, then 11
+abbrev pub judgeRefusals : List ℕ → List ℕ → List Refusal
+judgeRefusals bs w = fault bs ∷ refuse (wordFault w) 0 ∷ []
+
+-- the first of them, and else the judgement
 unfoldable pub judgeOf : List ℕ → List ℕ → Reply Judgement
-judgeOf bs w = let j = judgementBy (rejected states (automatonOf bs) w) in reply (fault bs ∷ refuse (wordFault w) 0 ∷ []) j
+judgeOf bs w = let j = judgementBy (rejected states (automatonOf bs) w) in reply (judgeRefusals bs w) j
 
 -- what an answer means: accepted that a path leads from state 0 to a final state on the word, turned away that none does
 abbrev pub Means : List ℕ → List ℕ → Reply Judgement → Type 0

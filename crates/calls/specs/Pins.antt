@@ -3,16 +3,16 @@
 use mathlib.Core.Path.{_≡_, refl}
 use mathlib.Core.Bool.{true, false}
 use mathlib.Core.List.{List, [], _∷_, _++_}
-use Prim.Native.Nat.{ℕ, zero, suc, _%_, _≤_, _<_}
+use Prim.Native.Nat.{ℕ, zero, suc, _+_, _%_, _≤_, _<_}
 use native.Mathlib.Omega.{arith}
 use lib.Dec.{leb, ltb}
 use lib.ListN.{length, replicate}
 use borrow.Author.Tests.{eq-eqb, lt-ltb, le-ltb, le-leb, lt-leb}
 use Rattle.basics.specs.Elements.{any}
 use Rattle.basics.specs.Tests.{or-right}
-use Rattle.plan_file.specs.Records.{recordCount, recordAt, countOf, ruleRecord, recordOf}
-use Rattle.plan_file.specs.Refusals.{Refusal, refuse, kindKnown, aboveRange, strayByte, risesFrom, rises, exceeds, overLimit, faultBy, faultAt, faultFrom, fault}
-use Rattle.plan_file.specs.Reading.{Step, gives, refuses, stepBy, stepFrom, stepAt}
+use Rattle.plan_file.specs.Records.{recordCount, recordAt, ruleRecord, recordOf, countIn}
+use Rattle.plan_file.specs.Refusals.{Refusal, refuse, kindKnown, risesFrom, rises, overLimit, faultAt, fault, aboveRangeIn, exceedsIn, faultAtIn, faultByIn, faultFromIn, faultIn, lengthFaultIn, strayByteIn}
+use Rattle.plan_file.specs.Reading.{Step, gives, refuses, unlessRefused, stepFrom, stepAt}
 use Rattle.calls.specs.Replies.{refused}
 use Rattle.calls.specs.Checking.{journalFault, checkOf}
 use Rattle.calls.specs.Judging.{wordFault, judgeOf}
@@ -21,9 +21,9 @@ use Rattle.calls.specs.Cases.{entry, lone}
 
 -- ---- 1 to 7, of a file
 
-pub faultIn : List ℕ → Refusal
-unfolding fault faultFrom faultAt faultBy kindKnown aboveRange strayByte risesFrom exceeds overLimit countOf
-faultIn bs = fault bs
+pub refusalNow : List ℕ → Refusal
+unfolding faultIn lengthFaultIn faultFromIn faultAtIn faultByIn kindKnown aboveRangeIn strayByteIn risesFrom exceedsIn overLimit countIn
+refusalNow bs = fault bs
 
 -- the rule "0 gives nothing" with its byte 7 set
 abbrev pub stray : List ℕ → List ℕ
@@ -32,74 +32,74 @@ stray rest = 1 ∷ 0 ∷ 0 ∷ 0 ∷ 0 ∷ 0 ∷ 0 ∷ 1 ∷ rest
 -- 1 and 2
 pub length-first :
     -- 1,289 records and a byte: 1 before 2
-    (faultIn (replicate 10313 0) ≡ refuse 1 0)
+    (refusalNow (replicate 10313 0) ≡ refuse 1 0)
     -- 1,289 records: 2 before 3
-    × (faultIn (replicate 10312 0) ≡ refuse 2 0)
+    × (refusalNow (replicate 10312 0) ≡ refuse 2 0)
     -- 1,288 records
-    × (faultIn (replicate 10304 0) ≡ refuse 3 0)
-unfolding faultIn
+    × (refusalNow (replicate 10304 0) ≡ refuse 3 0)
+unfolding refusalNow
 length-first = (refl, refl, refl)
 
 -- 4, of a rule
 pub above :
     -- procedures are 0 to 63
-    (faultIn (entry 1 63 0 0 0 []) ≡ refuse 0 0)
-    × (faultIn (entry 1 64 0 0 0 []) ≡ refuse 4 0)
+    (refusalNow (entry 1 63 0 0 0 []) ≡ refuse 0 0)
+    × (refusalNow (entry 1 64 0 0 0 []) ≡ refuse 4 0)
     -- body lengths are 0 to 2
-    × (faultIn (entry 1 0 3 0 0 []) ≡ refuse 4 0)
+    × (refusalNow (entry 1 0 3 0 0 []) ≡ refuse 4 0)
     -- symbols are 0 to 191
-    × (faultIn (entry 1 0 2 191 191 []) ≡ refuse 0 0)
-    × (faultIn (entry 1 0 2 192 0 []) ≡ refuse 4 0)
-    × (faultIn (entry 1 0 2 0 192 []) ≡ refuse 4 0)
-unfolding faultIn
+    × (refusalNow (entry 1 0 2 191 191 []) ≡ refuse 0 0)
+    × (refusalNow (entry 1 0 2 192 0 []) ≡ refuse 4 0)
+    × (refusalNow (entry 1 0 2 0 192 []) ≡ refuse 4 0)
+unfolding refusalNow
 above = (refl, refl, refl, refl, refl, refl)
 
 -- 4, of the sheet
 pub above-sheet :
     -- stages of a move are 0 to 7, step codes 0 to 127
-    (faultIn (entry 2 7 127 7 0 []) ≡ refuse 0 0)
-    × (faultIn (entry 2 8 0 0 0 []) ≡ refuse 4 0)
-    × (faultIn (entry 2 0 128 0 0 []) ≡ refuse 4 0)
-    × (faultIn (entry 2 0 0 8 0 []) ≡ refuse 4 0)
+    (refusalNow (entry 2 7 127 7 0 []) ≡ refuse 0 0)
+    × (refusalNow (entry 2 8 0 0 0 []) ≡ refuse 4 0)
+    × (refusalNow (entry 2 0 128 0 0 []) ≡ refuse 4 0)
+    × (refusalNow (entry 2 0 0 8 0 []) ≡ refuse 4 0)
     -- and so are finishing stages
-    × (faultIn (entry 3 7 0 0 0 []) ≡ refuse 0 0)
-    × (faultIn (entry 3 8 0 0 0 []) ≡ refuse 4 0)
-unfolding faultIn
+    × (refusalNow (entry 3 7 0 0 0 []) ≡ refuse 0 0)
+    × (refusalNow (entry 3 8 0 0 0 []) ≡ refuse 4 0)
+unfolding refusalNow
 above-sheet = (refl, refl, refl, refl, refl, refl)
 
 -- 5
 pub unused :
     -- byte 7 is never used
-    (faultIn (stray []) ≡ refuse 5 0)
+    (refusalNow (stray []) ≡ refuse 5 0)
     -- byte 3 of an empty body; byte 4 of a body of one symbol, which is not 4's though it is no symbol
-    × (faultIn (entry 1 0 0 5 0 []) ≡ refuse 5 0)
-    × (faultIn (entry 1 0 1 5 192 []) ≡ refuse 5 0)
+    × (refusalNow (entry 1 0 0 5 0 []) ≡ refuse 5 0)
+    × (refusalNow (entry 1 0 1 5 192 []) ≡ refuse 5 0)
     -- byte 4 of a move; byte 2 of a finishing stage
-    × (faultIn (entry 2 0 1 1 9 []) ≡ refuse 5 0)
-    × (faultIn (entry 3 0 1 0 0 []) ≡ refuse 5 0)
-unfolding faultIn
+    × (refusalNow (entry 2 0 1 1 9 []) ≡ refuse 5 0)
+    × (refusalNow (entry 3 0 1 0 0 []) ≡ refuse 5 0)
+unfolding refusalNow
 unused = (refl, refl, refl, refl, refl)
 
 -- 3: kinds are 1 to 3
 pub kinds :
-    (faultIn (entry 0 0 0 0 0 []) ≡ refuse 3 0)
-    × (faultIn (entry 4 0 0 0 0 []) ≡ refuse 3 0)
-unfolding faultIn
+    (refusalNow (entry 0 0 0 0 0 []) ≡ refuse 3 0)
+    × (refusalNow (entry 4 0 0 0 0 []) ≡ refuse 3 0)
+unfolding refusalNow
 kinds = (refl, refl)
 
 -- which number, and of which record
 pub tests-in-order :
     -- 3 before 6: the second record's kind is unknown, and it does not exceed the first
-    (faultIn (lone (entry 0 0 0 0 0 [])) ≡ refuse 3 1)
+    (refusalNow (lone (entry 0 0 0 0 0 [])) ≡ refuse 3 1)
     -- 4 before 5
-    × (faultIn (entry 1 64 0 5 0 []) ≡ refuse 4 0)
+    × (refusalNow (entry 1 64 0 5 0 []) ≡ refuse 4 0)
     -- 4 before 6
-    × (faultIn (entry 2 0 0 0 0 (entry 1 64 0 0 0 [])) ≡ refuse 4 1)
+    × (refusalNow (entry 2 0 0 0 0 (entry 1 64 0 0 0 [])) ≡ refuse 4 1)
     -- 5 before 6
-    × (faultIn (entry 1 5 0 0 0 (stray [])) ≡ refuse 5 1)
+    × (refusalNow (entry 1 5 0 0 0 (stray [])) ≡ refuse 5 1)
     -- 5 of record 1 before 3 of record 2
-    × (faultIn (lone (stray (entry 0 0 0 0 0 []))) ≡ refuse 5 1)
-unfolding faultIn lone
+    × (refusalNow (lone (stray (entry 0 0 0 0 0 []))) ≡ refuse 5 1)
+unfolding refusalNow lone
 tests-in-order = (refl, refl, refl, refl, refl)
 
 -- 6 compares all eight bytes: these differ in byte 7 only
@@ -130,7 +130,7 @@ copies zero r rest = rest
 copies (suc n) r rest = r ++ copies n r rest
 
 pub stepIn : List ℕ → ℕ → Step
-unfolding stepAt stepFrom faultBy kindKnown aboveRange strayByte risesFrom exceeds overLimit countOf
+unfolding stepAt stepFrom lengthFaultIn faultByIn kindKnown aboveRangeIn strayByteIn risesFrom exceedsIn overLimit countIn
 stepIn bs i = stepAt bs i
 
 pub counted-rules :
@@ -144,8 +144,8 @@ unfolding stepIn copies lone
 counted-rules = (refl, refl, refl)
 
 -- and at any record its number is the one that the whole file's walk has for that record, moves before it counted as well
-pub step-checks : (bs : List ℕ) (i : ℕ) → length bs % 8 ≡ 0 → recordCount bs ≤ 1288 → i < recordCount bs → stepAt bs i ≡ stepBy (faultAt bs i) i (recordOf (recordAt bs i))
-unfolding stepAt stepFrom faultAt
+pub step-checks : (bs : List ℕ) (i : ℕ) → length bs % 8 ≡ 0 → recordCount bs ≤ 1288 → i < recordCount bs → stepAt bs i ≡ unlessRefused (refuse (faultAt bs i) i) (gives (recordOf (recordAt bs i)) (i + 1))
+unfolding stepAt stepFrom lengthFaultIn faultAtIn
 step-checks bs i whole few l = rw (eq-eqb (length bs % 8) 0 whole, le-ltb 1288 (recordCount bs) few, lt-leb (recordCount bs) i l)
 
 -- ---- 8, 10 and 11
@@ -184,5 +184,5 @@ letters = (refl, refl, refl)
 
 -- the file is tested before 8 and 11
 pub file-first : (checkOf (1 ∷ []) 0 0 ≡ refused (refuse 1 0)) × (judgeOf (1 ∷ []) (128 ∷ []) ≡ refused (refuse 1 0))
-unfolding checkOf judgeOf journalFault wordFault faultIn fault
+unfolding checkOf judgeOf journalFault wordFault refusalNow faultIn lengthFaultIn
 file-first = (refl, refl)

@@ -4,12 +4,8 @@ use mathlib.Core.List.{List, [], _∷_}
 use Prim.Native.Nat.{ℕ, zero, suc}
 use native.Mathlib.Omega.{arith}
 use Rattle.plan_file.specs.Refusals.{Refusal, byNumber, orNext, firstOf}
+use Rattle.plan_file.specs.RefusalLaws.{NoneRefuses}
 use Rattle.calls.specs.Replies.{Reply, refused, answered, unless, reply}
-
--- none of them refuses
-abbrev pub NoneRefuses : List Refusal → Type 0
-NoneRefuses [] = Unit {0}
-NoneRefuses (r ∷ rs) = (r .number ≡ 0) × NoneRefuses rs
 
 module _ {A : Type 0} where
   -- an answer was not refused

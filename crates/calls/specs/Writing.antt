@@ -1,12 +1,12 @@
 -- What writing the word behind a journal row answers, and what the lent buffer holds afterwards (document 01, "Writing a run").
 -- Definitions only. Assumes nothing.
-use mathlib.Core.Bool.{not, _||_, cond}
+use mathlib.Core.Bool.{Bool, not, _||_, cond}
 use mathlib.Core.List.{List, [], _∷_, _++_}
 use Prim.Native.Nat.{ℕ, _+_}
 use lib.Dec.{leb, ltb}
 use lib.ListN.{length, getD, take, drop}
 use Rattle.relation.specs.Relation.{states}
-use Rattle.plan_file.specs.Refusals.{refuse, fault}
+use Rattle.plan_file.specs.Refusals.{Refusal, refuse, fault}
 use Rattle.plan_file.specs.Views.{rulesOf, productionsOf, automatonOf}
 use Rattle.language.specs.Grammar.{Rule}
 use Rattle.language.specs.Rewriting.{Language}
@@ -18,7 +18,7 @@ use Rattle.calls.specs.Base.{base, words}
 use Rattle.calls.specs.Checking.{journalFault}
 use Rattle.calls.specs.Replies.{Reply, refused, answered, reply}
 
--- a word of so many steps is not written
+-- a word of this many steps or more is not written
 abbrev pub longWord : ℕ
 longWord = 65535
 
@@ -26,9 +26,13 @@ longWord = 65535
 unfoldable pub rowFault : Forms ℕ → List Rule → List (Row ℕ) → ℕ → ℕ → ℕ
 rowFault M rules rows used i = cond (not (ltb i used) || (ltb (length rows) used || not (rowsFit M rows rules (i + 1)))) 9 0
 
--- 10: the word is too long, or longer than the buffer
+-- a word of n steps is too long to be written, or longer than a buffer of `room` bytes
+abbrev pub tooLong : ℕ → ℕ → Bool
+tooLong n room = leb longWord n || ltb room n
+
+-- 10: so is the word
 unfoldable pub roomFault : List ℕ → ℕ → ℕ
-roomFault w room = cond (leb longWord (length w) || ltb room (length w)) 10 0
+roomFault w room = cond (tooLong (length w) room) 10 0
 
 -- row i of the journal, and the word behind it
 abbrev pub rowOn : List ℕ → List (Row ℕ) → ℕ → Row ℕ
@@ -37,17 +41,18 @@ rowOn bs rows i = getD rows i (noRow (base states (automatonOf bs) .forms))
 unfoldable pub wordOf : List ℕ → List (Row ℕ) → ℕ → List ℕ
 wordOf bs rows i = wordBehind words (rulesOf bs) rows i
 
--- the file's refusal, then 8, 9 and 10, then the word's length
-unfoldable pub writeOf : List ℕ → List (Row ℕ) → ℕ → ℕ → ℕ → Reply ℕ
-writeOf bs rows used i room =
-    let w = wordOf bs rows i in
-    reply
-    (fault bs
+-- what may refuse to write, in its order: the file's refusal, then 8, 9 and 10
+abbrev pub writeRefusals : List ℕ → List (Row ℕ) → ℕ → ℕ → ℕ → List Refusal
+writeRefusals bs rows used i room =
+    fault bs
     ∷ refuse (journalFault (length rows)) 0
     ∷ refuse (rowFault (base states (automatonOf bs) .forms) (rulesOf bs) rows used i) 0
-    ∷ refuse (roomFault w room) 0
-    ∷ [])
-    (length w)
+    ∷ refuse (roomFault (wordOf bs rows i) room) 0
+    ∷ []
+
+-- the first of them, and else the word's length
+unfoldable pub writeOf : List ℕ → List (Row ℕ) → ℕ → ℕ → ℕ → Reply ℕ
+writeOf bs rows used i room = reply (writeRefusals bs rows used i room) (length (wordOf bs rows i))
 
 -- the word, and then the old bytes; the old bytes whole on a refusal
 abbrev pub writtenBy : List ℕ → List ℕ → Reply ℕ → List ℕ

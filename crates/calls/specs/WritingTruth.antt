@@ -34,8 +34,8 @@ use Rattle.calls.specs.Checking.{journalFault, orderOn, checkOf, journal
 use Rattle.calls.specs.DemandThree.{Counts, WritesShown}
 use Rattle.calls.specs.JournalTruth.{row-true}
 use Rattle.calls.specs.Replies.{Reply, refused, answered, unless}
-use Rattle.calls.specs.ReplyLaws.{unless-answers, answered-same}
-use Rattle.calls.specs.Writing.{longWord, rowFault, roomFault, rowOn, wordOf, writeOf, writtenBy, bufferAfter, WordMeans}
+use Rattle.calls.specs.ReplyLaws.{reply-answers}
+use Rattle.calls.specs.Writing.{longWord, rowFault, roomFault, rowOn, wordOf, writeOf, writtenBy, bufferAfter, WordMeans, writeRefusals}
 
 -- ---- rows that fit derive the words behind them
 
@@ -89,11 +89,8 @@ module _ (bs : List ℕ) (rows : List (Row ℕ)) (used i room n : ℕ) (e : writ
   passed : (rowFault M (rulesOf bs) rows used i ≡ 0) × (n ≡ length (wordOf bs rows i))
   unfolding writeOf
   passed =
-      let p = unless-answers (fault bs) _ n e in
-      let q = unless-answers (refuse (journalFault (length rows)) 0) _ n (p .1) in
-      let r = unless-answers (refuse (rowFault M (rulesOf bs) rows used i) 0) _ n (q .1) in
-      let t = unless-answers (refuse (roomFault (wordOf bs rows i) room) 0) (answered (length (wordOf bs rows i))) n (r .1) in
-      (r .0, sym (answered-same (length (wordOf bs rows i)) n (t .1)))
+      let p = reply-answers (writeRefusals bs rows used i room) (length (wordOf bs rows i)) n e in
+      (p .0 .1 .1 .0, sym (p .1))
 
   fits : (i < length rows) × (rowsFit M rows (rulesOf bs) (i + 1) ≡ true)
   unfolding rowFault

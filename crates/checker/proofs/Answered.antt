@@ -11,13 +11,13 @@ use Rattle.relation.specs.Digits.{number}
 use Rattle.relation.specs.Relation.{states}
 use Rattle.language.specs.WordRelation.{isFinal}
 use Rattle.plan_file.specs.Refusals as refusals
-use Rattle.plan_file.specs.Refusals.{refuse, fault, byNumber}
+use Rattle.plan_file.specs.Refusals.{byNumber, firstOf}
 use Rattle.plan_file.specs.Views.{automatonOf}
 use Rattle.working_order.specs.Order as order
 use Rattle.working_order.specs.Journal.{Row}
-use Rattle.calls.specs.Checking.{journalFault, orderOn, checkOf, keptBy, journalAfter}
+use Rattle.calls.specs.Checking.{checkRefusals, orderOn, checkOf, keptBy, journalAfter}
 use Rattle.calls.specs.Promising.{promises}
-use Rattle.calls.specs.ReplyLaws.{one-refusal}
+use Rattle.calls.specs.ReplyLaws.{reply-first}
 use Rattle.plan_file.specs.RefusalLaws.{number-some}
 use Rattle.calls.specs.Replies.{Reply, refused, answered, unless}
 use Rattle.calls.specs.Rows.{rowOf}
@@ -36,7 +36,6 @@ use Rattle.starting.specs.declared.Start.{Start}
 use Rattle.checker.specs.Answers.{checkedBy, checkedOf, usedIn}
 use Rattle.checker.specs.Contracts.{Checks}
 use Rattle.checker.specs.OrderLaws.{order-same}
-use Rattle.requests.specs.Refusing.{refusalFor}
 use Rattle.starting.specs.Starting.{Starts}
 use Rattle.requests.proofs.Refusals.{none-refused}
 
@@ -60,9 +59,13 @@ front-rest u old new e =
 module _ (bs : List ℕ) (B : ℕ) (old : Journal) where
   -- ---- the reply
 
-  reply : checkOf bs (length old) B ≡ unless (refusalFor bs (length old)) (answered (orderOn bs (length old) B))
+  -- the first of what may refuse it
+  abbrev refusal : refusals.Refusal
+  refusal = firstOf (checkRefusals bs (length old))
+
+  reply : checkOf bs (length old) B ≡ unless refusal (answered (orderOn bs (length old) B))
   unfolding checkOf
-  reply = one-refusal (fault bs) (refuse (journalFault (length old)) 0) (answered (orderOn bs (length old) B))
+  reply = reply-first (checkRefusals bs (length old)) (orderOn bs (length old) B)
 
   -- whatever it is
   checks : (given : Reply (order.Answer ℕ)) → checkOf bs (length old) B ≡ given → (new : Journal) (c : Checked) → checkedOf c new ≡ given → map rowOf new ≡ keptBy (map rowOf old) given
@@ -98,8 +101,8 @@ module _ (bs : List ℕ) (B : ℕ) (old : Journal) where
       refuses : Checks bs B old new (checked.Refused (r .refusal))
       refuses =
           subst (λ (j : Journal). Checks bs B old j (checked.Refused (r .refusal))) (sym same)
-          (checks (refused (refusalFor bs (length old)))
-          (reply ∙ number-some (refused (refusalFor bs (length old))) (answered (orderOn bs (length old) B)) (refusalFor bs (length old) .number) (λ q. z (ap (λ (x : refusals.Refusal). x .number) (h .refusal) ∙ q)))
+          (checks (refused refusal)
+          (reply ∙ number-some (refused refusal) (answered (orderOn bs (length old) B)) (refusal .number) (λ q. z (ap (λ (x : refusals.Refusal). x .number) (h .refusal) ∙ q)))
           old (checked.Refused (r .refusal)) (ap refused (h .refusal)) refl refl)
 
     -- ---- nothing refused
@@ -126,11 +129,11 @@ module _ (bs : List ℕ) (B : ℕ) (old : Journal) where
       given : Checks bs B old new (checked.Answered (answerIn last))
       given =
           answers (answerIn last) new (subst (λ (a : order.Answer ℕ). search.Checked a old new (answerIn last)) on-file ended)
-          (reply ∙ ap (λ (n : ℕ). byNumber n (refused (refusalFor bs (length old))) (answered (orderOn bs (length old) B))) (sym (ap (λ (x : refusals.Refusal). x .number) (h .refusal)) ∙ z))
+          (reply ∙ ap (λ (n : ℕ). byNumber n (refused refusal) (answered (orderOn bs (length old) B))) (sym (ap (λ (x : refusals.Refusal). x .number) (h .refusal)) ∙ z))
 
-    pub checks-by : (c : Checked) → c ≡ checkedBy (r .refusal .number) (r .refusal) (answerIn last) → Checks bs B old new c
+    pub checks-by : (c : Checked) → c ≡ checkedBy (r .refusal) (answerIn last) → Checks bs B old new c
     checks-by c e = subst (Checks bs B old new) (sym e) (by (r .refusal .number) refl)
       where
-        by : (k : ℕ) → r .refusal .number ≡ k → Checks bs B old new (checkedBy k (r .refusal) (answerIn last))
+        by : (k : ℕ) → r .refusal .number ≡ k → Checks bs B old new (byNumber k (checked.Refused (r .refusal)) (checked.Answered (answerIn last)))
         by zero z = given z
         by (suc k) z = refuses (λ q. let y : ⊥ = omega (arith, sym z ∙ q) in y)

@@ -11,9 +11,9 @@ use Rattle.verdicts.specs.declared.Answer.{Answer}
 use Rattle.checker.specs.declared.Checked.{Checked}
 use Rattle.checker.specs.declared.Checked.the-variants as checked
 
--- by the number of the refusal
-abbrev pub checkedBy : ℕ → Refusal → Answer → Checked
-checkedBy f r a = byNumber f (checked.Refused r) (checked.Answered a)
+-- the refusal, where it has a number, and else the answer
+abbrev pub checkedBy : Refusal → Answer → Checked
+checkedBy r a = byNumber (r .number) (checked.Refused r) (checked.Answered a)
 
 -- the answer, over the journal as it stands then
 abbrev pub checkedOf : Checked → Journal → Reply (order.Answer ℕ)

@@ -17,8 +17,9 @@ pub enum Checked {
     Answered(Answer),
 }
 
+// Returns `told` where it has a number, and else the answer of `last`, the state in which the search ended.
 fn as_checked(told: Refusal, last: State) -> Checked
-    ensures { λ r. ⌜ r ≡ checkedBy (told .number) told (answerIn last) ⌝ }
+    ensures { λ r. ⌜ r ≡ checkedBy told (answerIn last) ⌝ }
 {
     if told.number != 0 {
         return Checked::Refused(told);

@@ -14,7 +14,7 @@ ghost use Rattle.rows.specs.Meanings.{candidateOf};
 ghost use Rattle.places.specs.Lists.{rowCells};
 ghost use Rattle.covers.specs.Covers.{tableCells};
 ghost use Rattle.deciding.specs.Looking.{lastNoted, foundIn, lookAfter, LooksFrom, LooksFirst, LooksAlong, LooksOn};
-ghost use Rattle.deciding.specs.Forming.{positionRow, amongFirst, formedIn};
+ghost use Rattle.deciding.specs.Forming.{isSpent, positionRow, amongFirst, formedIn};
 
 // Where the table has what (crate covers).
 pub const HEADS: usize = 4096;
@@ -23,20 +23,32 @@ const LASTS: usize = 4352;
 
 const SLOTS: usize = 4608;
 
-// Rows used and joins made.
+// The rows used and the joins made since the check began, and the rows added since the pass began. Whether a pass was the last is read from
+// `added`: where rows may be dropped, `used` can not tell.
 pub struct Counts {
     pub used: usize,
     pub joins: u64,
+    pub added: usize,
 }
 
-// What stands fast in a pass: the joins that may be made, the final states, the number of the pass, the rows used when it began and when
-// the pass before began.
+// What does not change in a pass: the joins that may be made, the final states, the number of the pass, and the rows used when it began
+// (`start`, which the next pass takes as its `before`) and when the pass before began.
 pub struct Terms {
     pub budget: u64,
     pub finals: StateSet,
     pub pass: u64,
     pub start: usize,
     pub before: usize,
+}
+
+impl Terms {
+    // Returns whether the budget is used up by `joins` joins: the only place where this is decided. No check makes more joins than its
+    // budget, so "at least" says the same as document 01's "equal", and leaves room for one more join where it is false.
+    pub fn spent(self, joins: u64) -> bool
+        ensures { λ r. ⌜ r ≡ isSpent (self .budget) joins ⌝ }
+    {
+        self.budget <= joins
+    }
 }
 
 // The search between two candidates. While `going`, `place` is the candidate to form next, and `left` and `right` are the journal rows to
@@ -57,7 +69,7 @@ pub struct State {
 
 // ---- forming
 
-// The row of a position among the first rows, or row 0 where it is none.
+// Returns the row of `position` among the first `count` rows, or row 0 where `position` is no row: 65,535 and 65,536 are below no count.
 pub fn position_row(position: usize, count: usize) -> usize
     ensures { λ r. ⌜ r ≡ positionRow position count ⌝ }
 {
@@ -67,11 +79,11 @@ pub fn position_row(position: usize, count: usize) -> usize
     0
 }
 
-// The row at a position among the rows that the pass began with, or a row of zeros where that is no row.
-fn among(row: Row, position: usize, start: usize) -> Row
-    ensures { λ r. ⌜ r ≡ amongFirst row position start ⌝ }
+// Returns `row`, which was read for `position`, or a row of zeros where `position` is none of the `used` rows.
+fn among(row: Row, position: usize, used: usize) -> Row
+    ensures { λ r. ⌜ r ≡ amongFirst row position used ⌝ }
 {
-    if position < start {
+    if position < used {
         return row;
     }
     Row::blank()
@@ -82,12 +94,12 @@ pub fn form(letters: &[Letter], rules: &[[u8; 4]], state: State, left: Row, righ
     requires { ⌜ (letterWords ≤ length (now letters)) × (state .place .rule < length (now rules)) ⌝ }
     ensures { λ r. ⌜ candidateOf r ≡ formedIn (now (letters .entry)) (now (rules .entry)) state left right ⌝ }
 {
-    let terms = state.terms;
+    let counts = state.counts;
     let place = state.place;
     let r = place.rule;
     let rule = rules[r];
-    let first = among(left, place.left, terms.start);
-    let second = among(right, place.right, terms.start);
+    let first = among(left, place.left, counts.used);
+    let second = among(right, place.right, counts.used);
     rows::formed(letters, rule, place, first, second)
 }
 

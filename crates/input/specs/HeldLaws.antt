@@ -9,7 +9,8 @@ use lib.ListN.{length}
 use lib.Seq.{take-all}
 use borrow.Author.Tests.{lt-ltb, le-ltb, ltb-true, ltb-false}
 use Rattle.plan_file.specs.Limits.{recordLimit}
-use Rattle.plan_file.specs.Refusals.{Refusal, refuse, fault}
+use Rattle.plan_file.specs.Records.{recordCount}
+use Rattle.plan_file.specs.Refusals.{Refusal, refuse, orNext, faultFrom, fault, faultIn, lengthFaultIn}
 use Rattle.calls.specs.Checking.{checkOf}
 use Rattle.calls.specs.Printing.{refusedLine, textOf, programRows, programBudget, programRoom, programText}
 use Rattle.input.specs.Held.{most, heldOf, Handed}
@@ -58,11 +59,15 @@ held-over at got n g e = by (ltb n most) refl
 
 -- a file that long is refused by 1 or 2, by its length alone
 abbrev refusalAt : Bool → Refusal
-refusalAt whole = cond (not whole) (refuse 1 0) (refuse 2 0)
+refusalAt whole = refuse (cond (not whole) 1 2) 0
 
 long-fault : (bs : List ℕ) → most ≤ length bs → fault bs ≡ refusalAt (eqb (length bs % 8) 0)
-unfolding fault
-long-fault bs h = rw (lt-ltb recordLimit (length bs / 8) (omega arith))
+unfolding faultIn lengthFaultIn
+long-fault bs h = rw (lt-ltb recordLimit (length bs / 8) (omega arith)) (by (eqb (length bs % 8) 0))
+  where
+    by : (whole : Bool) → orNext (refuse (cond (not whole) 1 2) 0) (faultFrom bs (recordCount bs) 0) ≡ refusalAt whole
+    by true = refl
+    by false = refl
 
 -- what is handed over of a long input is long, and as long by 8
 long-held : (n m : ℕ) → most ≤ n → m ≡ heldOf n → (most ≤ m) × (m % 8 ≡ n % 8)

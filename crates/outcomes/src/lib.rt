@@ -53,15 +53,17 @@ pub fn decide(state: State, candidate: Candidate, look: Look) -> Outcome
     let terms = state.terms;
     let used = counts.used;
     let joins = counts.joins + 1;
+    let added = counts.added;
     if look.covers {
-        return Outcome::Going(Counts { used, joins });
+        return Outcome::Going(Counts { used, joins, added });
     }
     if used == state.rows {
-        return Outcome::Stopped(Stop::Ended(Unbroken::Full, Counts { used, joins }));
+        return Outcome::Stopped(Stop::Ended(Unbroken::Full, Counts { used, joins, added }));
     }
     let more = Counts {
         used: used + 1,
         joins,
+        added: added + 1,
     };
     born(rows::breaks(terms.finals, candidate), used, more)
 }

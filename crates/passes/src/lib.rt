@@ -27,24 +27,28 @@ pub fn open_pass(
     semi_naive::pass_over(rules, table, n, terms, Reached { counts, place })
 }
 
-// A pass is over: it added no row and was the last, or the next begins.
+// Ends the pass of `state`, which has come to `counts`: it added no row and was the last, or the next begins, and has added none.
 fn close_pass(rules: &[[u8; 4]], table: &mut [u32], state: State, counts: Counts) -> State
     requires { ⌜ MayGoOn (now rules) state counts (now table) ⌝ }
     ensures { λ r. ⌜ Closes (now (rules .entry)) (now (table .entry)) state counts (now (table .exit)) r ⌝ }
 {
     let terms = state.terms;
-    let used = counts.used;
-    if used == terms.start {
+    if counts.added == 0 {
         return standing::finish(state, terms, counts);
     }
     let next = Terms {
         budget: terms.budget,
         finals: terms.finals,
         pass: terms.pass + 1,
-        start: used,
+        start: counts.used,
         before: terms.start,
     };
-    let at = open_pass(rules, table, state.rules, next, counts);
+    let fresh = Counts {
+        used: counts.used,
+        joins: counts.joins,
+        added: 0,
+    };
+    let at = open_pass(rules, table, state.rules, next, fresh);
     standing::stand_or_finish(state, next, at)
 }
 

@@ -1,4 +1,5 @@
 -- What the code's structs and enums say, case by case, in the terms of the definitions. Definitions only. Assumes nothing.
+use Prim.Native.Nat.{ℕ}
 use Rattle.plan_file.specs.declared.Refusal.{Refusal as RefusalAnswer}
 use Rattle.plan_file.specs.declared.Record.{Record as RecordAnswer}
 use Rattle.plan_file.specs.declared.Record.the-variants.{Rule, Transition, Final}
@@ -7,6 +8,10 @@ use Rattle.plan_file.specs.Refusals.{Refusal, refuse}
 
 abbrev pub refusalOf : RefusalAnswer → Refusal
 refusalOf x = refuse (x .number) (x .place)
+
+-- a refusal with the number f and no record; none where f is 0
+abbrev pub numbered : ℕ → RefusalAnswer
+numbered f = record { number = f; place = 0 }
 
 abbrev pub saidBy : RecordAnswer → Record
 saidBy (Rule r) = ruleRecord (r .head) (r .size) (r .first) (r .second)

@@ -1,4 +1,5 @@
 pub mod Limits
+pub mod Forms
 pub mod Records
 pub mod Refusals
 pub mod Reading

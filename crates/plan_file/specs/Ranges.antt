@@ -13,7 +13,7 @@ use Rattle.plan_file.specs.declared.Rule.{Rule}
 use Rattle.plan_file.specs.declared.Transition.{Transition}
 use Rattle.plan_file.specs.Limits.{terminals, nonterminals, symbolBytes}
 use Rattle.plan_file.specs.Records.{recordCount, recordAt, byte, ruleKind, transitionKind, finalKind}
-use Rattle.plan_file.specs.Refusals.{aboveRange, fault}
+use Rattle.plan_file.specs.Refusals.{aboveRange, aboveRangeIn, fault}
 use Rattle.plan_file.specs.Entries.{ruleCount, transitionCount, finalCount, ruleIn, transitionIn, wholeRecord, ruleAt, transitionAt, finalAt}
 use Rattle.plan_file.specs.Valid.{valid-passes, transition-range, final-range}
 use Rattle.plan_file.specs.Sorted.{counts-le, rule-kind, transition-kind, final-kind}
@@ -35,7 +35,7 @@ guarded : (a b : Bool) → a ≡ true → (a && b) ≡ false → b ≡ false
 guarded a b p q = sym (ap (λ (x : Bool). x && b) p) ∙ q
 
 rule-range : (r : List ℕ) → aboveRange r ≡ false → byte r 0 ≡ ruleKind → RuleInRange (ruleIn r)
-unfolding aboveRange
+unfolding aboveRangeIn
 rule-range r a k =
     let n = byte r 2 in
     let H = leb nonterminals (byte r 1) in

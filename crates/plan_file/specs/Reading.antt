@@ -6,7 +6,7 @@ use Prim.Native.Nat.{ℕ, _+_, _*_}
 use lib.Dec.{eqb, leb}
 use lib.ListN.{take, drop}
 use Rattle.plan_file.specs.Records.{recordCount, recordAt, Record, recordOf, ruleKind, transitionKind, countOf}
-use Rattle.plan_file.specs.Refusals.{Refusal, refuse, byNumber, faultBy, lengthFirst, fault}
+use Rattle.plan_file.specs.Refusals.{Refusal, refuse, byNumber, faultBy, lengthFault, fault}
 
 pub data Step : Type 0 where
   -- a record, and the place of the next
@@ -16,12 +16,15 @@ pub data Step : Type 0 where
   -- past the last record
   ended : Step
 
-abbrev pub stepBy : ℕ → ℕ → Record → Step
-stepBy f i r = byNumber f (refuses (refuse f i)) (gives r (i + 1))
+-- the refusal, where it has a number, and else the step after it
+abbrev pub unlessRefused : Refusal → Step → Step
+unlessRefused r s = byNumber (r .number) (refuses r) s
 
--- at place i, where so many rules and transitions stand before it
+-- at place i, after `rules` rules and `transitions` transitions: checks 1 and 2, the end, and the checks of record i
 unfoldable pub stepFrom : List ℕ → ℕ → ℕ → ℕ → Step
-stepFrom bs i rules transitions = lengthFirst refuses bs (cond (leb (recordCount bs) i) ended (stepBy (faultBy bs i rules transitions) i (recordOf (recordAt bs i))))
+stepFrom bs i rules transitions =
+    unlessRefused (refuse (lengthFault bs) 0)
+    (cond (leb (recordCount bs) i) ended (unlessRefused (refuse (faultBy bs i rules transitions) i) (gives (recordOf (recordAt bs i)) (i + 1))))
 
 -- from any place: the records before it are counted by their kind alone, and not checked again
 unfoldable pub stepAt : List ℕ → ℕ → Step

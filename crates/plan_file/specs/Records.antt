@@ -1,26 +1,55 @@
--- A file is a sequence of 8-byte records and nothing else (document 01, "Records"). Definitions only. Assumes nothing.
+-- A file is a sequence of records of one width and nothing else (document 01, "Records": 8 bytes). Definitions only. Assumes nothing.
 use mathlib.Core.Bool.{Bool, true, false, cond}
 use mathlib.Core.List.{List, [], _∷_}
-use Prim.Native.Nat.{ℕ, zero, suc, _+_, _*_, _/_}
+use Prim.Native.Nat.{ℕ, zero, suc, _+_, _-_, _*_, _/_}
 use lib.Dec.{eqb}
 use lib.ListN.{length, getD}
-
--- whole records of the file
-abbrev pub recordCount : List ℕ → ℕ
-recordCount bs = length bs / 8
-
--- the eight bytes of record i
-abbrev pub recordAt : List ℕ → ℕ → List ℕ
-recordAt bs i =
-    getD bs (i * 8) 0 ∷ getD bs (i * 8 + 1) 0 ∷ getD bs (i * 8 + 2) 0 ∷ getD bs (i * 8 + 3) 0 ∷ getD bs (i * 8 + 4) 0 ∷ getD bs (i * 8 + 5) 0 ∷ getD bs (i * 8 + 6) 0 ∷ getD bs (i * 8 + 7) 0 ∷ []
+use Rattle.plan_file.specs.Forms.{Form, eight}
 
 -- byte j of a record
 abbrev pub byte : List ℕ → ℕ → ℕ
 byte r j = getD r j 0
 
--- byte 0 of record i
+-- m bytes of the file, the first of them j bytes after byte p
+abbrev pub bytesAfter : List ℕ → ℕ → ℕ → ℕ → List ℕ
+bytesAfter bs p zero j = []
+bytesAfter bs p (suc m) j = getD bs (p + j) 0 ∷ bytesAfter bs p m (suc j)
+
+-- ---- of any form
+
+module _ (F : Form) where
+  -- whole records of the file
+  abbrev pub recordCountIn : List ℕ → ℕ
+  recordCountIn bs = length bs / F .width
+
+  -- byte 0 of record i
+  abbrev pub kindIn : List ℕ → ℕ → ℕ
+  kindIn bs i = getD bs (i * F .width) 0
+
+  -- the bytes of record i: its kind, and those after it
+  abbrev pub recordIn : List ℕ → ℕ → List ℕ
+  recordIn bs i = kindIn bs i ∷ bytesAfter bs (i * F .width) (F .width - 1) 1
+
+  -- how many of the first i records have kind k
+  unfoldable pub countIn : List ℕ → ℕ → ℕ → ℕ
+  countIn bs k zero = 0
+  countIn bs k (suc i) = countIn bs k i + cond (eqb (kindIn bs i) k) 1 0
+
+-- ---- of document 01's
+
+abbrev pub recordCount : List ℕ → ℕ
+recordCount bs = recordCountIn eight bs
+
 abbrev pub kindAt : List ℕ → ℕ → ℕ
-kindAt bs i = getD bs (i * 8) 0
+kindAt bs i = kindIn eight bs i
+
+abbrev pub recordAt : List ℕ → ℕ → List ℕ
+recordAt bs i = recordIn eight bs i
+
+abbrev pub countOf : List ℕ → ℕ → ℕ → ℕ
+countOf bs k i = countIn eight bs k i
+
+-- ---- kinds
 
 abbrev pub ruleKind : ℕ
 ruleKind = 1
@@ -32,11 +61,6 @@ transitionKind = 2
 -- document 01: a finishing stage
 abbrev pub finalKind : ℕ
 finalKind = 3
-
--- how many of the first i records have the kind
-unfoldable pub countOf : List ℕ → ℕ → ℕ → ℕ
-countOf bs k zero = 0
-countOf bs k (suc i) = countOf bs k i + cond (eqb (kindAt bs i) k) 1 0
 
 -- what a record says
 pub data Record : Type 0 where

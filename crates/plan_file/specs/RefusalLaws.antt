@@ -9,7 +9,7 @@ use borrow.Author.Tests.{ltb-true}
 use Rattle.basics.specs.Tests.{and-fst, and-snd}
 use Rattle.plan_file.specs.declared.Refusal.{Refusal as RefusalAnswer}
 use Rattle.plan_file.specs.Answers.{refusalOf}
-use Rattle.plan_file.specs.Refusals.{Refusal, byNumber, orNext, firstOf, firstHolding}
+use Rattle.plan_file.specs.Refusals.{Refusal, refuse, byNumber, orNext, firstOf, firstHolding}
 
 -- ---- by a number
 
@@ -21,6 +21,11 @@ module _ {A : Type 0} (x y : A) where
   pub number-none : (k : ℕ) → k ≡ 0 → byNumber k x y ≡ y
   number-none k e = ap (λ (n : ℕ). byNumber n x y) e
 
+-- a test whose number is not said does not hold
+pub not-held : (b : Bool) (k : ℕ) → cond b (suc k) 0 ≡ 0 → b ≡ false
+not-held true k e = absurd (let z : ⊥ = omega arith in z)
+not-held false k e = refl
+
 -- ---- two refusals, and a list of them
 
 module _ (r s : Refusal) where
@@ -30,6 +35,14 @@ module _ (r s : Refusal) where
       by : (k : ℕ) → r .number ≡ k → byNumber k r s .number ≡ 0 → (r .number ≡ 0) × (s .number ≡ 0)
       by zero e q = (e, q)
       by (suc k) e q = absurd (let z : ⊥ = omega (arith, sym e ∙ q) in z)
+
+  -- what comes after r matters only where r does not refuse
+  pub next-same : (t : Refusal) → (r .number ≡ 0 → s ≡ t) → orNext r s ≡ orNext r t
+  next-same t e = by (r .number) refl
+    where
+      by : (k : ℕ) → r .number ≡ k → byNumber k r s ≡ byNumber k r t
+      by zero z = e z
+      by (suc k) z = refl
 
   pub next-again : (t : Refusal) → orNext (orNext r s) t ≡ orNext r (orNext s t)
   next-again t = by (r .number) refl
@@ -45,6 +58,20 @@ said-or r x y e p q = ap refusalOf e ∙ by (x .number) ∙ ap₂ orNext p q
     by : (k : ℕ) → refusalOf (byNumber k x y) ≡ byNumber k (refusalOf x) (refusalOf y)
     by zero = refl
     by (suc k) = refl
+
+-- none of them refuses
+abbrev pub NoneRefuses : List Refusal → Type 0
+NoneRefuses [] = Unit {0}
+NoneRefuses (r ∷ rs) = (r .number ≡ 0) × NoneRefuses rs
+
+pub none-refuses : (rs : List Refusal) → firstOf rs .number ≡ 0 → NoneRefuses rs
+none-refuses [] e = tt
+none-refuses (r ∷ rs) e = let both = neither-refuses r (firstOf rs) e in (both .0, none-refuses rs (both .1))
+
+-- the last of a list is a number without a record
+pub first-last : (k : ℕ) → firstOf (refuse k 0 ∷ []) ≡ refuse k 0
+first-last zero = refl
+first-last (suc k) = refl
 
 -- the first of two lists, one after the other, is the first of the one, and else of the other
 pub first-append : (rs ss : List Refusal) → firstOf (rs ++ ss) ≡ orNext (firstOf rs) (firstOf ss)

@@ -10,8 +10,8 @@ use borrow.Author.Tests.{ltb-true, lt-ltb, le-ltb, leb-true, leb-false, eqb-true
 use Rattle.basics.specs.Elements.{every}
 use Rattle.basics.specs.Tests.{and-fst, or-neither}
 use Rattle.plan_file.specs.Limits.{ruleLimit, transitionLimit}
-use Rattle.plan_file.specs.Records.{recordCount, recordAt, byte, kindAt, ruleKind, transitionKind, finalKind, countOf}
-use Rattle.plan_file.specs.Refusals.{kindKnown, risesFrom, rises, exceeds, overLimit, fault}
+use Rattle.plan_file.specs.Records.{recordCount, recordAt, byte, kindAt, ruleKind, transitionKind, finalKind, countOf, countIn}
+use Rattle.plan_file.specs.Refusals.{kindKnown, risesFrom, rises, exceedsIn, overLimit, fault}
 use Rattle.plan_file.specs.Views.{ruleOf, transitionOf, finalOf, consIf, collect, rulesOf, transitionsOf, finalsOf}
 use Rattle.plan_file.specs.Valid.{valid-passes}
 use Rattle.plan_file.specs.Entries.{ruleCount, transitionCount, finalCount}
@@ -22,7 +22,7 @@ use Rattle.plan_file.specs.Rising.{upTo, upTo-le, upTo-none, first-ones}
 module _ (bs : List ℕ) where
   -- records of kind at most suc k: those of kind at most k, and those of kind suc k
   upTo-suc : (k n : ℕ) → upTo (kindAt bs) (suc k) n ≡ upTo (kindAt bs) k n + countOf bs (suc k) n
-  unfolding upTo countOf
+  unfolding upTo countIn
   upTo-suc k zero = refl
   upTo-suc k (suc n) =
       let x = kindAt bs n in
@@ -96,7 +96,7 @@ first-byte (suc m) r s h = by (ltb (byte r 0) (byte s 0)) (eqb (byte r 0) (byte 
 
 module _ (bs : List ℕ) (v : fault bs .number ≡ 0) where
   kinds-rise : (i : ℕ) → suc i < recordCount bs → kindAt bs i ≤ kindAt bs (suc i)
-  unfolding exceeds
+  unfolding exceedsIn
   kinds-rise i h = by (eqb (suc i) 0) (eqb-true (suc i) 0) (valid-passes bs v (suc i) h .order)
     where
       by : (b : Bool) → (b ≡ true → suc i ≡ 0) → (b || rises (recordAt bs (suc i - 1)) (recordAt bs (suc i))) ≡ true → kindAt bs i ≤ kindAt bs (suc i)
@@ -193,7 +193,7 @@ module _ (bs : List ℕ) (v : fault bs .number ≡ 0) where
 
 -- where no record of kind k stands after just `most` others, there are at most that many
 at-most : (bs : List ℕ) (k most n : ℕ) → ((i : ℕ) → i < n → (eqb (kindAt bs i) k && eqb (countOf bs k i) most) ≡ false) → countOf bs k n ≤ most
-unfolding countOf
+unfolding countIn
 at-most bs k most zero h = omega arith
 at-most bs k most (suc n) h =
     by (eqb (kindAt bs n) k) (eqb (countOf bs k n) most) (h n (omega arith)) (eqb-false (countOf bs k n) most) (at-most bs k most n (λ i l. h i (omega arith)))

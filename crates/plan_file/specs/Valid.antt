@@ -15,8 +15,9 @@ use Rattle.relation.specs.Relation.{states}
 use Rattle.language.specs.Automaton.{Transition, Within}
 use Rattle.plan_file.specs.Limits.{recordLimit, terminals, nonterminals, symbolBytes}
 use Rattle.plan_file.specs.Records.{recordCount, recordAt, byte, kindAt, ruleKind, transitionKind, finalKind, countOf}
-use Rattle.plan_file.specs.Refusals.{refuse, kindKnown, aboveRange, strayByte, exceeds, overLimit, recordTests, faultBy, faultAt, orNext, faultFrom, fault}
-use Rattle.plan_file.specs.RefusalLaws.{none-holds}
+use Rattle.plan_file.specs.Forms.{eight}
+use Rattle.plan_file.specs.Refusals.{refuse, kindKnown, aboveRange, aboveRangeIn, strayByte, exceeds, overLimit, recordTests, lengthTestsIn, lengthFault, lengthFaultIn, faultByIn, faultAt, faultAtIn, orNext, faultFrom, faultFromIn, fault, faultIn}
+use Rattle.plan_file.specs.RefusalLaws.{neither-refuses, none-holds}
 use Rattle.plan_file.specs.Views.{transitionOf, finalOf, consIf, collect, transitionsOf, finalsOf, automatonOf}
 
 -- none of the checks 3 to 7 refuses record i
@@ -28,7 +29,7 @@ pub record Passes (bs : List ℕ) (i : ℕ) : Type 0 where
   pub few : overLimit (recordAt bs i) (countOf bs ruleKind i) (countOf bs transitionKind i) ≡ false
 
 pub passes : (bs : List ℕ) (i : ℕ) → faultAt bs i ≡ 0 → Passes bs i
-unfolding faultAt faultBy
+unfolding faultAtIn faultByIn
 passes bs i h =
     let three = none-holds (recordTests bs i (countOf bs ruleKind i) (countOf bs transitionKind i)) refl h in
     let four = three .1 in
@@ -38,7 +39,7 @@ passes bs i h =
     record { kind = not-false (kindKnown (recordAt bs i)) (three .0); range = four .0; zeros = five .0; order = not-false (exceeds bs i) (six .0); few = seven .0 }
 
 none-at : (bs : List ℕ) (m i : ℕ) → faultFrom bs m i .number ≡ 0 → (j : ℕ) → j < m → faultAt bs (i + j) ≡ 0
-unfolding faultFrom
+unfolding faultFromIn
 none-at bs zero i h j l = absurd (not-suc-le-zero l)
 none-at bs (suc m) i h j l = by (faultAt bs i) refl h (none-at bs m (suc i)) j l
   where
@@ -50,15 +51,11 @@ none-at bs (suc m) i h j l = by (faultAt bs i) refl h (none-at bs m (suc i)) j l
 
 -- where the file is not refused, neither its length nor a record is
 pub valid : (bs : List ℕ) → fault bs .number ≡ 0 → (length bs % 8 ≡ 0) × (recordCount bs ≤ recordLimit) × (faultFrom bs (recordCount bs) 0 .number ≡ 0)
-unfolding fault
-valid bs v = by (eqb (length bs % 8) 0) (eqb-true (length bs % 8) 0) (ltb recordLimit (recordCount bs)) (ltb-false recordLimit (recordCount bs)) v
-  where
-    by : (a : Bool) → (a ≡ true → length bs % 8 ≡ 0) → (b : Bool) → (b ≡ false → recordCount bs ≤ recordLimit)
-        → cond (not a) (refuse 1 0) (cond b (refuse 2 0) (faultFrom bs (recordCount bs) 0)) .number ≡ 0
-        → (length bs % 8 ≡ 0) × (recordCount bs ≤ recordLimit) × (faultFrom bs (recordCount bs) 0 .number ≡ 0)
-    by false p b q e = absurd (let z : ⊥ = omega arith in z)
-    by true p true q e = absurd (let z : ⊥ = omega arith in z)
-    by true p false q e = (p refl, q refl, e)
+unfolding faultIn lengthFaultIn
+valid bs v =
+    let both = neither-refuses (refuse (lengthFault bs) 0) (faultFrom bs (recordCount bs) 0) v in
+    let one = none-holds (lengthTestsIn eight bs) refl (both .0) in
+    (eqb-true (length bs % 8) 0 (not-false (eqb (length bs % 8) 0) (one .0)), ltb-false recordLimit (recordCount bs) (one .1 .0), both .1)
 
 pub valid-passes : (bs : List ℕ) → fault bs .number ≡ 0 → (j : ℕ) → j < recordCount bs → Passes bs j
 valid-passes bs v j h =
@@ -81,7 +78,7 @@ collect-at {A} k g bs x (suc m) i h = by (eqb (kindAt bs i) k) refl h (collect-a
 
 -- check 4, at a transition and at a final state
 pub transition-range : (r : List ℕ) → aboveRange r ≡ false → byte r 0 ≡ transitionKind → (byte r 1 < states) × (byte r 2 < terminals) × (byte r 3 < states)
-unfolding aboveRange
+unfolding aboveRangeIn
 transition-range r a k =
     let P = eqb (byte r 0) ruleKind && ((leb nonterminals (byte r 1) || ltb 2 (byte r 2)) || ((ltb 0 (byte r 2) && leb symbolBytes (byte r 3)) || (ltb 1 (byte r 2) && leb symbolBytes (byte r 4)))) in
     let T = (leb states (byte r 1) || leb terminals (byte r 2)) || leb states (byte r 3) in
@@ -93,7 +90,7 @@ transition-range r a k =
     (leb-false states (byte r 1) (w .0), leb-false terminals (byte r 2) (w .1), leb-false states (byte r 3) (u .1))
 
 pub final-range : (r : List ℕ) → aboveRange r ≡ false → byte r 0 ≡ finalKind → byte r 1 < states
-unfolding aboveRange
+unfolding aboveRangeIn
 final-range r a k =
     let P = eqb (byte r 0) ruleKind && ((leb nonterminals (byte r 1) || ltb 2 (byte r 2)) || ((ltb 0 (byte r 2) && leb symbolBytes (byte r 3)) || (ltb 1 (byte r 2) && leb symbolBytes (byte r 4)))) in
     let T = eqb (byte r 0) transitionKind && ((leb states (byte r 1) || leb terminals (byte r 2)) || leb states (byte r 3)) in

@@ -2,7 +2,7 @@
 use mathlib.Core.List.{List}
 use Prim.Native.Nat.{ℕ, _-_}
 use Rattle.plan_file.specs.Records.{recordCount, Record, ruleRecord, transitionRecord, finalRecord}
-use Rattle.plan_file.specs.Refusals.{Refusal, refuse, faultFrom, lengthFirst}
+use Rattle.plan_file.specs.Refusals.{Refusal, refuse, orNext, faultFrom, lengthFault}
 use Rattle.plan_file.specs.Reading.{Step, gives, refuses, ended}
 
 -- how many rules a record is
@@ -25,7 +25,7 @@ refusalIn ended = refuse 0 0
 
 -- what a whole walk gives from record i on
 unfoldable pub rest : List ℕ → ℕ → Refusal
-rest bs i = lengthFirst (λ r. r) bs (faultFrom bs (recordCount bs - i) i)
+rest bs i = orNext (refuse (lengthFault bs) 0) (faultFrom bs (recordCount bs - i) i)
 
 -- a step, and then the rest
 abbrev pub after : Step → Refusal → Refusal

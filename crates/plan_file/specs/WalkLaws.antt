@@ -11,25 +11,26 @@ use lib.ListN.{length, take, length-take}
 use lib.Seq.{getD-take}
 use borrow.Author.Tests.{leb-true, leb-false, eqb-true, eq-eqb, ne-eqb, le-leb}
 use Rattle.plan_file.specs.Limits.{recordLimit}
-use Rattle.plan_file.specs.Records.{recordCount, recordAt, kindAt, ruleKind, transitionKind, countOf, Record, ruleRecord, transitionRecord, finalRecord, recordBy, recordOf}
-use Rattle.plan_file.specs.Refusals.{Refusal, refuse, faultBy, faultAt, orNext, faultFrom, fault}
-use Rattle.plan_file.specs.Reading.{Step, gives, refuses, ended, stepBy, stepFrom}
+use Rattle.plan_file.specs.Records.{recordCount, recordAt, kindAt, ruleKind, transitionKind, countOf, countIn, Record, ruleRecord, transitionRecord, finalRecord, recordBy, recordOf}
+use Rattle.plan_file.specs.Refusals.{Refusal, refuse, lengthFault, faultBy, faultAt, faultAtIn, orNext, faultFrom, faultFromIn, fault, faultIn}
+use Rattle.plan_file.specs.Reading.{Step, gives, refuses, ended, unlessRefused, stepFrom}
+use Rattle.plan_file.specs.RefusalLaws.{number-some}
 use Rattle.plan_file.specs.Walk.{rulesIn, transitionsIn, refusalIn, rest, after}
 
 -- ---- the counts
 
 module _ (bs : List ℕ) (k i : ℕ) where
   pub count-yes : kindAt bs i ≡ k → countOf bs k i + 1 ≡ countOf bs k (i + 1)
-  unfolding countOf
+  unfolding countIn
   count-yes e = rw (add-one i, eq-eqb (kindAt bs i) k e)
 
   pub count-no : (kindAt bs i ≡ k → ⊥) → countOf bs k i ≡ countOf bs k (i + 1)
-  unfolding countOf
+  unfolding countIn
   count-no e = rw (add-one i, ne-eqb (kindAt bs i) k e) (sym (add-zero (countOf bs k i)))
 
 -- the first i records, alone, count as they do in the file
 pub count-before : (bs : List ℕ) (k i : ℕ) → i ≤ recordCount bs → countOf (take (i * 8) bs) k (recordCount (take (i * 8) bs)) ≡ countOf bs k i
-unfolding countOf
+unfolding countIn
 count-before bs k i h = let e : recordCount (take (i * 8) bs) ≡ i = simp (length-take) (omega arith) in ap (countOf (take (i * 8) bs) k) e ∙ up-to i (omega arith)
   where
     up-to : (j : ℕ) → j ≤ i → countOf (take (i * 8) bs) k j ≡ countOf bs k j
@@ -39,7 +40,7 @@ count-before bs k i h = let e : recordCount (take (i * 8) bs) ≡ i = simp (leng
 -- they go by what the record says
 counts-next : (bs : List ℕ) (i : ℕ) → let r = recordOf (recordAt bs i) in
     (countOf bs ruleKind (i + 1) ≡ countOf bs ruleKind i + rulesIn r) × (countOf bs transitionKind (i + 1) ≡ countOf bs transitionKind i + transitionsIn r)
-unfolding countOf
+unfolding countIn
 counts-next bs i =
     let k = kindAt bs i in
     let p = by (eqb k ruleKind) (eqb k transitionKind) (λ e. ne-eqb k transitionKind (λ z. let f = eqb-true k ruleKind e in omega arith)) in
@@ -71,29 +72,28 @@ record Gave (bs : List ℕ) (i : ℕ) (r : Record) (j : ℕ) : Type 0 where
 gave : (bs : List ℕ) (i a b : ℕ) (r : Record) (j : ℕ) → stepFrom bs i a b ≡ gives r j → Gave bs i r j
 unfolding stepFrom
 gave bs i a b r j e =
-    by (not (eqb (length bs % 8) 0)) (ltb recordLimit (recordCount bs)) (leb (recordCount bs) i) (leb-false (recordCount bs) i) (faultBy bs i a b) e
+    by (lengthFault bs) (leb (recordCount bs) i) (leb-false (recordCount bs) i) (faultBy bs i a b) e
   where
     s : Record
     s = recordOf (recordAt bs i)
 
-    by : (x y z : Bool) → (z ≡ false → i < recordCount bs) → (f : ℕ)
-        → cond x (refuses (refuse 1 0)) (cond y (refuses (refuse 2 0)) (cond z ended (stepBy f i s))) ≡ gives r j → Gave bs i r j
-    by true y z q f e = absurd (let w : _≡_ {A = ℕ} 0 1 = cc in let v : ⊥ = omega arith in v)
-    by false true z q f e = absurd (let w : _≡_ {A = ℕ} 0 1 = cc in let v : ⊥ = omega arith in v)
-    by false false true q f e = absurd (let w : _≡_ {A = ℕ} 0 1 = cc in let v : ⊥ = omega arith in v)
-    by false false false q zero e = record { said = cc; next = cc; inside = q refl }
-    by false false false q (suc f) e = absurd (let w : _≡_ {A = ℕ} 0 1 = cc in let v : ⊥ = omega arith in v)
+    by : (l : ℕ) (z : Bool) → (z ≡ false → i < recordCount bs) → (f : ℕ)
+        → unlessRefused (refuse l 0) (cond z ended (unlessRefused (refuse f i) (gives s (i + 1)))) ≡ gives r j → Gave bs i r j
+    by (suc l) z q f e = absurd (let w : _≡_ {A = ℕ} 0 1 = cc in let v : ⊥ = omega arith in v)
+    by zero true q f e = absurd (let w : _≡_ {A = ℕ} 0 1 = cc in let v : ⊥ = omega arith in v)
+    by zero false q zero e = record { said = cc; next = cc; inside = q refl }
+    by zero false q (suc f) e = absurd (let w : _≡_ {A = ℕ} 0 1 = cc in let v : ⊥ = omega arith in v)
 
 -- ---- the walk
 
 rest-start : (bs : List ℕ) → rest bs 0 ≡ fault bs
-unfolding rest fault
+unfolding rest faultIn
 rest-start bs = rw (sub-zero (recordCount bs))
 
 -- what is left is a step, and what is left then
 rest-step : (bs : List ℕ) (i : ℕ) → rest bs i ≡ after (stepFrom bs i (countOf bs ruleKind i) (countOf bs transitionKind i)) (rest bs (i + 1))
-unfolding rest stepFrom faultFrom faultAt
-rest-step bs i = by (not (eqb (length bs % 8) 0)) (ltb recordLimit n) (leb n i) (leb-true n i) (leb-false n i)
+unfolding rest stepFrom faultFromIn faultAtIn
+rest-step bs i = by (lengthFault bs) (leb n i) (leb-true n i) (leb-false n i)
   where
     n : ℕ
     n = recordCount bs
@@ -101,19 +101,20 @@ rest-step bs i = by (not (eqb (length bs % 8) 0)) (ltb recordLimit n) (leb n i) 
     r : Record
     r = recordOf (recordAt bs i)
 
-    one : (f : ℕ) (x : Refusal) → orNext (refuse f i) x ≡ after (stepBy f i r) x
+    one : (f : ℕ) (x : Refusal) → orNext (refuse f i) x ≡ after (unlessRefused (refuse f i) (gives r (i + 1))) x
     one zero x = refl
     one (suc f) x = refl
 
-    by : (a b e : Bool) → (e ≡ true → n ≤ i) → (e ≡ false → i < n)
-        → cond a (refuse 1 0) (cond b (refuse 2 0) (faultFrom bs (n - i) i))
-        ≡ after (cond a (refuses (refuse 1 0)) (cond b (refuses (refuse 2 0)) (cond e ended (stepBy (faultAt bs i) i r)))) (cond a (refuse 1 0) (cond b (refuse 2 0) (faultFrom bs (n - (i + 1)) (i + 1))))
-    by true b e p q = refl
-    by false true e p q = refl
-    by false false true p q = let z : n - i ≡ 0 = omega (arith, p refl) in ap (λ (m : ℕ). faultFrom bs m i) z
-    by false false false p q =
+    by : (l : ℕ) (e : Bool) → (e ≡ true → n ≤ i) → (e ≡ false → i < n)
+        → orNext (refuse l 0) (faultFrom bs (n - i) i)
+        ≡ after (unlessRefused (refuse l 0) (cond e ended (unlessRefused (refuse (faultAt bs i) i) (gives r (i + 1))))) (orNext (refuse l 0) (faultFrom bs (n - (i + 1)) (i + 1)))
+    by (suc l) e p q = refl
+    by zero true p q = let z : n - i ≡ 0 = omega (arith, p refl) in ap (λ (m : ℕ). faultFrom bs m i) z
+    by zero false p q =
         let z : n - i ≡ suc (n - (i + 1)) = omega (arith, q refl) in
-        ap (λ (m : ℕ). faultFrom bs m i) z ∙ one (faultAt bs i) (faultFrom bs (n - (i + 1)) (suc i)) ∙ ap (λ (m : ℕ). after (stepBy (faultAt bs i) i r) (faultFrom bs (n - (i + 1)) m)) (sym (add-one i))
+        ap (λ (m : ℕ). faultFrom bs m i) z
+        ∙ one (faultAt bs i) (faultFrom bs (n - (i + 1)) (suc i))
+        ∙ ap (λ (m : ℕ). after (unlessRefused (refuse (faultAt bs i) i) (gives r (i + 1))) (faultFrom bs (n - (i + 1)) m)) (sym (add-one i))
 
 -- where a walk stands at place i, with the counts of the records before it
 pub record At (bs : List ℕ) (rules transitions i : ℕ) : Type 0 where
@@ -133,7 +134,7 @@ pub record Moved (bs : List ℕ) (rules transitions i : ℕ) (r : Record) (j : �
   pub next : At bs (rules + rulesIn r) (transitions + transitionsIn r) j
 
 pub at-start : (bs : List ℕ) → At bs 0 0 0
-unfolding countOf
+unfolding countIn
 at-start bs = record { rules-are = refl; transitions-are = refl; left = rest-start bs; inside = omega arith; few-rules = omega arith; few-transitions = omega arith }
 
 module _ (bs : List ℕ) (rules transitions i : ℕ) (h : At bs rules transitions i) where
@@ -166,6 +167,5 @@ module _ (bs : List ℕ) (rules transitions i : ℕ) (h : At bs rules transition
 
 -- ---- a refusal by a number
 
-pub refuse-by : (f g i : ℕ) (r : Record) → (f ≡ 0 → ⊥) → f ≡ g → refuses (refuse f i) ≡ stepBy g i r
-refuse-by zero g i r z e = absurd (z refl)
-refuse-by (suc f) g i r z e = ap (λ (m : ℕ). stepBy m i r) e
+pub refuse-by : (f g i : ℕ) (s : Step) → (f ≡ 0 → ⊥) → f ≡ g → refuses (refuse f i) ≡ unlessRefused (refuse g i) s
+refuse-by f g i s z e = sym (number-some (refuses (refuse f i)) s f z) ∙ ap (λ (m : ℕ). unlessRefused (refuse m i) s) e

@@ -4,8 +4,9 @@
 // refused: Valid, Ranges, Sorted and Rising (rules first, then transitions, then finals), EntryLaws, StretchLaws; of reading by steps WalkLaws;
 // of the order of refusals RefusalLaws.
 ghost use mathlib.Core.Path.{_≡_};
-ghost use Rattle.plan_file.specs.Answers.{refusalOf};
-ghost use Rattle.plan_file.specs.Refusals.{refuse, byNumber};
+ghost use mathlib.Core.Bool.{cond};
+ghost use Rattle.plan_file.specs.Answers.{numbered};
+ghost use Rattle.plan_file.specs.Refusals.{byNumber};
 
 // The kinds of records.
 pub const RULE_KIND: u8 = 1;
@@ -41,9 +42,9 @@ pub struct Refusal {
 }
 
 impl Refusal {
-    // Nothing is refused.
+    // Returns the refusal with number 0: nothing is refused.
     pub fn none() -> Refusal
-        ensures { λ r. ⌜ refusalOf r ≡ refuse 0 0 ⌝ }
+        ensures { λ r. ⌜ r ≡ numbered 0 ⌝ }
     {
         Refusal {
             number: 0,
@@ -51,7 +52,17 @@ impl Refusal {
         }
     }
 
-    // The first of two refusals: this one, where it has a number, and else the next.
+    // Returns the refusal `number` of a call, which names no record, where its test `holds`, and else none.
+    pub fn when(number: u64, holds: bool) -> Refusal
+        ensures { λ r. ⌜ r ≡ numbered (cond holds number 0) ⌝ }
+    {
+        if holds {
+            return Refusal { number, place: 0 };
+        }
+        Refusal::none()
+    }
+
+    // Returns the first of two refusals: this one, where it has a number, and else `next`.
     pub fn or(self, next: Refusal) -> Refusal
         ensures { λ r. ⌜ r ≡ byNumber (self .number) self next ⌝ }
     {

@@ -13,14 +13,14 @@ use plan_file::TRANSITION_KIND;
 use plan_file::TRANSITION_LIMIT;
 use relation::STATES;
 
-// Check 3.
+// Check 3 does not hold: the kind of the record `r` is 1, 2 or 3.
 pub fn kind_known(r: [u8; 8]) -> bool
     ensures { λ x. ⌜ x ≡ refusals.kindKnown r ⌝ }
 {
     (0 < r[0]) & (r[0] < 4)
 }
 
-// Check 4.
+// Check 4: returns whether a byte that the record `r` uses is above its range.
 pub fn above_range(r: [u8; 8]) -> bool
     ensures { λ x. ⌜ x ≡ refusals.aboveRange r ⌝ }
 {
@@ -35,7 +35,7 @@ pub fn above_range(r: [u8; 8]) -> bool
             | ((kind == FINAL_KIND) & (STATES <= b1)))
 }
 
-// Check 5.
+// Check 5: returns whether a byte that the record `r` does not use is not 0.
 pub fn stray_byte(r: [u8; 8]) -> bool
     ensures { λ x. ⌜ x ≡ refusals.strayByte r ⌝ }
 {
@@ -43,10 +43,10 @@ pub fn stray_byte(r: [u8; 8]) -> bool
     let b2 = r[2];
     let b3 = r[3];
     let b4 = r[4];
-    let last = ((0 < r[5]) | (0 < r[6])) | (0 < r[7]);
+    let last = (0 < r[5]) | ((0 < r[6]) | (0 < r[7]));
     ((kind == RULE_KIND) & ((((b2 < 1) & (0 < b3)) | ((b2 < 2) & (0 < b4))) | last))
         | (((kind == TRANSITION_KIND) & ((0 < b4) | last))
-            | ((kind == FINAL_KIND) & ((((0 < b2) | (0 < b3)) | (0 < b4)) | last)))
+            | ((kind == FINAL_KIND) & ((0 < b2) | ((0 < b3) | ((0 < b4) | last)))))
 }
 
 // A record's bytes as one number, the first byte the highest.
@@ -62,14 +62,15 @@ fn number_of(r: [u8; 8]) -> u64
     n
 }
 
-// Check 6, of a record and the next: the first byte that differs decides, as it does between the two numbers.
+// Check 6 does not hold: the record `s` exceeds `r`, the one before it. The first byte that differs decides, as it does between the two
+// numbers.
 pub fn rises(r: [u8; 8], s: [u8; 8]) -> bool
     ensures { λ x. ⌜ x ≡ refusals.rises r s ⌝ }
 {
     number_of(r) < number_of(s)
 }
 
-// Check 7, where so many rules and transitions stand before the record.
+// Check 7: returns whether the record `r`, after `rules` rules and `transitions` transitions, is a rule or a transition too many.
 pub fn over_limit(r: [u8; 8], rules: usize, transitions: usize) -> bool
     ensures { λ x. ⌜ x ≡ refusals.overLimit r rules transitions ⌝ }
 {
@@ -77,7 +78,7 @@ pub fn over_limit(r: [u8; 8], rules: usize, transitions: usize) -> bool
         | ((r[0] == TRANSITION_KIND) & (transitions == TRANSITION_LIMIT))
 }
 
-// The number where its test holds, and else what the tests after it say.
+// Returns `number` where its test `holds`, and else `later`, what the tests after it give.
 pub fn number_or(number: u64, holds: bool, later: u64) -> u64
     ensures { λ x. ⌜ x ≡ cond holds number later ⌝ }
 {

@@ -18,6 +18,7 @@ use Rattle.working_order.specs.Algebra.{Forms}
 use Rattle.working_order.specs.Journal.{Row, capped}
 use Rattle.working_order.specs.Fitting.{rowsFit}
 use Rattle.working_order.specs.Order.{Answer, broken}
+use Rattle.calls.specs.Codes.{refusedBy}
 use Rattle.calls.specs.Base.{base}
 use Rattle.calls.specs.Checking.{journalLimit, checkOf, shown}
 use Rattle.calls.specs.Printing.{numbersLine, refusedLine, lineThree}
@@ -25,7 +26,6 @@ use Rattle.calls.specs.Promising.{size-journal, from-order, promises}
 use Rattle.calls.specs.WritingTruth.{all-fit}
 use Rattle.calls.specs.Replies.{Reply, answered, unless, refused}
 use Rattle.calls.specs.Writing.{longWord, rowFault, roomFault, wordOf, writeOf, writtenBy, bufferAfter}
-use Rattle.telling.specs.Telling.{refusedBy}
 use Rattle.lines.specs.Lines.{runBy}
 
 -- ---- a run w, where the room decides

@@ -21,9 +21,9 @@ use Rattle.calls.specs.Replies.{Reply, refused, answered, unless}
 use Rattle.calls.specs.Rows.{rowOf}
 use Rattle.calls.specs.Writing.{wordOf, writeOf, bufferAfter}
 use Rattle.calls.specs.declared.Row.{Row as LentRow}
-use Rattle.calls.specs.Codes.{verdictCode}
+use Rattle.calls.specs.Codes.{verdictCode, refusedBy}
 use Rattle.telling.specs.Fronts.{journalOf}
-use Rattle.telling.specs.Telling.{refusedBy, numbersIn}
+use Rattle.telling.specs.Telling.{numbersIn}
 use Rattle.telling.specs.declared.Told.{Told}
 use Rattle.standalone.specs.Told.{zeroRow, rowIn, lastThree, shownBy}
 use Rattle.standalone.specs.Contracts.{Tells, ChecksAlone}

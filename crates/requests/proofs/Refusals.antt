@@ -2,14 +2,13 @@
 use mathlib.Core.Path.{_≡_, sym, ap, _∙_}
 use mathlib.Core.List.{List}
 use Prim.Native.Nat.{ℕ}
-use Rattle.plan_file.specs.Refusals.{Refusal, refuse, fault}
-use Rattle.plan_file.specs.RefusalLaws.{neither-refuses}
+use Rattle.plan_file.specs.Refusals.{Refusal, fault, firstOf}
+use Rattle.plan_file.specs.RefusalLaws.{none-refuses}
 use Rattle.plan_file.specs.Answers.{refusalOf}
 use Rattle.plan_file.specs.declared.Refusal as declared
-use Rattle.calls.specs.Checking.{journalFault}
-use Rattle.requests.specs.Refusing.{refusalFor}
+use Rattle.calls.specs.Checking.{journalFault, checkRefusals}
 
 -- ---- of a file and a journal of J rows
 module _ (bs : List ℕ) (J : ℕ) where
-  pub none-refused : (r : declared.Refusal) → refusalOf r ≡ refusalFor bs J → r .number ≡ 0 → (fault bs .number ≡ 0) × (journalFault J ≡ 0)
-  none-refused r e z = neither-refuses (fault bs) (refuse (journalFault J) 0) (sym (ap (λ (s : Refusal). s .number) e) ∙ z)
+  pub none-refused : (r : declared.Refusal) → refusalOf r ≡ firstOf (checkRefusals bs J) → r .number ≡ 0 → (fault bs .number ≡ 0) × (journalFault J ≡ 0)
+  none-refused r e z = let n = none-refuses (checkRefusals bs J) (sym (ap (λ (s : Refusal). s .number) e) ∙ z) in (n .0, n .1 .0)

@@ -86,7 +86,7 @@ fn may_pass(terms: Terms, n: usize, at: Reached) -> bool
 {
     let counts = at.counts;
     let place = at.place;
-    (place.rule < n) & ((counts.joins < terms.budget) & repeats(terms.before, place))
+    (place.rule < n) & (!terms.spent(counts.joins) & repeats(terms.before, place))
 }
 
 // From a place whose candidate is done over the rights after it that are rows of the pass before; its left is one.
@@ -99,7 +99,7 @@ fn pass_rights(table: &[u32], terms: Terms, done: Reached) -> Reached
     let mut joins = counts.joins;
     let mut right = place.right;
     let mut next = after_in(table, right);
-    while (next < terms.before) & (joins < terms.budget) {
+    while (next < terms.before) & !terms.spent(joins) {
         joins += 1;
         right = next;
         next = after_in(table, right);
@@ -108,6 +108,7 @@ fn pass_rights(table: &[u32], terms: Terms, done: Reached) -> Reached
         counts: Counts {
             used: counts.used,
             joins,
+            added: counts.added,
         },
         place: Place {
             rule: place.rule,
@@ -128,6 +129,7 @@ fn pass_left(rules: &[[u8; 4]], table: &[u32], n: usize, terms: Terms, at: Reach
         counts: Counts {
             used: counts.used,
             joins: counts.joins + 1,
+            added: counts.added,
         },
         place,
     };

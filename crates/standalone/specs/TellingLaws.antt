@@ -14,6 +14,7 @@ use Rattle.plan_file.specs.Views.{rulesOf, automatonOf}
 use Rattle.working_order.specs.Journal.{absent, Row}
 use Rattle.working_order.specs.Order.{Answer, Verdict, broken}
 use Rattle.working_order.specs.Truth.{SaysBy, check-says}
+use Rattle.calls.specs.Codes.{refusedBy}
 use Rattle.calls.specs.Base.{base, words}
 use Rattle.calls.specs.BaseLaws.{base-laws, word-sizes}
 use Rattle.calls.specs.Checking.{journalLimit, journalFault, orderOn, checkOf, journalAfter}
@@ -35,7 +36,7 @@ use Rattle.writer.specs.Answers.{writingOf}
 use Rattle.checker.specs.Contracts.{Checks}
 use Rattle.writer.specs.Contracts.{Writes}
 use Rattle.telling.specs.Fronts.{frontOf, journalOf, restOf, placeOf, nameIn}
-use Rattle.telling.specs.Telling.{refusedBy, toldBy, numbersIn}
+use Rattle.telling.specs.Telling.{toldBy, numbersIn}
 use Rattle.standalone.specs.Told.{zeroRow, ifBroken, rowIn}
 use Rattle.standalone.specs.Contracts.{Tells, ChecksOver, ChecksAlone}
 use Rattle.telling.specs.declared.Named.{Named}

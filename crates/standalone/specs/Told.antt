@@ -7,8 +7,7 @@ use Rattle.working_order.specs.Journal.{Row}
 use Rattle.working_order.specs.Order.{Answer, Verdict, holds, broken, full, spent}
 use Rattle.calls.specs.Replies.{Reply, refused, answered}
 use Rattle.calls.specs.Writing.{writeOf, bufferAfter}
-use Rattle.calls.specs.Codes.{verdictCode}
-use Rattle.telling.specs.Telling.{refusedBy}
+use Rattle.calls.specs.Codes.{verdictCode, refusedBy}
 
 -- what is read past the end of a journal: a row of zeros
 abbrev pub zeroRow : Row ℕ

@@ -46,18 +46,18 @@ pub fn end_with(state: State, terms: Terms, counts: Counts, verdict: u8, broken:
     }
 }
 
-// At a place, if the budget is not spent. The terms are made anew from their fields: copied whole, they took the padding behind the final
+// Returns the state at `place`, or the end where the budget is spent. The terms are made anew from their fields: copied whole, they took the padding behind the final
 // states with them, eight instructions for each candidate.
 pub fn stand_at(state: State, terms: Terms, counts: Counts, place: Place) -> State
     ensures { λ r. ⌜ r ≡ standing state terms counts place ⌝ }
 {
-    if counts.joins == terms.budget {
+    if terms.spent(counts.joins) {
         return end_with(state, terms, counts, SPENT, 0);
     }
     State {
         going: true,
-        left: deciding::position_row(place.left, terms.start),
-        right: deciding::position_row(place.right, terms.start),
+        left: deciding::position_row(place.left, counts.used),
+        right: deciding::position_row(place.right, counts.used),
         terms: Terms {
             budget: terms.budget,
             finals: terms.finals,

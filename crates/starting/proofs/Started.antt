@@ -12,11 +12,12 @@ use Rattle.basics.specs.Tests.{or-neither}
 use Rattle.relation.specs.Digits.{number}
 use Rattle.relation.specs.Relation.{states}
 use Rattle.language.specs.WordRelation.{isFinal}
-use Rattle.plan_file.specs.Refusals.{fault}
+use Rattle.plan_file.specs.Refusals.{fault, firstOf}
+use Rattle.plan_file.specs.RefusalLaws.{not-held}
 use Rattle.plan_file.specs.Views.{rulesOf, transitionsOf, automatonOf}
 use Rattle.plan_file.specs.Answers.{refusalOf}
 use Rattle.plan_file.specs.declared.Refusal.{Refusal}
-use Rattle.calls.specs.Checking.{journalLimit, journalFault}
+use Rattle.calls.specs.Checking.{journalLimit, journalFault, checkRefusals}
 use Rattle.calls.specs.Rows.{entryOf, blank}
 use Rattle.rows.specs.Base.{Row}
 use Rattle.places.specs.Lists.{end}
@@ -32,8 +33,6 @@ use Rattle.verdicts.specs.States.{opening}
 use Rattle.verdicts.specs.declared.Reached.{Reached}
 use Rattle.tables.specs.Tables.{letterTable, RuleTable}
 use Rattle.tables.specs.LetterLaws.{letters-length}
-use Rattle.witness.proofs.Faults.{not-refused}
-use Rattle.requests.specs.Refusing.{refusalFor}
 use Rattle.requests.specs.RuleLaws.{rules-fit, rules-in}
 use Rattle.requests.proofs.Refusals.{none-refused}
 use Rattle.starting.specs.declared.Start.{Start}
@@ -43,14 +42,14 @@ use Rattle.starting.specs.Starting.{waiting, Starts}
 journal-size : (J : ℕ) → journalFault J ≡ 0 → (0 < J) × (J ≤ journalLimit)
 unfolding journalFault
 journal-size J e =
-    let o = or-neither (eqb J 0) (ltb journalLimit J) (not-refused (eqb J 0 || ltb journalLimit J) 7 e) in
+    let o = or-neither (eqb J 0) (ltb journalLimit J) (not-held (eqb J 0 || ltb journalLimit J) 7 e) in
     let some : J ≡ 0 → ⊥ = eqb-false J 0 (o .0) in
     (omega arith, ltb-false journalLimit J (o .1))
 
 module _ (bs : List ℕ) (J : ℕ) where
   module _ (B : ℕ) where
     -- ---- at the ends
-    pub starts-refused : (letters : List ℕ) (rules : List (List ℕ)) (t : List ℕ) (r : Refusal) → refusalOf r ≡ refusalFor bs J → (r .number ≡ 0 → ⊥) → (s : State) → s ≡ waiting J 0 B 0 → Starts bs J B letters rules t (record { refusal = r; state = s })
+    pub starts-refused : (letters : List ℕ) (rules : List (List ℕ)) (t : List ℕ) (r : Refusal) → refusalOf r ≡ firstOf (checkRefusals bs J) → (r .number ≡ 0 → ⊥) → (s : State) → s ≡ waiting J 0 B 0 → Starts bs J B letters rules t (record { refusal = r; state = s })
     starts-refused letters rules t r e z s w = record { refusal = e; refused = λ _. ap (λ (x : State). x .going) w; begins = λ q. absurd (z q) }
 
     pub may-open : (finals : ℕ) (before rules : List (List ℕ)) (n : ℕ) → RuleTable bs before rules n → (t : List ℕ) → t ≡ replicate tableCells end → (w : State) → w ≡ waiting J n B finals → MayOpen rules n (w .counts) t
@@ -58,14 +57,14 @@ module _ (bs : List ℕ) (J : ℕ) where
         subst (λ (x : State). MayOpen rules n (x .counts) t) (sym ew) (record { table = ap length et ∙ length-replicate tableCells end; count = rules-fit bs before rules n en; used = omega arith })
 
     module _ (letters : List ℕ) (el : letters ≡ letterTable states (transitionsOf bs)) (finals : ℕ) (ef : finals ≡ number states (isFinal (automatonOf bs))) (before rules : List (List ℕ)) (n : ℕ) (en : RuleTable bs before rules n) (t t′ : List ℕ)
-        (et : t ≡ replicate tableCells end) (w : State) (ew : w ≡ waiting J n B finals) (x : Reached) (o : Opens rules t n (w .terms) (w .counts) t′ x) (s : State) (es : s ≡ opening w (w .terms) x) (r : Refusal) (e : refusalOf r ≡ refusalFor bs J) (z : r .number ≡ 0) where
+        (et : t ≡ replicate tableCells end) (w : State) (ew : w ≡ waiting J n B finals) (x : Reached) (o : Opens rules t n (w .terms) (w .counts) t′ x) (s : State) (es : s ≡ opening w (w .terms) x) (r : Refusal) (e : refusalOf r ≡ firstOf (checkRefusals bs J)) (z : r .number ≡ 0) where
       quiet : (fault bs .number ≡ 0) × (journalFault J ≡ 0)
       quiet = none-refused bs J r e z
 
-      opened : (j : Journal) → length j ≡ J → Onward letters (take n rules) finals B j (record { used = 0; joins = 0 }) s j t′
+      opened : (j : Journal) → length j ≡ J → Onward letters (take n rules) finals B j (record { used = 0; joins = 0; added = 0 }) s j t′
       opened j l =
           let k = journal-size J (quiet .1) in
-          subst (λ (y : State). Onward letters (take n rules) finals B j (record { used = 0; joins = 0 }) y j t′) (sym (es ∙ ap (λ (y : State). opening y (y .terms) x) ew))
+          subst (λ (y : State). Onward letters (take n rules) finals B j (record { used = 0; joins = 0; added = 0 }) y j t′) (sym (es ∙ ap (λ (y : State). opening y (y .terms) x) ew))
           (subst (λ (y : State). Opens rules t n (y .terms) (y .counts) t′ x) ew o letters finals B j j 1 0 (waiting J n B finals) refl (record { all = omega (arith, ap length el, letters-length states (transitionsOf bs)); some = omega (arith, l, k .0); limit = omega (arith, l, k .1) }) (sym l) (pass-first letters (take n rules) finals B j) refl (omega arith) (λ q. absurd (omega (arith, q)))
           (subst (λ (rows : List Row). Covering rows t) (sym (rows-none j)) (subst (Covering []) (sym et) covering-none)))
 

@@ -34,7 +34,11 @@ fn wait(rows: usize, rules: usize, budget: u64, finals: StateSet) -> State
             start: 0,
             before: 0,
         },
-        counts: Counts { used: 0, joins: 0 },
+        counts: Counts {
+            used: 0,
+            joins: 0,
+            added: 0,
+        },
         place: Place {
             rule: 0,
             left: 0,

@@ -13,68 +13,86 @@ use Rattle.basics.specs.Tests.{and-fst, and-snd}
 use Rattle.basics.specs.Elements.{any}
 use Rattle.plan_file.specs.Limits.{recordLimit, terminals}
 use Rattle.plan_file.specs.Records.{recordCount, ruleKind, transitionKind, countOf}
-use Rattle.plan_file.specs.Refusals.{Refusal, refuse, orNext, firstHolding, recordTests, faultBy, faultAt, faultFrom, fault, byNumber}
-use Rattle.calls.specs.Checking.{journalLimit, journalFault, checkOf}
-use Rattle.calls.specs.Judging.{wordLimit, wordFault, judgeOf}
-use Rattle.calls.specs.Replies.{Reply, refused, answered, unless}
+use Rattle.plan_file.specs.Refusals.{Refusal, refuse, orNext, firstHolding, recordTests, faultAt, faultFrom, fault, byNumber, faultAtIn, faultByIn, faultFromIn, faultIn, lengthFaultIn, lengthFault}
+use Rattle.calls.specs.Checking.{journalLimit, journalFault, checkRefusals, checkOf}
+use Rattle.calls.specs.Judging.{wordLimit, wordFault, judgeRefusals, judgeOf}
+use Rattle.calls.specs.Replies.{Reply, refused, answered, unless, reply}
 use Rattle.calls.specs.Codes.{firstAnswerCode}
 
 -- ---- a file
 
+-- the numbers of document 01 that name a record are those from here
+abbrev firstOfRecord : ℕ
+firstOfRecord = 3
+
+-- to here, and a file is refused with no number above it
+abbrev lastOfFile : ℕ
+lastOfFile = 7
+
 -- the refusals of a file
 pub record FileRefusal (x : Refusal) : Type 0 where
-  pub number : x .number ≤ 7
-  pub no-record : x .number < 3 → x .place ≡ 0
+  pub number : x .number ≤ lastOfFile
+  pub no-record : x .number < firstOfRecord → x .place ≡ 0
 
 -- the refusals of a record
 record RecordNumber (f : ℕ) : Type 0 where
-  low : f ≤ 7
-  high : 0 < f → 3 ≤ f
+  low : f ≤ lastOfFile
+  high : 0 < f → firstOfRecord ≤ f
 
--- each number of a list is one of these
-abbrev inRange : List (ℕ × Bool) → Bool
-inRange [] = true
-inRange (t ∷ ts) = (leb 3 (t .0) && leb (t .0) 7) && inRange ts
+-- each number of a list of tests is one of these
+abbrev ofRecord : List (ℕ × Bool) → Bool
+ofRecord [] = true
+ofRecord (t ∷ ts) = (leb firstOfRecord (t .0) && leb (t .0) lastOfFile) && ofRecord ts
 
-first-number : (ts : List (ℕ × Bool)) → inRange ts ≡ true → RecordNumber (firstHolding ts)
+first-number : (ts : List (ℕ × Bool)) → ofRecord ts ≡ true → RecordNumber (firstHolding ts)
 first-number [] p = record { low = omega arith; high = λ h. omega arith }
-first-number (t ∷ ts) p = by (t .1) (first-number ts (and-snd (leb 3 (t .0) && leb (t .0) 7) (inRange ts) p))
+first-number (t ∷ ts) p = by (t .1) (first-number ts (and-snd (leb firstOfRecord (t .0) && leb (t .0) lastOfFile) (ofRecord ts) p))
   where
-    one : (leb 3 (t .0) && leb (t .0) 7) ≡ true
-    one = and-fst (leb 3 (t .0) && leb (t .0) 7) (inRange ts) p
+    one : (leb firstOfRecord (t .0) && leb (t .0) lastOfFile) ≡ true
+    one = and-fst (leb firstOfRecord (t .0) && leb (t .0) lastOfFile) (ofRecord ts) p
 
     by : (b : Bool) → RecordNumber (firstHolding ts) → RecordNumber (cond b (t .0) (firstHolding ts))
-    by true next = record { low = leb-true (t .0) 7 (and-snd (leb 3 (t .0)) (leb (t .0) 7) one); high = λ h. leb-true 3 (t .0) (and-fst (leb 3 (t .0)) (leb (t .0) 7) one) }
+    by true next = record {
+      low = leb-true (t .0) lastOfFile (and-snd (leb firstOfRecord (t .0)) (leb (t .0) lastOfFile) one);
+      high = λ h. leb-true firstOfRecord (t .0) (and-fst (leb firstOfRecord (t .0)) (leb (t .0) lastOfFile) one);
+    }
     by false next = next
 
-next-refusal : (f i : ℕ) (next : Refusal) → RecordNumber f → FileRefusal next → FileRefusal (orNext (refuse f i) next)
-next-refusal zero i next h l = l
-next-refusal (suc f) i next h l = record { number = h .low; no-record = λ e. absurd (let z : ⊥ = omega (arith, e, h .high (omega arith)) in z) }
+-- a number of the file's length names no record
+length-number : (bs : List ℕ) → lengthFault bs ≤ 2
+unfolding lengthFaultIn
+length-number bs = by (not (eqb (length bs % 8) 0)) (ltb recordLimit (recordCount bs))
+  where
+    by : (a b : Bool) → cond a 1 (cond b 2 0) ≤ 2
+    by true b = omega arith
+    by false true = omega arith
+    by false false = omega arith
+
+-- the first of two, by the number of the one
+next-refusal : (f i : ℕ) (next : Refusal) → f ≤ lastOfFile → (0 < f → (firstOfRecord ≤ f) ⊎ (i ≡ 0)) → FileRefusal next → FileRefusal (orNext (refuse f i) next)
+next-refusal zero i next low place l = l
+next-refusal (suc f) i next low place l = record { number = low; no-record = λ e. by e (place (omega arith)) }
+  where
+    by : suc f < firstOfRecord → (firstOfRecord ≤ suc f) ⊎ (i ≡ 0) → i ≡ 0
+    by e (inl h) = absurd (let z : ⊥ = omega (arith, e, h) in z)
+    by e (inr h) = h
 
 at-number : (bs : List ℕ) (i : ℕ) → RecordNumber (faultAt bs i)
-unfolding faultAt faultBy
+unfolding faultAtIn faultByIn
 at-number bs i = first-number (recordTests bs i (countOf bs ruleKind i) (countOf bs transitionKind i)) refl
 
 from-refusal : (bs : List ℕ) (m i : ℕ) → FileRefusal (faultFrom bs m i)
-unfolding faultFrom
+unfolding faultFromIn
 from-refusal bs zero i = record { number = omega arith; no-record = λ e. refl }
-from-refusal bs (suc m) i = next-refusal (faultAt bs i) i (faultFrom bs m (suc i)) (at-number bs i) (from-refusal bs m (suc i))
-
-either-refusal : (b : Bool) (x y : Refusal) → FileRefusal x → FileRefusal y → FileRefusal (cond b x y)
-either-refusal true x y l m = l
-either-refusal false x y l m = m
+from-refusal bs (suc m) i = let n = at-number bs i in next-refusal (faultAt bs i) i (faultFrom bs m (suc i)) (n .low) (λ h. inl (n .high h)) (from-refusal bs m (suc i))
 
 pub file-refusal : (bs : List ℕ) → FileRefusal (fault bs)
-unfolding fault
-file-refusal bs =
-    let records = faultFrom bs (recordCount bs) 0 in
-    let many = ltb recordLimit (recordCount bs) in
-    either-refusal (not (eqb (length bs % 8) 0)) (refuse 1 0) (cond many (refuse 2 0) records) (record { number = omega arith; no-record = λ e. refl })
-    (either-refusal many (refuse 2 0) records (record { number = omega arith; no-record = λ e. refl }) (from-refusal bs (recordCount bs) 0))
+unfolding faultIn
+file-refusal bs = next-refusal (lengthFault bs) 0 (faultFrom bs (recordCount bs) 0) (omega (arith, length-number bs)) (λ h. inr refl) (from-refusal bs (recordCount bs) 0)
 
 -- so a call that the file refuses names a record for 3 to 7 only
-pub record-none : (bs : List ℕ) (r i : ℕ) → r ≡ fault bs .number → i ≡ fault bs .place → (r < 3) ⊎ (7 < r) → i ≡ 0
-record-none bs r i e q (inl l) = q ∙ file-refusal bs .no-record (subst (λ (n : ℕ). n < 3) e l)
+pub record-none : (bs : List ℕ) (r i : ℕ) → r ≡ fault bs .number → i ≡ fault bs .place → (r < firstOfRecord) ⊎ (lastOfFile < r) → i ≡ 0
+record-none bs r i e q (inl l) = q ∙ file-refusal bs .no-record (subst (λ (n : ℕ). n < firstOfRecord) e l)
 record-none bs r i e q (inr l) = absurd (let z : ⊥ = omega (arith, e, l, file-refusal bs .number) in z)
 
 -- ---- a reply
@@ -106,11 +124,20 @@ module _ {A : Type 0} where
       by zero = m
       by (suc f) = l
 
+-- each of a list
+abbrev AllLow : List Refusal → Type 0
+AllLow [] = Unit {0}
+AllLow (x ∷ xs) = Low x × AllLow xs
+
+reply-low : {A : Type 0} (xs : List Refusal) (a : A) → AllLow xs → LowIn (reply xs a)
+reply-low [] a l = tt
+reply-low (x ∷ xs) a l = unless-low x (reply xs a) (l .0) (reply-low xs a (l .1))
+
 pub check-low : (bs : List ℕ) (J B : ℕ) → LowIn (checkOf bs J B)
 unfolding checkOf journalFault
-check-low bs J B = unless-low (fault bs) _ (fault-low bs) (unless-low _ _ (number-low (eqb J 0 || ltb journalLimit J) 8 (omega arith)) tt)
+check-low bs J B = reply-low (checkRefusals bs J) _ (fault-low bs, (number-low (eqb J 0 || ltb journalLimit J) 8 (omega arith), tt))
 
 pub judge-low : (bs w : List ℕ) → LowIn (judgeOf bs w)
 unfolding judgeOf wordFault
 judge-low bs w =
-    unless-low (fault bs) _ (fault-low bs) (unless-low _ _ (number-low (ltb wordLimit (length w) || any (λ c. leb terminals c) w) 11 (omega arith)) tt)
+    reply-low (judgeRefusals bs w) _ (fault-low bs, (number-low (ltb wordLimit (length w) || any (λ c. leb terminals c) w) 11 (omega arith), tt))

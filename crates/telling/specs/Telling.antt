@@ -4,8 +4,7 @@ use Prim.Native.Nat.{ℕ}
 use Rattle.relation.specs.Relation.{states, pairs}
 use Rattle.relation.specs.Representation.{value}
 use Rattle.working_order.specs.Journal.{absent}
-use Rattle.calls.specs.Codes.{brokenCode, codeBy}
-use Rattle.calls.specs.Replies.{Reply}
+use Rattle.calls.specs.Codes.{brokenCode}
 use Rattle.calls.specs.declared.Row.{Row}
 use Rattle.verdicts.specs.Meanings.{codeOf}
 use Rattle.verdicts.specs.declared.Answer.{Answer}
@@ -14,10 +13,6 @@ use Rattle.verdicts.specs.declared.Totals.{Totals}
 use Rattle.checker.specs.declared.Checked.{Checked}
 use Rattle.checker.specs.declared.Checked.the-variants as checked
 use Rattle.telling.specs.declared.Told.{Told}
-
--- what refuses to write the run, or 0
-abbrev pub refusedBy : Reply ℕ → ℕ
-refusedBy w = codeBy (λ n. 0) w
 
 -- with the row y that was asked for
 abbrev pub unbrokenBy : ℕ → Totals → Row → Told

@@ -11,7 +11,8 @@ ghost use Prim.Native.Nat.{_≤_, _<_};
 ghost use Rattle.calls.specs.Checking.{journalLimit};
 ghost use Rattle.writer.specs.Answers.{writingOf};
 ghost use Rattle.telling.specs.Fronts.{frontOf, placeOf, nameOf, nameIn};
-ghost use Rattle.telling.specs.Telling.{refusedBy, unbrokenBy, brokenBy, toldOf, toldBy};
+ghost use Rattle.calls.specs.Codes.{refusedBy};
+ghost use Rattle.telling.specs.Telling.{unbrokenBy, brokenBy, toldOf, toldBy};
 
 // The numbers of the verdicts, as wide as those of the refusals.
 pub const HOLDS: u64 = verdicts::HOLDS as u64;

@@ -34,7 +34,7 @@ use Rattle.deciding.specs.declared.State.{State}
 use Rattle.deciding.specs.declared.Terms.{Terms}
 use Rattle.verdicts.specs.Contracts.{Answers, Checked}
 use Rattle.verdicts.specs.Deciding.{answers-dropped, answers-full, answers-new}
-use Rattle.verdicts.specs.Meanings.{progressOf, countsIn, bornBy, fullBy, decidedBy, decidedIn, totalsOf, answerTo, codeOf, answerAt, answerIn}
+use Rattle.verdicts.specs.Meanings.{progressOf, countsIn, withJoin, withRow, bornBy, fullBy, decidedBy, decidedIn, totalsOf, answerTo, codeOf, answerAt, answerIn}
 use Rattle.verdicts.specs.Running.{target, Goes, Stands, Running, Considered, MayAdvance, Notes, GoesOn, GoesOnOver, Onward, candidatesLeft}
 use Rattle.verdicts.specs.RunLaws.{counted, started, stands-on, goes-on, sized, used-fits, limit}
 use Rattle.verdicts.specs.RunningLaws.{stops}
@@ -96,7 +96,7 @@ module _ {letters : List ℕ} {rules : List (List ℕ)} {start : State} {j₀ : 
   may-advance =
       record {
         note = record { used = omega (arith, room, limit (x .running) (x .going)); table = cells; above = x .found .0 .slot .0; below = x .found .0 .slot .1; row = finds .row };
-        decide = record { used = omega (arith, room, limit (x .running) (x .going)); joins = unspent };
+        decide = record { used = omega (arith, room, limit (x .running) (x .going)); joins = unspent; added = omega (arith, go .in-pass .left .adds, go .begun .at-pass .none-added) };
         count = omega (arith, stands-on (x .running) (x .going) .count, length-take (start .rules) rules);
         pass = omega (arith, ap (λ (b : _). b .pass) (go .begun .terms), go .begun .at-pass .count, go .begun .at-pass .room, sized (x .running) (x .going) .limit);
         room = omega (arith, room, stands-on (x .running) (x .going) .rows, stands-on (x .running) (x .going) .size);
@@ -135,7 +135,7 @@ module _ {letters : List ℕ} {rules : List (List ℕ)} {start : State} {j₀ : 
       none : (v : Bool) → l .covers ≡ v → dropped contained (candidateOf c) (firstRows u (x .before)) ≡ v
       none v e = sym (finds .found) ∙ e
 
-      by-room : (b : Bool) → eqb u (s .rows) ≡ b → l .covers ≡ false → Ending (s .terms .pass) (candidateOf c) u l (x .before) (x .table) j t → Right (fullBy b (order.breaking (s .terms .finals) (candidateOf c)) u (s .counts .joins + 1))
+      by-room : (b : Bool) → eqb u (s .rows) ≡ b → l .covers ≡ false → Ending (s .terms .pass) (candidateOf c) u l (x .before) (x .table) j t → Right (fullBy b (order.breaking (s .terms .finals) (candidateOf c)) (withJoin (s .counts)))
       by-room true e f (inl z) = kept _ (z .1) (z .2) refl (answers-full (s .terms) (candidateOf c) (s .counts) (x .before) room hb not-spent (none false f) (eqb-true u (s .rows) e ∙ rows-are))
       by-room true e f (inr z) = absurd (omega (arith, z .0 .room, eqb-true u (s .rows) e, rows-are))
       by-room false e f (inl z) = absurd (idle (z .0))
@@ -148,35 +148,27 @@ module _ {letters : List ℕ} {rules : List (List ℕ)} {start : State} {j₀ : 
         new (order.breaking (s .terms .finals) (candidateOf c)),
       )
         where
-          new : (b : Bool) → Covering (firstRows (countsIn (bornBy b u (record { used = u + 1; joins = s .counts .joins + 1 })) .used) j) t
+          new : (b : Bool) → Covering (firstRows (countsIn (bornBy b u (withRow (withJoin (s .counts)))) .used) j) t
           new true = z .1 .covering
           new false = z .1 .covering
 
-      by : (b : Bool) → l .covers ≡ b → Ending (s .terms .pass) (candidateOf c) u l (x .before) (x .table) j t → Right (decidedBy b (eqb u (s .rows)) (order.breaking (s .terms .finals) (candidateOf c)) u (s .counts .joins + 1))
+      by : (b : Bool) → l .covers ≡ b → Ending (s .terms .pass) (candidateOf c) u l (x .before) (x .table) j t → Right (decidedBy b (eqb u (s .rows)) (order.breaking (s .terms .finals) (candidateOf c)) (withJoin (s .counts)))
       by true e (inl z) = kept _ (z .1) (z .2) refl (answers-dropped (s .terms) (candidateOf c) (s .counts) (x .before) room hb not-spent (none true e))
       by true e (inr z) = absurd (true≢false (sym e ∙ z .0 .none))
       by false e z = by-room (eqb u (s .rows)) refl e z
 
   -- ---- the candidate is that of the place
 
-  start-is : s .terms .start ≡ go .first .used
-  start-is = ap (λ (b : _). b .start) (go .begun .terms)
-
-  start-room : s .terms .start ≤ length (x .before)
-  start-room = omega (arith, start-is, go .in-pass .left .grows, room)
-
-  row-there : (p i : ℕ) → i ≡ positionRow p (s .terms .start) → rowOf (amongFirst (getD (x .before) i blank) p (s .terms .start)) ≡ rowIn (firstRows (s .terms .start) (x .before)) p
-  row-there p i e =
-      among-row (x .before) (s .terms .start) p (getD (x .before) i blank) start-room
-      (λ h. ap (λ (n : ℕ). getD (x .before) n blank) (e ∙ position-row p (s .terms .start) h))
+  row-there : (p i : ℕ) → i ≡ positionRow p u → rowOf (amongFirst (getD (x .before) i blank) p u) ≡ rowIn (firstRows u (x .before)) p
+  row-there p i e = among-row (x .before) u p (getD (x .before) i blank) room (λ h. ap (λ (n : ℕ). getD (x .before) n blank) (e ∙ position-row p u h))
 
   rule-there : places.ruleAt rules (s .place .rule) ≡ places.ruleAt (counted (x .running) (x .going)) (s .place .rule)
   rule-there = ap entryOf (sym (getD-take (start .rules) rules (s .place .rule) [] (omega (arith, go .here, length-take (start .rules) rules))))
 
-  formed-there : candidateOf c ≡ formedBy letters (places.ruleAt (counted (x .running) (x .going)) (s .place .rule)) (s .place) (rowIn (firstRows (s .terms .start) (x .before)) (s .place .left)) (rowIn (firstRows (s .terms .start) (x .before)) (s .place .right))
+  formed-there : candidateOf c ≡ formedBy letters (places.ruleAt (counted (x .running) (x .going)) (s .place .rule)) (s .place) (rowIn (firstRows u (x .before)) (s .place .left)) (rowIn (firstRows u (x .before)) (s .place .right))
   formed-there =
       x .formed
-      ∙ ap (λ (r : Rule). formedBy letters r (s .place) (rowOf (amongFirst (getD (x .before) (s .left) blank) (s .place .left) (s .terms .start))) (rowOf (amongFirst (getD (x .before) (s .right) blank) (s .place .right) (s .terms .start)))) rule-there
+      ∙ ap (λ (r : Rule). formedBy letters r (s .place) (rowOf (amongFirst (getD (x .before) (s .left) blank) (s .place .left) u)) (rowOf (amongFirst (getD (x .before) (s .right) blank) (s .place .right) u))) rule-there
       ∙ ap₂ (formedBy letters (places.ruleAt (counted (x .running) (x .going)) (s .place .rule)) (s .place)) (row-there (s .place .left) (s .left) (go .left)) (row-there (s .place .right) (s .right) (go .right))
 
   -- ---- it stops the search
@@ -184,7 +176,7 @@ module _ {letters : List ℕ} {rules : List (List ℕ)} {start : State} {j₀ : 
   stopped-right : (o : Outcome) → Ends o → Right o → Answers (start .terms .budget) (passIn (record { budget = start .terms .budget; finals = start .terms .finals; pass = go .begun .pass; start = go .first .used; before = go .begun .before }) letters (counted (x .running) (x .going)) (go .first) (go .journal)) (go .first) (go .journal) j o
   stopped-right o e a =
       subst (λ (b : Terms). Answers (b .budget) (passIn b letters (counted (x .running) (x .going)) (go .first) (go .journal)) (go .first) (go .journal) j o) (go .begun .terms)
-      (pass-stopped (s .terms) letters (listsIn (x .table)) (counted (x .running) (x .going)) (go .first) (go .journal) (go .listed) (go .in-pass) start-is (go .here) formed-there (x .settled .size) (a .0) e)
+      (pass-stopped (s .terms) letters (listsIn (x .table)) (counted (x .running) (x .going)) (go .first) (go .journal) (go .listed) (go .in-pass) (go .here) formed-there (x .settled .size) (a .0) e)
 
   pass-is : s .terms .pass ≡ go .begun .pass
   pass-is = ap (λ (b : Terms). b .pass) (go .begun .terms)
@@ -237,7 +229,7 @@ module _ {letters : List ℕ} {rules : List (List ℕ)} {start : State} {j₀ : 
   joins-more : countsIn became .joins ≡ s .counts .joins + 1
   joins-more = by (l .covers) (eqb u (s .rows)) (order.breaking (s .terms .finals) (candidateOf c))
     where
-      by : (d f b : Bool) → countsIn (decidedBy d f b u (s .counts .joins + 1)) .joins ≡ s .counts .joins + 1
+      by : (d f b : Bool) → countsIn (decidedBy d f b (withJoin (s .counts))) .joins ≡ s .counts .joins + 1
       by true f b = refl
       by false true b = refl
       by false false true = refl
@@ -258,7 +250,7 @@ module _ {letters : List ℕ} {rules : List (List ℕ)} {start : State} {j₀ : 
       (subst (λ (q : List ℕ). Listed (firstRows (go .first .used) (go .journal)) q) (sym lists) (go .listed))
       (λ q f.
       subst (λ (z : List ℕ). InPass (s .terms) letters z rs (go .first) (go .journal) tn w j q) (sym lists)
-      (pass-going (s .terms) letters (listsIn (x .table)) rs (go .first) (go .journal) (go .listed) (go .in-pass) start-is (go .here) formed-there (x .settled .size) (a .0) (sym e) cov (subst (λ (z : List ℕ). places.Follows z rs (s .place) q) lists f)))
+      (pass-going (s .terms) letters (listsIn (x .table)) rs (go .first) (go .journal) (go .listed) (go .in-pass) (go .here) formed-there (x .settled .size) (a .0) (sym e) cov (subst (λ (z : List ℕ). places.Follows z rs (s .place) q) lists f)))
       in
       let m : w .joins ≡ s .counts .joins + 1 = ap (λ (o : Outcome). countsIn o .joins) e ∙ joins-more in (
         resumes (on .stands),
@@ -274,7 +266,7 @@ module _ {letters : List ℕ} {rules : List (List ℕ)} {start : State} {j₀ : 
 pub decided-used : (s : State) (c : order.Candidate) (k : Bool) → s .counts .used ≤ s .rows → s .rows ≤ rowCells → countsIn (decidedIn s c k) .used ≤ rowCells
 decided-used s c k h m = by k (eqb (s .counts .used) (s .rows)) refl (order.breaking (s .terms .finals) c)
   where
-    by : (d f : Bool) → eqb (s .counts .used) (s .rows) ≡ f → (b : Bool) → countsIn (decidedBy d f b (s .counts .used) (s .counts .joins + 1)) .used ≤ rowCells
+    by : (d f : Bool) → eqb (s .counts .used) (s .rows) ≡ f → (b : Bool) → countsIn (decidedBy d f b (withJoin (s .counts))) .used ≤ rowCells
     by true f e b = omega (arith, h, m)
     by false true e b = omega (arith, h, m)
     by false false e true = let n : s .counts .used < s .rows = lt-of-le-ne h (eqb-false (s .counts .used) (s .rows) e) in omega (arith, n, m)

@@ -1,15 +1,15 @@
 -- What a candidate, a pass and the whole search ask and ensure, each in one record. Definitions only. Assumes nothing.
 use mathlib.Core.Path.{_≡_}
 use mathlib.Core.List.{List, map}
-use Prim.Native.Nat.{ℕ, _≤_, _<_}
-use lib.ListN.{length, drop}
+use Prim.Native.Nat.{ℕ, _+_, _≤_, _<_}
+use lib.ListN.{length}
 use Rattle.working_order.specs.Order.{check}
 use Rattle.calls.specs.Checking.{journalLimit}
 use Rattle.calls.specs.Rows.{entryOf}
 use Rattle.rows.specs.Base as order
 use Rattle.rows.specs.Meanings.{baseOf}
 use Rattle.covers.specs.Covers.{Covering}
-use Rattle.covers.specs.Rows.{Journal, firstRows}
+use Rattle.covers.specs.Rows.{Journal, firstRows, KeptBeyond}
 use Rattle.deciding.specs.declared.Counts.{Counts}
 use Rattle.deciding.specs.declared.Terms.{Terms}
 use Rattle.verdicts.specs.Meanings.{outcomeOf, countsIn, answerOf, totalsIn}
@@ -27,15 +27,17 @@ pub record Ready (t : Terms) (w : Counts) (j : Journal) (covers : List ℕ) : Ty
 -- a part of a pass that began at w gave r: it is what the working order gives, and the rows beyond those used are as they were
 pub record Answers (B : ℕ) (given : order.Outcome) (w : Counts) (old new : Journal) (r : Outcome) : Type 0 where
   pub answer : outcomeOf r new ≡ given
-  pub beyond : drop (countsIn r .used) new ≡ drop (countsIn r .used) old
+  pub beyond : KeptBeyond (countsIn r .used) old new
   pub grows : w .used ≤ countsIn r .used
+  -- by as many rows as were added
+  pub adds : countsIn r .used + w .added ≡ w .used + countsIn r .added
   pub room : countsIn r .used ≤ length old
   pub paid : countsIn r .joins ≤ B
 
 -- the passes gave r
 pub record Checked (given : order.Answer) (old new : Journal) (r : Answer) : Type 0 where
   pub answer : answerOf r new ≡ given
-  pub beyond : drop (totalsIn r .used) new ≡ drop (totalsIn r .used) old
+  pub beyond : KeptBeyond (totalsIn r .used) old new
   pub room : totalsIn r .used ≤ length old
 
 -- the working order on the letters' relations, the rules and the mask of final states, with J rows and a budget of B joins

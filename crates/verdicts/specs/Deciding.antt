@@ -13,7 +13,7 @@ use Rattle.working_order.specs.Journal.{absent}
 use Rattle.working_order.specs.Order.{broken, full, going, stopped, dropped, added, decide, consider}
 use Rattle.rows.specs.Base.{Row, Candidate, Progress, Outcome, breaking}
 use Rattle.covers.specs.Rows.{Journal, firstRows, Stored}
-use Rattle.verdicts.specs.Meanings.{progressOf, bornBy}
+use Rattle.verdicts.specs.Meanings.{progressOf, withJoin, withRow, bornBy}
 use Rattle.verdicts.specs.Walks.{considerIn}
 use Rattle.verdicts.specs.Contracts.{Answers}
 use Rattle.covers.specs.RowLaws.{rows-length}
@@ -46,24 +46,26 @@ module _ (t : Terms) (c : Candidate) (w : Counts) (j : Journal) (hu : w .used �
         answer = sym (decided true _ _ _ (eq-eqb (w .joins) (t .budget) p) refl refl refl);
         beyond = refl;
         grows = omega arith;
+        adds = refl;
         room = hu;
         paid = hb;
       }
 
   module _ (p : w .joins ≡ t .budget → ⊥) where
-    pub answers-dropped : dropped contained c rs ≡ true → Answers (t .budget) given w j j (Going (record { used = w .used; joins = w .joins + 1 }))
+    pub answers-dropped : dropped contained c rs ≡ true → Answers (t .budget) given w j j (Going (withJoin w))
     unfolding decide
     answers-dropped q =
         record {
           answer = ap going (one-more rs) ∙ sym (decided false true _ _ (ne-eqb (w .joins) (t .budget) p) q refl refl);
           beyond = refl;
           grows = omega arith;
+          adds = refl;
           room = hu;
           paid = omega arith;
         }
 
     module _ (q : dropped contained c rs ≡ false) where
-      pub answers-full : w .used ≡ length j → Answers (t .budget) given w j j (Stopped (Ended Full (record { used = w .used; joins = w .joins + 1 })))
+      pub answers-full : w .used ≡ length j → Answers (t .budget) given w j j (Stopped (Ended Full (withJoin w)))
       unfolding decide
       answers-full e =
           record {
@@ -72,6 +74,7 @@ module _ (t : Terms) (c : Candidate) (w : Counts) (j : Journal) (hu : w .used �
                 ∙ sym (decided false false true _ (ne-eqb (w .joins) (t .budget) p) q (eq-eqb (length rs) (length j) (rows-length (w .used) j hu ∙ e)) refl);
             beyond = refl;
             grows = omega arith;
+            adds = refl;
             room = hu;
             paid = omega arith;
           }
@@ -84,8 +87,8 @@ module _ (t : Terms) (c : Candidate) (w : Counts) (j : Journal) (hu : w .used �
         grown : _≡_ {A = Progress} (record { rows = firstRows (w .used + 1) new; joins = w .joins + 1 }) (record { rows = added contained (t .pass) c rs; joins = suc (w .joins) })
         grown = ap {B = Progress} (λ (l : List Row). record { rows = l; joins = w .joins + 1 }) (s .front) ∙ one-more (added contained (t .pass) c rs)
 
-        pub answers-new : (b : Bool) → breaking (t .finals) c ≡ b → Answers (t .budget) given w j new (bornBy b (w .used) (record { used = w .used + 1; joins = w .joins + 1 }))
+        pub answers-new : (b : Bool) → breaking (t .finals) c ≡ b → Answers (t .budget) given w j new (bornBy b (w .used) (withRow (withJoin w)))
         unfolding decide
         answers-new true x =
-            record { answer = ap₂ (stopped broken) (sym (rows-length (w .used) j hu)) grown ∙ sym (fresh true x); beyond = s .beyond; grows = omega arith; room = omega arith; paid = omega arith }
-        answers-new false x = record { answer = ap going grown ∙ sym (fresh false x); beyond = s .beyond; grows = omega arith; room = omega arith; paid = omega arith }
+            record { answer = ap₂ (stopped broken) (sym (rows-length (w .used) j hu)) grown ∙ sym (fresh true x); beyond = s .beyond; grows = omega arith; adds = omega arith; room = omega arith; paid = omega arith }
+        answers-new false x = record { answer = ap going grown ∙ sym (fresh false x); beyond = s .beyond; grows = omega arith; adds = omega arith; room = omega arith; paid = omega arith }

@@ -44,6 +44,20 @@ abbrev pub countsIn : Outcome → Counts
 countsIn (outcome.Going w) = w
 countsIn (outcome.Stopped x) = countsAt x
 
+-- ---- the counts
+
+-- a join more
+abbrev pub withJoin : Counts → Counts
+withJoin w = record { used = w .used; joins = w .joins + 1; added = w .added }
+
+-- a row more
+abbrev pub withRow : Counts → Counts
+withRow w = record { used = w .used + 1; joins = w .joins; added = w .added + 1 }
+
+-- the next pass begins: it has added no row yet
+abbrev pub inNextPass : Counts → Counts
+inNextPass w = record { used = w .used; joins = w .joins; added = 0 }
+
 -- ---- one candidate
 
 -- a new row, whether it breaks or not
@@ -51,17 +65,17 @@ abbrev pub bornBy : Bool → ℕ → Counts → Outcome
 bornBy true i w = outcome.Stopped (stop.Broken i w)
 bornBy false i w = outcome.Going w
 
-abbrev pub fullBy : Bool → Bool → ℕ → ℕ → Outcome
-fullBy true b u n = outcome.Stopped (stop.Ended unbroken.Full (record { used = u; joins = n }))
-fullBy false b u n = bornBy b u (record { used = u + 1; joins = n })
+abbrev pub fullBy : Bool → Bool → Counts → Outcome
+fullBy true b w = outcome.Stopped (stop.Ended unbroken.Full w)
+fullBy false b w = bornBy b (w .used) (withRow w)
 
 -- whether a row covers, there is no room, it breaks
-abbrev pub decidedBy : Bool → Bool → Bool → ℕ → ℕ → Outcome
-decidedBy true f b u n = outcome.Going (record { used = u; joins = n })
-decidedBy false f b u n = fullBy f b u n
+abbrev pub decidedBy : Bool → Bool → Bool → Counts → Outcome
+decidedBy true f b w = outcome.Going w
+decidedBy false f b w = fullBy f b w
 
 abbrev pub decidedIn : State → order.Candidate → Bool → Outcome
-decidedIn s c k = decidedBy k (eqb (s .counts .used) (s .rows)) (order.breaking (s .terms .finals) c) (s .counts .used) (s .counts .joins + 1)
+decidedIn s c k = decidedBy k (eqb (s .counts .used) (s .rows)) (order.breaking (s .terms .finals) c) (withJoin (s .counts))
 
 -- ---- answers
 

@@ -5,22 +5,22 @@ use Prim.Native.Nat.{ℕ, suc, _+_, _-_, _≤_, _<_}
 use native.Mathlib.Numerals.{add-one}
 use native.Mathlib.Omega.{arith}
 use lib.Arith.{lt-of-le-ne}
-use lib.ListN.{length, drop}
+use lib.ListN.{length}
 use Rattle.basics.specs.Lists.{drop-later-same}
 use Rattle.relation.specs.Digits.{bit}
 use Rattle.relation.specs.Relation.{states}
 use Rattle.relation.specs.Representation.{value}
 use Rattle.working_order.specs.Candidates.{passCandidates}
-use Rattle.working_order.specs.Order.{close, onePass, passes, check}
+use Rattle.working_order.specs.Order.{close, passLimit, onePass, passes, check}
 use Rattle.working_order.specs.Repeating.{Repeats, repeated-dropped}
 use Rattle.calls.specs.Base.{starts}
 use Rattle.calls.specs.BaseLaws.{base-by-laws}
 use Rattle.calls.specs.Checking.{journalLimit}
 use Rattle.calls.specs.Rows.{entryOf}
 use Rattle.rows.specs.Base as order
-use Rattle.covers.specs.Rows.{Journal, firstRows}
+use Rattle.covers.specs.Rows.{Journal, firstRows, KeptBeyond}
 use Rattle.rows.specs.Meanings.{letterIn, formsOf, baseOf}
-use Rattle.verdicts.specs.Meanings.{progressOf, countsIn, totalsIn}
+use Rattle.verdicts.specs.Meanings.{progressOf, countsIn, inNextPass, totalsIn}
 use Rattle.verdicts.specs.Walks.{walkIn, candidatesIn, passIn, Known}
 use Rattle.verdicts.specs.Contracts.{Answers, Checked, orderOf}
 use Rattle.covers.specs.RowLaws.{rows-length}
@@ -38,15 +38,18 @@ module _ (letters : List ℕ) (rules : List (List ℕ)) (finals B : ℕ) where
 
   -- pass k is to begin at w over the journal j
   pub record AtPass (target : order.Answer) (j₀ : Journal) (w : Counts) (j : Journal) (k : ℕ) : Type 0 where
-    pub left : rest (length j₀) (suc (suc (length j₀)) - k) k (progressOf w j) ≡ target
+    -- what the passes from k on give
+    pub left : rest (length j₀) (suc (passLimit (length j₀) B) - k) k (progressOf w j) ≡ target
     pub same : length j ≡ length j₀
-    pub beyond : drop (w .used) j ≡ drop (w .used) j₀
+    pub beyond : KeptBeyond (w .used) j₀ j
     pub room : w .used ≤ length j₀
     pub paid : w .joins ≤ B
     pub first : 1 ≤ k
     pub count : k ≤ w .used + 1
+    -- none of its rows is added yet
+    pub none-added : w .added ≡ 0
 
-  pub pass-first : (j : Journal) → AtPass (orderOf letters rules finals (length j) B) j (record { used = 0; joins = 0 }) j 1
+  pub pass-first : (j : Journal) → AtPass (orderOf letters rules finals (length j) B) j (record { used = 0; joins = 0; added = 0 }) j 1
   unfolding orderOf check firstRows
   pass-first j =
       record {
@@ -57,6 +60,7 @@ module _ (letters : List ℕ) (rules : List (List ℕ)) (finals B : ℕ) where
         paid = omega arith;
         first = omega arith;
         count = omega arith;
+        none-added = refl;
       }
 
 module _ {letters : List ℕ} {rules : List (List ℕ)} {finals B : ℕ} {target : order.Answer} {j₀ : Journal} {w : Counts} {j : Journal} {k : ℕ} (a : AtPass letters rules finals B target j₀ w j k) where
@@ -77,40 +81,40 @@ module _ {letters : List ℕ} {rules : List (List ℕ)} {finals B : ℕ} {target
     N : order.Progress → order.Answer
     N = rest letters rules finals B (length j₀) (suc (length j₀) - k) (suc k)
 
-    turned : endAnswer (endOf (w .used) k r) j′ N ≡ target
+    turned : endAnswer (endOf k r) j′ N ≡ target
     unfolding passes N
     turned =
-        close-end (w .used) k j′ N r (subst (λ (n : ℕ). countsIn r .used ≤ n) (sym s) (x .room))
+        close-end (w .used) k j′ N r (subst (λ (n : ℕ). countsIn r .used ≤ n) (sym s) (x .room)) (omega (arith, x .adds, a .none-added))
         ∙ ap₂ (λ (u : ℕ) (y : order.Outcome). close starts k u N y) (sym (rows-length (w .used) j hu)) (x .answer ∙ pass-eq)
         ∙ ap (λ (f : ℕ). rest letters rules finals B (length j₀) f k (progressOf w j)) (let e : suc (suc (length j₀) - k) ≡ suc (suc (length j₀)) - k = omega (arith, a .count, a .room) in e)
         ∙ a .left
 
-    kept : drop (countsIn r .used) j′ ≡ drop (countsIn r .used) j₀
+    kept : KeptBeyond (countsIn r .used) j₀ j′
     kept = x .beyond ∙ drop-later-same (w .used) (countsIn r .used) j j₀ (x .grows) (a .beyond)
 
-    pub pass-done : {y : Answer} → endOf (w .used) k r ≡ Done y → Checked target j₀ j′ y
+    pub pass-done : {y : Answer} → endOf k r ≡ Done y → Checked target j₀ j′ y
     pass-done {y} e =
-        let n : countsIn r .used ≡ totalsIn y .used = sym (close-used (w .used) k r) ∙ ap endUsed e in
+        let n : countsIn r .used ≡ totalsIn y .used = sym (close-used k r) ∙ ap endUsed e in
         record {
           answer = ap (λ (z : PassEnd). endAnswer z j′ N) (sym e) ∙ turned;
-          beyond = subst (λ (m : ℕ). drop m j′ ≡ drop m j₀) n kept;
+          beyond = subst (λ (m : ℕ). KeptBeyond m j₀ j′) n kept;
           room = subst₂ (λ (m l : ℕ). m ≤ l) n (a .same) (x .room);
         }
 
-    module _ {w′ : Counts} (e : endOf (w .used) k r ≡ Again w′) where
+    module _ {w′ : Counts} (e : endOf k r ≡ Again w′) where
       went : r ≡ outcome.Going w′
-      went = again-going (w .used) k r w′ e .0
+      went = again-going k r w′ e .0
 
       abbrev xg : Answers B res w j j′ (outcome.Going w′)
       xg = subst (λ (z : Outcome). Answers B res w j j′ z) went x
 
       pub pass-grew : w .used < w′ .used
-      pass-grew = lt-of-le-ne (xg .grows) (λ p. again-going (w .used) k r w′ e .1 (sym p))
+      pass-grew = lt-of-le-ne (xg .grows) (λ p. again-going k r w′ e .1 (omega (arith, p, xg .adds, a .none-added)))
 
       pub pass-room : w′ .used ≤ length j₀
       pass-room = subst (λ (n : ℕ). w′ .used ≤ n) (a .same) (xg .room)
 
-      pub pass-again : AtPass letters rules finals B target j₀ w′ j′ (k + 1)
+      pub pass-again : AtPass letters rules finals B target j₀ (inNextPass w′) j′ (k + 1)
       unfolding N
       pass-again =
           record {
@@ -123,6 +127,7 @@ module _ {letters : List ℕ} {rules : List (List ℕ)} {finals B : ℕ} {target
             paid = xg .paid;
             first = omega arith;
             count = omega (arith, pass-grew, a .count);
+            none-added = refl;
           }
 
       -- what this pass formed is known in the next

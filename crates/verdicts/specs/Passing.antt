@@ -10,9 +10,10 @@ use native.Mathlib.Omega.{arith}
 use lib.Dec.{eqb, ltb}
 use lib.ListN.{length, length-map, length-append, List·getD-append, List·getD-eq-default}
 use borrow.Author.Tests.{eqb-true, ltb-true, ltb-false}
+use Rattle.basics.specs.Elements.{In}
 use Rattle.basics.specs.Lists.{getD-map}
 use Rattle.basics.specs.Tests.{and-fst, and-snd}
-use Rattle.language.specs.Grammar.{terminal, nonterminal, Body, empty, one, two, Rule}
+use Rattle.language.specs.Grammar.{Symbol, terminal, nonterminal, Body, empty, one, two, Rule}
 use Rattle.relation.specs.Digits.{bit}
 use Rattle.relation.specs.Relation.{states, contained}
 use Rattle.relation.specs.Representation.{value}
@@ -20,20 +21,21 @@ use Rattle.working_order.specs.Candidates.{sole, paired, bare}
 use Rattle.working_order.specs.Coverage.{dropped-added}
 use Rattle.working_order.specs.Journal.{absent}
 use Rattle.working_order.specs.Order.{Verdict, going, andThen, dropped, walk, retire, born, added}
-use Rattle.working_order.specs.Repeating.{PointsBelow, Repeats}
+use Rattle.working_order.specs.Repeating.{PointsBelow, Repeats, pass-points}
 use Rattle.working_order.specs.Walking.{Post, step-post}
 use Rattle.calls.specs.BaseLaws.{base-by-laws}
-use Rattle.calls.specs.Rows.{rowOf, blank}
+use Rattle.calls.specs.Checking.{journalLimit}
+use Rattle.calls.specs.Rows.{rowOf, blank, entryOf}
 use Rattle.rows.specs.Base as order
 use Rattle.rows.specs.Meanings.{letterIn, baseOf}
-use Rattle.rows.specs.Forming.{Part, none, some, rowChoice, leftPart, rightPart, partChoice, combined, formedBy}
+use Rattle.rows.specs.Forming.{Part, none, some, rowChoice, symbolChoice, leftPart, rightPart, partChoice, combined, formedBy}
 use Rattle.rows.specs.declared.Place.{Place}
 use Rattle.places.specs.Lists.{rowIn, Listed}
 use Rattle.places.specs.Places.{ruleAt, onward, Stands, Opens, Follows}
 use Rattle.covers.specs.Covers.{Covering}
 use Rattle.covers.specs.Rows.{Journal, firstRows}
 use Rattle.covers.specs.RowLaws.{rows-length, rows-at}
-use Rattle.verdicts.specs.Meanings.{progressOf, countsIn}
+use Rattle.verdicts.specs.Meanings.{progressOf, countsIn, withJoin}
 use Rattle.verdicts.specs.Walks.{considerIn, walkIn, candidatesIn, isBefore, repeatsAt, Known}
 use Rattle.verdicts.specs.Contracts.{Ready, Answers}
 use Rattle.verdicts.specs.Deciding.{answers-dropped}
@@ -72,33 +74,33 @@ consider-goes t J P c s s′ e p q =
 
 -- ---- what is formed from them
 
-part-same : (letters : List ℕ) (p : Part) (i : ℕ) (r r′ : order.Row) → rowChoice i r ≡ rowChoice i r′ → partChoice letters p i r ≡ partChoice letters p i r′
-part-same letters none i r r′ e = refl
-part-same letters (some (terminal c)) i r r′ e = refl
-part-same letters (some (nonterminal x)) i r r′ e = e
+-- the rows A are kept among the first u of the journal j, and no number below u is that of no row
+module _ (A : List order.Row) (u : ℕ) (j : Journal) (room : u ≤ length j) (few : u ≤ absent) (kept : Kept A (firstRows u j)) where
+  row-same : (i : ℕ) → PointsBelow (length A) i → rowChoice i (rowIn (firstRows u j) i) ≡ rowChoice i (rowIn A i)
+  row-same i (inl l) = kept .1 i l
+  row-same i (inr e) =
+      let none : (rows : List order.Row) → length rows ≤ u → rowIn rows i ≡ rowOf blank =
+      λ rows h. List·getD-eq-default rows (rowOf blank) (omega (arith, h, few, e)) in
+      ap (rowChoice i) (none (firstRows u j) (omega (arith, rows-length u j room)) ∙ sym (none A (omega (arith, kept .0, rows-length u j room))))
 
-module _ (A : List order.Row) (u : ℕ) (j : Journal) (room : u ≤ length j) (kept : Kept A (firstRows u j)) where
-  row-same : (i : ℕ) → rowChoice i (rowIn (firstRows (length A) j) i) ≡ rowChoice i (rowIn A i)
-  row-same i = by (ltb i (length A)) refl
+  symbol-same : (letters : List ℕ) (s : Symbol) (i : ℕ) → PointsBelow (length A) (symbolChoice letters s i (rowIn A i) .pointer)
+      → symbolChoice letters s i (rowIn (firstRows u j) i) ≡ symbolChoice letters s i (rowIn A i)
+  symbol-same letters (terminal c) i h = refl
+  symbol-same letters (nonterminal x) i h = row-same i h
+
+  -- a candidate of rows of A is formed from the used rows as it is from A
+  formed-same : (letters : List ℕ) (x : Rule) (p : Place) → Repeats (length A) (formedBy letters x p (rowIn A (p .left)) (rowIn A (p .right)))
+      → formedBy letters x p (rowIn (firstRows u j) (p .left)) (rowIn (firstRows u j) (p .right)) ≡ formedBy letters x p (rowIn A (p .left)) (rowIn A (p .right))
+  unfolding bare sole paired
+  formed-same letters x p = by (x .body)
     where
-      n : length A ≤ length j
-      n = omega (arith, kept .0, rows-length u j room, room)
+      formed : Body → List order.Row → order.Candidate
+      formed b rows = combined (x .head) (p .rule) b (partChoice letters (leftPart b) (p .left) (rowIn rows (p .left))) (partChoice letters (rightPart b) (p .right) (rowIn rows (p .right)))
 
-      by : (b : Bool) → ltb i (length A) ≡ b → rowChoice i (rowIn (firstRows (length A) j) i) ≡ rowChoice i (rowIn A i)
-      by true e =
-          let l : i < length A = ltb-true i (length A) e in
-          let m : i < u = omega (arith, l, kept .0, rows-length u j room) in
-          ap (rowChoice i) (rows-at (length A) j i l ∙ sym (rows-at u j i m)) ∙ kept .1 i l
-      by false e =
-          let l : length A ≤ i = ltb-false i (length A) e in
-          ap (rowChoice i)
-          (List·getD-eq-default (firstRows (length A) j) (rowOf blank) (subst (λ (m : ℕ). m ≤ i) (sym (rows-length (length A) j n)) l) ∙ sym (List·getD-eq-default A (rowOf blank) l))
-
-  formed-same : (letters : List ℕ) (x : Rule) (p : Place) → formedBy letters x p (rowIn (firstRows (length A) j) (p .left)) (rowIn (firstRows (length A) j) (p .right)) ≡ formedBy letters x p (rowIn A (p .left)) (rowIn A (p .right))
-  formed-same letters x p =
-      ap₂ (combined (x .head) (p .rule) (x .body))
-      (part-same letters (leftPart (x .body)) (p .left) (rowIn (firstRows (length A) j) (p .left)) (rowIn A (p .left)) (row-same (p .left)))
-      (part-same letters (rightPart (x .body)) (p .right) (rowIn (firstRows (length A) j) (p .right)) (rowIn A (p .right)) (row-same (p .right)))
+      by : (b : Body) → Repeats (length A) (formed b A) → formed b (firstRows u j) ≡ formed b A
+      by empty h = refl
+      by (one s) h = ap (λ (c : order.Choice). sole (x .head) (p .rule) c) (symbol-same letters s (p .left) (h .0))
+      by (two s s′) h = ap₂ (order.joined (x .head) (p .rule)) (symbol-same letters s (p .left) (h .0)) (symbol-same letters s′ (p .right) (h .1))
 
 -- what is formed at a place whose rows are among the first n points to no others
 before-below : (n i : ℕ) → isBefore n i ≡ true → PointsBelow n i
@@ -138,6 +140,9 @@ module _ (t : Terms) (letters lists : List ℕ) (rules : List (List ℕ)) (w₀ 
   pub record InPass (covers : List ℕ) (w : Counts) (j : Journal) (p : Place) : Type 0 where
     pub candidates : List order.Candidate
     pub known : Known (t .before) candidates (firstRows (w .used) j)
+    -- each points to rows that the pass began with, or to none
+    pub points : (c : order.Candidate) → In c candidates → Repeats (length first) c
+    pub limit : length j₀ ≤ journalLimit
     pub stands : Stands letters first lists rules p candidates
     pub left : Remaining (t .budget) whole (walkIn t (length j₀) candidates (progressOf w j)) w₀ j₀ w j
     pub kept : Kept first (firstRows (w .used) j)
@@ -149,6 +154,8 @@ module _ (t : Terms) (letters lists : List ℕ) (rules : List (List ℕ)) (w₀ 
         record {
           candidates = onward letters first lists rules 0;
           known = k;
+          points = pass-points (baseOf letters (t .finals)) first (map entryOf rules) 0;
+          limit = r .limit;
           stands = o letters first listed;
           left = remaining-start (r .room) (r .paid);
           kept = (le-refl (length first), λ i l. refl);
@@ -164,32 +171,34 @@ module _ (t : Terms) (letters lists : List ℕ) (rules : List (List ℕ)) (w₀ 
           by [] s l = remaining-none l
           by (c ∷ cs) s l = absurd (omega (arith, h, s .0))
 
-      module _ (hs : t .start ≡ w₀ .used) (h : p .rule < length rules) {c : order.Candidate} (e : c ≡ formedBy letters (ruleAt rules (p .rule)) p (rowIn (firstRows (t .start) j) (p .left)) (rowIn (firstRows (t .start) j) (p .right))) where
+      -- the candidate is formed from the used rows
+      module _ (h : p .rule < length rules) {c : order.Candidate} (e : c ≡ formedBy letters (ruleAt rules (p .rule)) p (rowIn (firstRows (w .used) j) (p .left)) (rowIn (firstRows (w .used) j) (p .right))) where
         -- the candidate is the first that is left
         abbrev Next : order.Candidate → List order.Candidate → Type 0
         Next d ds = (d ≡ c) × ((q : Place) → Follows lists rules p q → Stands letters first lists rules q ds)
             × Remaining (t .budget) whole (walkIn t (length j₀) (d ∷ ds) (progressOf w j)) w₀ j₀ w j
             × Known (t .before) (d ∷ ds) (firstRows (w .used) j)
+            × ((f : order.Candidate) → In f (d ∷ ds) → Repeats (length first) f)
 
-        start-length : t .start ≡ length first
-        start-length = hs ∙ sym (rows-length (w₀ .used) j₀ (omega (arith, g .left .grows, g .left .room)))
+        few : w .used ≤ absent
+        few = omega (arith, g .left .room, g .limit)
 
         next : (d : order.Candidate) × (ds : List order.Candidate) × Next d ds
-        next = by (g .candidates) (g .stands) (g .left) (g .known)
+        next = by (g .candidates) (g .stands) (g .left) (g .known) (g .points)
           where
-            by : (cs : List order.Candidate) → Stands letters first lists rules p cs → Remaining (t .budget) whole (walkIn t (length j₀) cs (progressOf w j)) w₀ j₀ w j → Known (t .before) cs (firstRows (w .used) j) → (d : order.Candidate) × (ds : List order.Candidate) × Next d ds
-            by [] z l k = absurd (z h)
-            by (d ∷ ds) z l k = (
+            by : (cs : List order.Candidate) → Stands letters first lists rules p cs → Remaining (t .budget) whole (walkIn t (length j₀) cs (progressOf w j)) w₀ j₀ w j → Known (t .before) cs (firstRows (w .used) j) → ((f : order.Candidate) → In f cs → Repeats (length first) f) → (d : order.Candidate) × (ds : List order.Candidate) × Next d ds
+            by [] z l k m = absurd (z h)
+            by (d ∷ ds) z l k m = (
               d,
               ds,
               (
                 z .1
-                    ∙ sym (formed-same first (w .used) j (omega (arith, g .left .room, g .left .same)) (g .kept) letters (ruleAt rules (p .rule)) p)
-                    ∙ ap (λ (n : ℕ). formedBy letters (ruleAt rules (p .rule)) p (rowIn (firstRows n j) (p .left)) (rowIn (firstRows n j) (p .right))) (sym start-length)
+                    ∙ sym (formed-same first (w .used) j (omega (arith, g .left .room, g .left .same)) few (g .kept) letters (ruleAt rules (p .rule)) p (subst (Repeats (length first)) (z .1) (m d (inl refl))))
                     ∙ sym e,
                 λ q f. f letters first listed d ds z,
                 l,
                 k,
+                m,
               ),
             )
 
@@ -218,6 +227,8 @@ module _ (t : Terms) (letters lists : List ℕ) (rules : List (List ℕ)) (w₀ 
               record {
                 candidates = next .1;
                 known = consider-goes t (length j) (λ u. Known (t .before) (next .1) (u .rows)) c (progressOf w j) (progressOf w′ j′) (x .answer) others (λ z d m e. dropped-added (baseOf [] (t .finals)) (base-by-laws states (λ d. value (letterIn [] d)) (bit (t .finals))) (t .pass) c d (firstRows (w .used) j) (others z d m e));
+                points = λ d m. next .2 .4 d (inr m);
+                limit = g .limit;
                 stands = next .2 .1 q f;
                 left = remaining-going (next .2 .2) (considerIn t (length j) c (progressOf w j)) (walkIn t (length j₀) (next .1)) split j′ s w′ x;
                 kept = consider-goes t (length j) (λ u. Kept first (u .rows)) c (progressOf w j) (progressOf w′ j′) (x .answer) (g .kept) (kept-added (t .pass) c first (firstRows (w .used) j) (g .kept));
@@ -225,10 +236,10 @@ module _ (t : Terms) (letters lists : List ℕ) (rules : List (List ℕ)) (w₀ 
               }
 
       -- a candidate that the pass before formed is one join, and nothing else
-      pub pass-over : t .start ≡ w₀ .used → p .rule < length rules → w .joins < t .budget → repeatsAt (t .before) p ≡ true → {q : Place} → Follows lists rules p q
-          → InPass covers (record { used = w .used; joins = w .joins + 1 }) j q
-      pass-over hs h paid e {q} f =
-          let c : order.Candidate = formedBy letters (ruleAt rules (p .rule)) p (rowIn (firstRows (t .start) j) (p .left)) (rowIn (firstRows (t .start) j) (p .right)) in
+      pub pass-over : p .rule < length rules → w .joins < t .budget → repeatsAt (t .before) p ≡ true → {q : Place} → Follows lists rules p q
+          → InPass covers (withJoin w) j q
+      pass-over h paid e {q} f =
+          let c : order.Candidate = formedBy letters (ruleAt rules (p .rule)) p (rowIn (firstRows (w .used) j) (p .left)) (rowIn (firstRows (w .used) j) (p .right)) in
           let room : w .used ≤ length j = omega (arith, g .left .room, g .left .same) in
-          let z = formed-repeats (t .before) letters (ruleAt rules (p .rule)) p (rowIn (firstRows (t .start) j) (p .left)) (rowIn (firstRows (t .start) j) (p .right)) e in
-          pass-going hs h {c = c} refl refl (answers-dropped t c w j room (g .left .paid) (λ y. omega (arith, y, paid)) (there hs h {c = c} refl (z .0) (z .1))) refl (g .covering) f
+          let z = formed-repeats (t .before) letters (ruleAt rules (p .rule)) p (rowIn (firstRows (w .used) j) (p .left)) (rowIn (firstRows (w .used) j) (p .right)) e in
+          pass-going h {c = c} refl refl (answers-dropped t c w j room (g .left .paid) (λ y. omega (arith, y, paid)) (there h {c = c} refl (z .0) (z .1))) refl (g .covering) f

@@ -1,20 +1,21 @@
 -- Over candidates that the pass before formed: each is one join, and the place after it is where the pass goes on. Assumes nothing.
 use mathlib.Core.Path.{_≡_, refl, ap, _∙_}
-use mathlib.Core.Bool.{Bool, true, _&&_, _||_}
+use mathlib.Core.Bool.{Bool, true, not, _&&_, _||_}
 use mathlib.Core.List.{List}
 use Prim.Native.Nat.{ℕ, _+_, _<_}
 use native.Mathlib.Nat.{le-refl, le-trans}
 use native.Mathlib.Omega.{arith}
-use lib.Dec.{eqb, ltb}
+use lib.Dec.{eqb, leb, ltb}
 use lib.ListN.{length}
-use borrow.Author.Tests.{ltb-true, lt-ltb}
-use Rattle.basics.specs.Tests.{and-intro, and-fst, and-snd}
+use borrow.Author.Tests.{leb-false, ltb-true, lt-ltb}
+use Rattle.basics.specs.Tests.{and-intro, and-fst, and-snd, fails, not-excludes}
 use Rattle.working_order.specs.Journal.{absent}
 use Rattle.rows.specs.declared.Place.{Place}
 use Rattle.places.specs.Lists.{afterIn}
 use Rattle.places.specs.PlaceLaws.{follows-right}
 use Rattle.places.specs.Places.{Follows}
 use Rattle.covers.specs.Covers.{listsIn}
+use Rattle.deciding.specs.Forming.{isSpent}
 use Rattle.deciding.specs.declared.Terms.{Terms}
 use Rattle.verdicts.specs.Passing.{pass-over}
 use Rattle.verdicts.specs.Running.{passesAt, Counted, PassesRights, PassesOver}
@@ -22,43 +23,47 @@ use Rattle.verdicts.specs.Walks.{isBefore, repeatsAt}
 use Rattle.verdicts.specs.declared.Reached.{Reached}
 
 counted-refl : (x : Reached) → Counted x x
-counted-refl x = record { joins = le-refl (x .counts .joins); used = refl }
+counted-refl x = record { joins = le-refl (x .counts .joins); used = refl; added = refl }
 
 counted-trans : {x y z : Reached} → Counted x y → Counted y z → Counted x z
-counted-trans a b = record { joins = le-trans (a .joins) (b .joins); used = b .used ∙ a .used }
+counted-trans a b = record { joins = le-trans (a .joins) (b .joins); used = b .used ∙ a .used; added = b .added ∙ a .added }
 
 -- the same place with another right, and one join more
 abbrev pub withRight : Reached → ℕ → ℕ → Reached
-withRight x n i = record { counts = record { used = x .counts .used; joins = n }; place = record { rule = x .place .rule; left = x .place .left; right = i } }
+withRight x n i = record { counts = record { used = x .counts .used; joins = n; added = x .counts .added }; place = record { rule = x .place .rule; left = x .place .left; right = i } }
+
+-- one more join may be made
+pub not-spent : (B n : ℕ) → not (isSpent B n) ≡ true → n < B
+not-spent B n e = leb-false B n (fails (leb B n) (not-excludes (leb B n) e))
 
 -- what is known of a candidate that may be passed over
 module _ (b : Terms) (n : ℕ) (x : Reached) (e : passesAt b n x ≡ true) where
-  rest-passes : (ltb (x .counts .joins) (b .budget) && repeatsAt (b .before) (x .place)) ≡ true
-  rest-passes = and-snd (ltb (x .place .rule) n) (ltb (x .counts .joins) (b .budget) && repeatsAt (b .before) (x .place)) e
+  rest-passes : (not (isSpent (b .budget) (x .counts .joins)) && repeatsAt (b .before) (x .place)) ≡ true
+  rest-passes = and-snd (ltb (x .place .rule) n) (not (isSpent (b .budget) (x .counts .joins)) && repeatsAt (b .before) (x .place)) e
 
   passes-here : x .place .rule < n
-  passes-here = ltb-true (x .place .rule) n (and-fst (ltb (x .place .rule) n) (ltb (x .counts .joins) (b .budget) && repeatsAt (b .before) (x .place)) e)
+  passes-here = ltb-true (x .place .rule) n (and-fst (ltb (x .place .rule) n) (not (isSpent (b .budget) (x .counts .joins)) && repeatsAt (b .before) (x .place)) e)
 
   pub passes-paid : x .counts .joins < b .budget
-  passes-paid = ltb-true (x .counts .joins) (b .budget) (and-fst (ltb (x .counts .joins) (b .budget)) (repeatsAt (b .before) (x .place)) rest-passes)
+  passes-paid = not-spent (b .budget) (x .counts .joins) (and-fst (not (isSpent (b .budget) (x .counts .joins))) (repeatsAt (b .before) (x .place)) rest-passes)
 
   passes-again : repeatsAt (b .before) (x .place) ≡ true
-  passes-again = and-snd (ltb (x .counts .joins) (b .budget)) (repeatsAt (b .before) (x .place)) rest-passes
+  passes-again = and-snd (not (isSpent (b .budget) (x .counts .joins))) (repeatsAt (b .before) (x .place)) rest-passes
 
 -- ---- the rights of one left
 
 module _ (t : List ℕ) (b : Terms) (x : Reached) where
   pub rights-none : PassesRights t b x x
-  rights-none = record { counted = counted-refl x; done = λ letters rules first j₁ j h e l s k d. d }
+  rights-none = record { counted = counted-refl x; done = λ letters rules first j₁ j h e l k d. d }
 
   pub rights-next : (n i m : ℕ) → PassesRights t b x (withRight x n i) → m ≡ afterIn (listsIn t) i → m < b .before → n < b .budget → PassesRights t b x (withRight x (n + 1) m)
   rights-next n i m v em hm hn =
       record {
-        counted = counted-trans (v .counted) (record { joins = omega arith; used = refl });
-        done = λ letters rules first j₁ j h e l s k d q f.
+        counted = counted-trans (v .counted) (record { joins = omega arith; used = refl; added = refl });
+        done = λ letters rules first j₁ j h e l k d q f.
             pass-over b letters (listsIn t) rules first j₁ k
-            (v .done letters rules first j₁ j h e l s k d (withRight x n m .place) (follows-right (listsIn t) rules (withRight x n i .place) m em (λ z. omega (arith, z, hm, l))))
-            s h hn (again e) f;
+            (v .done letters rules first j₁ j h e l k d (withRight x n m .place) (follows-right (listsIn t) rules (withRight x n i .place) m em (λ z. omega (arith, z, hm, l))))
+            h hn (again e) f;
       }
     where
       -- the right is another of the first rows
@@ -73,10 +78,10 @@ module _ (t : List ℕ) (b : Terms) (x : Reached) where
 
 module _ (rules : List (List ℕ)) (t : List ℕ) (b : Terms) where
   pub over-none : (x : Reached) → PassesOver rules t b x x
-  over-none x = record { counted = counted-refl x; stands = λ letters first j₁ j l s k g. g }
+  over-none x = record { counted = counted-refl x; stands = λ letters first j₁ j l k g. g }
 
   pub over-more : {x y z : Reached} → PassesOver rules t b x y → PassesOver rules t b y z → PassesOver rules t b x z
-  over-more u v = record { counted = counted-trans (u .counted) (v .counted); stands = λ letters first j₁ j l s k g. v .stands letters first j₁ j l s k (u .stands letters first j₁ j l s k g) }
+  over-more u v = record { counted = counted-trans (u .counted) (v .counted); stands = λ letters first j₁ j l k g. v .stands letters first j₁ j l k (u .stands letters first j₁ j l k g) }
 
   -- the candidate of the place, and then the rights after it
   pub over-left : (x r : Reached) (q : Place) → passesAt b (length rules) x ≡ true → PassesRights t b (withRight x (x .counts .joins + 1) (x .place .right)) r → Follows (listsIn t) rules (r .place) q
@@ -86,8 +91,8 @@ module _ (rules : List (List ℕ)) (t : List ℕ) (b : Terms) where
       let paid = passes-paid b (length rules) x e in
       let again = passes-again b (length rules) x e in (
         record {
-          counted = record { joins = omega (arith, v .counted .joins); used = v .counted .used };
-          stands = λ letters first j₁ j l s k g. v .done letters rules first j₁ j here again l s k (λ p z. pass-over b letters (listsIn t) rules first j₁ k g s here paid again z) q f;
+          counted = record { joins = omega (arith, v .counted .joins); used = v .counted .used; added = v .counted .added };
+          stands = λ letters first j₁ j l k g. v .done letters rules first j₁ j here again l k (λ p z. pass-over b letters (listsIn t) rules first j₁ k g here paid again z) q f;
         },
         omega (arith, v .counted .joins),
       )

@@ -1,12 +1,13 @@
 -- What is left to do gives the answer: the invariant of each loop of a pass. Assumes nothing.
 use mathlib.Core.Path.{_≡_, refl, sym, ap, _∙_, subst}
-use Prim.Native.Nat.{ℕ, _≤_}
+use Prim.Native.Nat.{ℕ, _+_, _≤_}
 use native.Mathlib.Nat.{le-refl, le-trans}
-use lib.ListN.{length, drop}
+use native.Mathlib.Omega.{arith}
+use lib.ListN.{length}
 use Rattle.basics.specs.Lists.{drop-later-same}
 use Rattle.working_order.specs.Order.{going, andThen}
 use Rattle.rows.specs.Base as order
-use Rattle.covers.specs.Rows.{Journal}
+use Rattle.covers.specs.Rows.{Journal, KeptBeyond}
 use Rattle.verdicts.specs.Meanings.{progressOf, outcomeOf, countsIn}
 use Rattle.verdicts.specs.Contracts.{Answers}
 use Rattle.deciding.specs.declared.Counts.{Counts}
@@ -17,8 +18,9 @@ use Rattle.verdicts.specs.declared.Outcome.{Outcome}
 pub record Remaining (B : ℕ) (target rest : order.Outcome) (w₀ : Counts) (j₀ : Journal) (w : Counts) (j : Journal) : Type 0 where
   pub left : rest ≡ target
   pub same : length j ≡ length j₀
-  pub beyond : drop (w .used) j ≡ drop (w .used) j₀
+  pub beyond : KeptBeyond (w .used) j₀ j
   pub grows : w₀ .used ≤ w .used
+  pub adds : w .used + w₀ .added ≡ w₀ .used + w .added
   pub room : w .used ≤ length j₀
   pub paid : w .joins ≤ B
 
@@ -28,11 +30,11 @@ Ends r = (j : Journal) (K : order.Progress → order.Outcome) → andThen (outco
 
 module _ {B : ℕ} {target : order.Outcome} {w₀ : Counts} {j₀ : Journal} where
   pub remaining-start : w₀ .used ≤ length j₀ → w₀ .joins ≤ B → Remaining B target target w₀ j₀ w₀ j₀
-  remaining-start h p = record { left = refl; same = refl; beyond = refl; grows = le-refl (w₀ .used); room = h; paid = p }
+  remaining-start h p = record { left = refl; same = refl; beyond = refl; grows = le-refl (w₀ .used); adds = refl; room = h; paid = p }
 
   -- a part f was done, and K is left
   module _ {rest : order.Outcome} {w : Counts} {j : Journal} (l : Remaining B target rest w₀ j₀ w j) (f : order.Outcome) (K : order.Progress → order.Outcome) (e : rest ≡ andThen f K) (j′ : Journal) (s : length j′ ≡ length j) where
-    chain : (n : ℕ) → w .used ≤ n → drop n j′ ≡ drop n j → drop n j′ ≡ drop n j₀
+    chain : (n : ℕ) → w .used ≤ n → KeptBeyond n j j′ → KeptBeyond n j₀ j′
     chain n h d = d ∙ drop-later-same (w .used) n j j₀ h (l .beyond)
 
     pub remaining-going : (w′ : Counts) → Answers B f w j j′ (Going w′) → Remaining B target (K (progressOf w′ j′)) w₀ j₀ w′ j′
@@ -42,6 +44,7 @@ module _ {B : ℕ} {target : order.Outcome} {w₀ : Counts} {j₀ : Journal} whe
           same = s ∙ l .same;
           beyond = chain (w′ .used) (a .grows) (a .beyond);
           grows = le-trans (l .grows) (a .grows);
+          adds = omega (arith, a .adds, l .adds);
           room = subst (λ (n : ℕ). w′ .used ≤ n) (l .same) (a .room);
           paid = a .paid;
         }
@@ -52,9 +55,10 @@ module _ {B : ℕ} {target : order.Outcome} {w₀ : Counts} {j₀ : Journal} whe
           answer = sym (h j′ K) ∙ ap (λ (x : order.Outcome). andThen x K) (a .answer) ∙ sym e ∙ l .left;
           beyond = chain (countsIn r .used) (a .grows) (a .beyond);
           grows = le-trans (l .grows) (a .grows);
+          adds = omega (arith, a .adds, l .adds);
           room = subst (λ (n : ℕ). countsIn r .used ≤ n) (l .same) (a .room);
           paid = a .paid;
         }
 
   pub remaining-none : {w : Counts} {j : Journal} → Remaining B target (going (progressOf w j)) w₀ j₀ w j → Answers B target w₀ j₀ j (Going w)
-  remaining-none l = record { answer = l .left; beyond = l .beyond; grows = l .grows; room = l .room; paid = l .paid }
+  remaining-none l = record { answer = l .left; beyond = l .beyond; grows = l .grows; adds = l .adds; room = l .room; paid = l .paid }

@@ -43,20 +43,14 @@ module _ {letters : List ℕ} {rules : List (List ℕ)} {start : State} {j₀ : 
   pub limit : length j ≤ rowCells
   limit = omega (arith, sized .limit, stands-on .size)
 
-  start-is : s .terms .start ≡ goes-on .first .used
-  start-is = ap (λ (x : _). x .start) (goes-on .begun .terms)
-
-  start-fits : s .terms .start ≤ length j
-  start-fits = omega (arith, start-is, goes-on .in-pass .left .grows, used-fits)
-
   some-row : 0 < length j
   some-row = omega (arith, sized .some, stands-on .size)
 
   pub left-inside : s .left < length j
-  left-inside = subst (λ (n : ℕ). n < length j) (sym (goes-on .left)) (position-inside (s .place .left) (s .terms .start) (length j) start-fits some-row)
+  left-inside = subst (λ (n : ℕ). n < length j) (sym (goes-on .left)) (position-inside (s .place .left) (s .counts .used) (length j) used-fits some-row)
 
   pub right-inside : s .right < length j
-  right-inside = subst (λ (n : ℕ). n < length j) (sym (goes-on .right)) (position-inside (s .place .right) (s .terms .start) (length j) start-fits some-row)
+  right-inside = subst (λ (n : ℕ). n < length j) (sym (goes-on .right)) (position-inside (s .place .right) (s .counts .used) (length j) used-fits some-row)
 
   pub may-form : (128 ≤ length letters) × (s .place .rule < length rules)
   may-form = (sized .all, omega (arith, goes-on .here, length-take (start .rules) rules))

@@ -15,7 +15,7 @@ use Rattle.places.specs.Places as places
 use Rattle.covers.specs.Covers.{tableCells, listsFrom, listsIn, Covering}
 use Rattle.covers.specs.Rows.{Journal, firstRows}
 use Rattle.retiring.specs.Clearing.{Settled}
-use Rattle.deciding.specs.Forming.{positionRow, formedIn}
+use Rattle.deciding.specs.Forming.{isSpent, positionRow, formedIn}
 use Rattle.deciding.specs.Looking.{Leads, Finds, InLook}
 use Rattle.deciding.specs.declared.Counts.{Counts}
 use Rattle.deciding.specs.declared.Look.{Look}
@@ -60,8 +60,8 @@ module _ (letters : List ℕ) (rules : List (List ℕ)) (finals B : ℕ) (j₀ :
     pub listed : Listed (firstRows (first .used) journal) (listsIn t)
     pub in-pass : InPass (s .terms) letters (listsIn t) rules first journal t (s .counts) j (s .place)
     pub here : s .place .rule < length rules
-    pub left : s .left ≡ positionRow (s .place .left) (s .terms .start)
-    pub right : s .right ≡ positionRow (s .place .right) (s .terms .start)
+    pub left : s .left ≡ positionRow (s .place .left) (s .counts .used)
+    pub right : s .right ≡ positionRow (s .place .right) (s .counts .used)
     pub unspent : s .counts .joins < B
 
   -- at a place, or at the end
@@ -132,6 +132,7 @@ pub record MayNote (s : State) (l : Look) (t : List ℕ) : Type 0 where
 pub record MayDecide (s : State) : Type 0 where
   pub used : s .counts .used ≤ rowCells
   pub joins : s .counts .joins < s .terms .budget
+  pub added : s .counts .added ≤ s .counts .used
 
 pub record MayOpen (rules : List (List ℕ)) (n : ℕ) (w : Counts) (t : List ℕ) : Type 0 where
   pub table : length t ≡ tableCells
@@ -164,23 +165,24 @@ DoneAt b letters rules t first j₁ j x = (q : Place) → places.Follows (listsI
 
 -- the candidate may be passed over
 abbrev pub passesAt : Terms → ℕ → Reached → Bool
-passesAt b n x = ltb (x .place .rule) n && (ltb (x .counts .joins) (b .budget) && repeatsAt (b .before) (x .place))
+passesAt b n x = ltb (x .place .rule) n && (not (isSpent (b .budget) (x .counts .joins)) && repeatsAt (b .before) (x .place))
 
 -- with joins alone
 pub record Counted (x r : Reached) : Type 0 where
   pub joins : x .counts .joins ≤ r .counts .joins
   pub used : r .counts .used ≡ x .counts .used
+  pub added : r .counts .added ≡ x .counts .added
 
 -- if the candidate of x has been handled, then so have all up to that of r, which has the same rule and left row
 pub record PassesRights (t : List ℕ) (b : Terms) (x r : Reached) : Type 0 where
   pub counted : Counted x r
   pub done : (letters : List ℕ) (rules : List (List ℕ)) (first : Counts) (j₁ j : Journal) → x .place .rule < length rules → repeatsAt (b .before) (x .place) ≡ true
-      → b .before ≤ rowCells → b .start ≡ first .used → Listed (firstRows (first .used) j₁) (listsIn t) → DoneAt b letters rules t first j₁ j x → DoneAt b letters rules t first j₁ j r
+      → b .before ≤ rowCells → Listed (firstRows (first .used) j₁) (listsIn t) → DoneAt b letters rules t first j₁ j x → DoneAt b letters rules t first j₁ j r
 
 -- from a place to a place
 pub record PassesOver (rules : List (List ℕ)) (t : List ℕ) (b : Terms) (x r : Reached) : Type 0 where
   pub counted : Counted x r
-  pub stands : (letters : List ℕ) (first : Counts) (j₁ j : Journal) → b .before ≤ rowCells → b .start ≡ first .used → Listed (firstRows (first .used) j₁) (listsIn t)
+  pub stands : (letters : List ℕ) (first : Counts) (j₁ j : Journal) → b .before ≤ rowCells → Listed (firstRows (first .used) j₁) (listsIn t)
       → InPass b letters (listsIn t) rules first j₁ t (x .counts) j (x .place) → InPass b letters (listsIn t) rules first j₁ t (r .counts) j (r .place)
 
 -- ---- the steps between candidates

@@ -5,10 +5,9 @@ use mathlib.Core.List.{List}
 use Prim.Native.Nat.{ℕ, _+_, _≤_, _<_}
 use native.Mathlib.Nat.{le-refl, le-trans}
 use native.Mathlib.Omega.{arith}
-use lib.Arith.{lt-of-le-ne}
-use lib.Dec.{eqb, ltb}
+use lib.Dec.{ltb}
 use lib.ListN.{length}
-use borrow.Author.Tests.{eqb-true, eqb-false, eq-eqb, ne-eqb, ltb-true, ltb-false}
+use borrow.Author.Tests.{leb-true, leb-false, eq-eqb, ne-eqb, ltb-true, ltb-false}
 use Rattle.calls.specs.Codes.{holdsCode, spentCode}
 use Rattle.rows.specs.Base as order
 use Rattle.rows.specs.Forming.{formedBy}
@@ -19,13 +18,14 @@ use Rattle.covers.specs.Covers.{listsIn, Covering}
 use Rattle.covers.specs.Listing.{Gathered, gathered-listed, gathered-covering}
 use Rattle.covers.specs.Rows.{Journal, firstRows}
 use Rattle.covers.specs.RowLaws.{rows-length}
+use Rattle.deciding.specs.Forming.{isSpent}
 use Rattle.deciding.specs.declared.Counts.{Counts}
 use Rattle.deciding.specs.declared.State.{State}
 use Rattle.deciding.specs.declared.Terms.{Terms}
 use Rattle.verdicts.specs.Closing.{Again, Done, endBy, endOf}
 use Rattle.verdicts.specs.Contracts.{Ready, Answers, Checked}
 use Rattle.verdicts.specs.Deciding.{answers-spent}
-use Rattle.verdicts.specs.Meanings.{totalsOf, answerIn}
+use Rattle.verdicts.specs.Meanings.{inNextPass, totalsOf, answerIn}
 use Rattle.verdicts.specs.Passes.{AtPass, pass-done, pass-again, pass-known}
 use Rattle.verdicts.specs.Passing.{InPass, pass-start, pass-end, pass-stopped}
 use Rattle.verdicts.specs.Running.{target, Sized, Begun, Onward, PassesOver}
@@ -53,7 +53,7 @@ module _ (letters : List ℕ) (rules : List (List ℕ)) (finals B : ℕ) (j₀ :
 
   module _ {first : Counts} {j₁ : Journal} {k : ℕ} (a : AtPass letters rules finals B (target letters rules finals B j₀) j₀ first j₁ k) (n : ℕ) where
     -- an outcome that ends everything
-    pub stops : {j : Journal} → length j ≡ length j₁ → (o : Outcome) {y : Answer} → Answers B (passIn (at k n first) letters rules first j₁) first j₁ j o → endOf (first .used) k o ≡ Done y → Checked (target letters rules finals B j₀) j₀ j y
+    pub stops : {j : Journal} → length j ≡ length j₁ → (o : Outcome) {y : Answer} → Answers B (passIn (at k n first) letters rules first j₁) first j₁ j o → endOf k o ≡ Done y → Checked (target letters rules finals B j₀) j₀ j y
     stops e o x d = pass-done a e {r = o} x d
 
     -- ---- at a place
@@ -65,16 +65,16 @@ module _ (letters : List ℕ) (rules : List (List ℕ)) (finals B : ℕ) (j₀ :
       -- the budget is spent there
       spent-there : p .rule < length rules → w .joins ≡ B → Checked (target letters rules finals B j₀) j₀ j (answer.Ended unbroken.Spent (totalsOf w k))
       spent-there h e =
-          let c : order.Candidate = formedBy letters (places.ruleAt rules (p .rule)) p (rowIn (firstRows (first .used) j) (p .left)) (rowIn (firstRows (first .used) j) (p .right)) in
+          let c : order.Candidate = formedBy letters (places.ruleAt rules (p .rule)) p (rowIn (firstRows (w .used) j) (p .left)) (rowIn (firstRows (w .used) j) (p .right)) in
           stops (g .left .same) (outcome.Stopped (stop.Ended unbroken.Spent w))
-          (pass-stopped (at k n first) letters (listsIn t) rules first j₁ listed g refl h {c = c} refl refl {r = outcome.Stopped (stop.Ended unbroken.Spent w)}
+          (pass-stopped (at k n first) letters (listsIn t) rules first j₁ listed g h {c = c} refl refl {r = outcome.Stopped (stop.Ended unbroken.Spent w)}
           (answers-spent (at k n first) c w j (omega (arith, g .left .room, g .left .same)) (g .left .paid) e) (λ i K. refl)) refl
 
       pub stand-there : p .rule < length rules → Onward letters rules finals B j₀ w (standing s (at k n first) w p) j t
-      stand-there h = by (eqb (w .joins) B) refl
+      stand-there h = by (isSpent B (w .joins)) refl
         where
-          by : (b : Bool) → eqb (w .joins) B ≡ b → Onward letters rules finals B j₀ w (standingBy b s (at k n first) w p) j t
-          by true e = over w (at k n first) spentCode 0 j t size refl (spent-there h (eqb-true (w .joins) B e))
+          by : (b : Bool) → isSpent B (w .joins) ≡ b → Onward letters rules finals B j₀ w (standingBy b s (at k n first) w p) j t
+          by true e = over w (at k n first) spentCode 0 j t size refl (spent-there h (omega (arith, leb-true B (w .joins) e, g .left .paid)))
           by false e =
               record {
                 stands = record {
@@ -90,7 +90,7 @@ module _ (letters : List ℕ) (rules : List (List ℕ)) (finals B : ℕ) (j₀ :
                     here = h;
                     left = refl;
                     right = refl;
-                    unspent = lt-of-le-ne (g .left .paid) (eqb-false (w .joins) B e);
+                    unspent = leb-false B (w .joins) e;
                   };
                   ends = λ z. absurd z;
                 };
@@ -101,16 +101,16 @@ module _ (letters : List ℕ) (rules : List (List ℕ)) (finals B : ℕ) (j₀ :
     -- ---- after the last place
 
     module _ {j : Journal} (e : length j ≡ length j₁) {w : Counts} (x : Answers B (passIn (at k n first) letters rules first j₁) first j₁ j (outcome.Going w)) where
-      pub close-last : (t : List ℕ) → w .used ≡ first .used → Onward letters rules finals B j₀ w (finished s (at k n first) w) j t
-      close-last t u = over w (at k n first) holdsCode 0 j t (e ∙ a .same) refl (stops e (outcome.Going w) x (ap (λ (b : Bool). endBy b w k) (eq-eqb (w .used) (first .used) u)))
+      pub close-last : (t : List ℕ) → w .added ≡ 0 → Onward letters rules finals B j₀ w (finished s (at k n first) w) j t
+      close-last t u = over w (at k n first) holdsCode 0 j t (e ∙ a .same) refl (stops e (outcome.Going w) x (ap (λ (b : Bool). endBy b w k) (eq-eqb (w .added) 0 u)))
 
-      again : (w .used ≡ first .used → ⊥) → endOf (first .used) k (outcome.Going w) ≡ Again w
-      again z = ap (λ (b : Bool). endBy b w k) (ne-eqb (w .used) (first .used) z)
+      again : (w .added ≡ 0 → ⊥) → endOf k (outcome.Going w) ≡ Again w
+      again z = ap (λ (b : Bool). endBy b w k) (ne-eqb (w .added) 0 z)
 
-      pub close-again : (w .used ≡ first .used → ⊥) → AtPass letters rules finals B (target letters rules finals B j₀) j₀ w j (k + 1)
+      pub close-again : (w .added ≡ 0 → ⊥) → AtPass letters rules finals B (target letters rules finals B j₀) j₀ (inNextPass w) j (k + 1)
       close-again z = pass-again a e {r = outcome.Going w} x (again z)
 
-      pub close-known : (w .used ≡ first .used → ⊥) → length j₀ ≤ rowCells → Known (first .used) (candidatesIn letters rules (firstRows (w .used) j)) (firstRows (w .used) j)
+      pub close-known : (w .added ≡ 0 → ⊥) → length j₀ ≤ rowCells → Known (first .used) (candidatesIn letters rules (firstRows (w .used) j)) (firstRows (w .used) j)
       close-known z few = pass-known a e {r = outcome.Going w} x (again z) few
 
   -- where the pass has begun
@@ -124,7 +124,7 @@ module _ (letters : List ℕ) (rules : List (List ℕ)) (finals B : ℕ) (j₀ :
   pub over-reached : {first : Counts} {j₁ : Journal} (y : Begun letters rules finals B j₀ s first j₁) {t : List ℕ} {j : Journal} {x r : Reached} → PassesOver rules t (s .terms) x r → Listed (firstRows (first .used) j₁) (listsIn t)
       → InPass (s .terms) letters (listsIn t) rules first j₁ t (x .counts) j (x .place) → InPass (s .terms) letters (listsIn t) rules first j₁ t (r .counts) j (r .place)
   over-reached {first} {j₁} y {t} {j} v listed g =
-      v .stands letters first j₁ j (omega (arith, ap (λ (b : Terms). b .before) (y .terms), y .fits)) (ap (λ (b : Terms). b .start) (y .terms)) listed g
+      v .stands letters first j₁ j (omega (arith, ap (λ (b : Terms). b .before) (y .terms), y .fits)) listed g
 
   -- ---- a pass begins
 
@@ -148,11 +148,11 @@ module _ (letters : List ℕ) (rules : List (List ℕ)) (finals B : ℕ) (j₀ :
     -- at its first place, and then at one that is reached from there
     module _ (p : Place) (o : places.Opens (listsIn t′) rules 0 p) {r : Reached} (v : PassesOver rules t′ (at k n w) (record { counts = w; place = p }) r) where
       reached : InPass (at k n w) letters (listsIn t′) rules w j t′ (r .counts) j (r .place)
-      reached = v .stands letters w j j fits refl listed (pass-start (at k n w) letters (listsIn t′) rules w j listed t′ p ready known o)
+      reached = v .stands letters w j j fits listed (pass-start (at k n w) letters (listsIn t′) rules w j listed t′ p ready known o)
 
       pub open-reached : Onward letters rules finals B j₀ w (opening s (at k n w) r) j t′
       open-reached = onward-from (v .counted .joins) (by (ltb (r .place .rule) (s .rules)) refl)
         where
           by : (b : Bool) → ltb (r .place .rule) (s .rules) ≡ b → Onward letters rules finals B j₀ (r .counts) (openingBy b s (at k n w) r) j t′
           by true e = stand-there a n fits known listed reached (omega (arith, ltb-true (r .place .rule) (s .rules) e, count))
-          by false e = close-last a n refl (pass-end (at k n w) letters (listsIn t′) rules w j listed reached (omega (arith, ltb-false (r .place .rule) (s .rules) e, count))) t′ (v .counted .used)
+          by false e = close-last a n refl (pass-end (at k n w) letters (listsIn t′) rules w j listed reached (omega (arith, ltb-false (r .place .rule) (s .rules) e, count))) t′ (v .counted .added ∙ a .none-added)

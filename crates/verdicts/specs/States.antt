@@ -1,10 +1,10 @@
 -- The states that a step leaves. Definitions only. Assumes nothing.
 use mathlib.Core.Bool.{Bool, true, false}
 use Prim.Native.Nat.{ℕ}
-use lib.Dec.{eqb, ltb}
+use lib.Dec.{ltb}
 use Rattle.calls.specs.Codes.{holdsCode, brokenCode, spentCode}
 use Rattle.rows.specs.declared.Place.{Place}
-use Rattle.deciding.specs.Forming.{positionRow}
+use Rattle.deciding.specs.Forming.{isSpent, positionRow}
 use Rattle.deciding.specs.declared.Counts.{Counts}
 use Rattle.deciding.specs.declared.State.{State}
 use Rattle.deciding.specs.declared.Terms.{Terms}
@@ -22,8 +22,8 @@ standingBy true s t w p = ended s t w spentCode 0
 standingBy false s t w p =
     record {
       going = true;
-      left = positionRow (p .left) (t .start);
-      right = positionRow (p .right) (t .start);
+      left = positionRow (p .left) (w .used);
+      right = positionRow (p .right) (w .used);
       terms = t;
       counts = w;
       place = p;
@@ -35,7 +35,7 @@ standingBy false s t w p =
 
 -- at a place, if the budget is not spent
 abbrev pub standing : State → Terms → Counts → Place → State
-standing s t w p = standingBy (eqb (w .joins) (t .budget)) s t w p
+standing s t w p = standingBy (isSpent (t .budget) (w .joins)) s t w p
 
 -- after a pass that has added no row: what the working order's `finish` says
 abbrev pub finished : State → Terms → Counts → State

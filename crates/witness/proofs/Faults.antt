@@ -2,34 +2,30 @@
 use mathlib.Core.Path.{_≡_, refl, sym, ap, _∙_}
 use mathlib.Core.Bool.{Bool, true, false, not, _||_, cond}
 use mathlib.Core.List.{List}
-use Prim.Native.Nat.{ℕ, zero, suc, _+_, _<_}
+use Prim.Native.Nat.{ℕ, _+_, _<_}
 use native.Mathlib.Omega.{arith}
 use lib.Dec.{ltb, leb}
 use lib.ListN.{length, getD}
 use borrow.Author.Tests.{ltb-true, ltb-false, leb-true, leb-false, not-false, le-leb}
 use Rattle.basics.specs.Tests.{or-neither}
 use Rattle.language.specs.Grammar.{Rule}
+use Rattle.plan_file.specs.RefusalLaws.{not-held}
+use Rattle.working_order.specs.Algebra.{Forms}
 use Rattle.working_order.specs.Journal.{Row, noRow, capped}
 use Rattle.working_order.specs.Behind.{wordBehind}
 use Rattle.working_order.specs.Fitting.{rowsFit}
 use Rattle.calls.specs.Base.{words}
 use Rattle.calls.specs.BaseLaws.{word-sizes}
-use Rattle.calls.specs.Checking.{journalFault}
-use Rattle.calls.specs.Writing.{longWord, rowFault, roomFault}
+use Rattle.calls.specs.Writing.{longWord, tooLong, rowFault, roomFault}
 use Rattle.fitting.specs.Forms.{noForms}
 use Rattle.witness.specs.Parts.{olderRow, Ready}
-use Rattle.witness.specs.Writes.{tooLong, orNumber, writeFault}
-use Rattle.working_order.specs.FittingLaws.{FitThrough, fit-through}
+use Rattle.working_order.specs.FittingLaws.{FitThrough, fit-through, fit-same}
 use Rattle.working_order.specs.BehindLaws.{len-behind}
 
--- a test that refuses with a number, and does not
-pub not-refused : (b : Bool) (k : ℕ) → cond b (suc k) 0 ≡ 0 → b ≡ false
-not-refused true k e = absurd (let z : ⊥ = omega arith in z)
-not-refused false k e = refl
-
-pub neither : (f g : ℕ) → orNumber f g ≡ 0 → (f ≡ 0) × (g ≡ 0)
-neither zero g e = (refl, e)
-neither (suc f) g e = absurd (let z : ⊥ = omega arith in z)
+-- 9 does not ask for effects
+pub row-fault-same : (M N : Forms ℕ) (rules : List Rule) (rows : List (Row ℕ)) (used i : ℕ) → rowFault M rules rows used i ≡ rowFault N rules rows used i
+unfolding rowFault
+row-fault-same M N rules rows used i = ap (λ (b : Bool). cond (not (ltb i used) || (ltb (length rows) used || not b)) 9 0) (fit-same M N rows rules (i + 1))
 
 -- 9 does not refuse
 pub record Named (rules : List Rule) (rows : List (Row ℕ)) (i : ℕ) : Type 0 where
@@ -40,7 +36,7 @@ pub named : (rules : List Rule) (rows : List (Row ℕ)) (used i : ℕ) → rowFa
 unfolding rowFault
 named rules rows used i e =
     let fit = rowsFit noForms rows rules (i + 1) in
-    let u = or-neither (not (ltb i used)) (ltb (length rows) used || not fit) (not-refused (not (ltb i used) || (ltb (length rows) used || not fit)) 8 e) in
+    let u = or-neither (not (ltb i used)) (ltb (length rows) used || not fit) (not-held (not (ltb i used) || (ltb (length rows) used || not fit)) 8 e) in
     let v = or-neither (ltb (length rows) used) (not fit) (u .1) in
     let l = ltb-true i used (not-false (ltb i used) (u .0)) in
     record {
@@ -71,13 +67,11 @@ module _ (rules : List Rule) (rows : List (Row ℕ)) (used i : ℕ) where
           let l = leb-false longWord n h in
           let z : k ≡ n = omega (arith, e) in ap (λ (x : ℕ). tooLong x room) z
 
-  -- none refuses: the row may be written
-  pub ready : (room : ℕ) → writeFault rules rows used i room ≡ 0 → Ready rules rows (olderRow i) room
-  unfolding writeFault roomFault
-  ready room e =
+  -- 9 and 10 do not refuse: the row may be written
+  pub ready : (room : ℕ) → rowFault noForms rules rows used i ≡ 0 → roomFault (wordBehind words rules rows i) room ≡ 0 → Ready rules rows (olderRow i) room
+  unfolding roomFault
+  ready room nine ten =
       let n = length (wordBehind words rules rows i) in
-      let a = neither (journalFault (length rows)) (orNumber (rowFault noForms rules rows used i) (roomFault (wordBehind words rules rows i) room)) e .1 in
-      let b = neither (rowFault noForms rules rows used i) (roomFault (wordBehind words rules rows i) room) a in
-      let m = named rules rows used i (b .0) in
-      let c = or-neither (leb longWord n) (ltb room n) (not-refused (leb longWord n || ltb room n) 9 (b .1)) in
+      let m = named rules rows used i nine in
+      let c = or-neither (leb longWord n) (ltb room n) (not-held (tooLong n room) 9 ten) in
       record { fits = (m .inside, m .fits); room = ltb-false room n (c .1) }

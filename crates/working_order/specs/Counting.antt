@@ -76,7 +76,7 @@ found-joins {E} A J B k broken i c t u f = ap (λ (x : Progress E). x .joins) (f
 found-joins {E} A J B k full i c t u f = ap (λ (x : Progress E). x .joins) (f .4) ∙ sym (add-one (t .joins))
 found-joins {E} A J B k spent i c t u f = ap (λ (x : Progress E). x .joins) (f .2) ∙ sym (add-zero (t .joins))
 
--- ---- the whole check
+-- ---- the whole check, where a pair of effects forms at most m
 
 module _ {E : Type 0} (A : Algebra E) (m : ℕ) (few : (x y : E) → length (A .forms .ofPair x y) ≤ m) (pos-m : 1 ≤ m) (rules : List Rule) (J B : ℕ) (pos : 1 ≤ J) where
   -- the most joins that a pass can make

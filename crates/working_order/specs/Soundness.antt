@@ -95,6 +95,8 @@ module _ {E : Type 0} where
       by false l m ih = later (ih m)
 
 module _ {E : Type 0} (A : Algebra E) (rows : List (Row E)) where
+  -- a candidate c of rule r of p, from the choices cs for the first symbol and ds for the second, comes from a choice a of cs and b of ds,
+  -- whose effects form e
   pub pairs-out : (p r : ℕ) (c : Candidate E) (cs ds : List (Choice E)) → In c (concatMap (λ a. concatMap (λ b. map (paired p r a b) (A .forms .ofPair (a .effect) (b .effect))) ds) cs)
       → (a : Choice E) × (b : Choice E) × (e : E) × In a cs × In b ds × In e (A .forms .ofPair (a .effect) (b .effect)) × (c ≡ paired p r a b e)
   pairs-out p r c cs ds m =

@@ -20,3 +20,7 @@
 //     Antichain                              live rows of one nonterminal are incomparable
 //     FittingRows, FittingLaws, BehindLaws   every used row fits; the word behind a row depends on the rows through it alone
 //     Example, Pins                          small plans over toy algebras, computed: what only a definition's text settles
+//
+// Letters, in every file: E is the type of effects, A the algebra and L its laws; W is what words are, S how they are spelled and Z the laws of
+// their sizes. J is the journal's size, B the budget, k a pass, h a number of passes or a height. s, t and u are progress; c is a candidate and
+// cs a list of them; v a verdict, i a row number, a an answer. A prime marks the same of a second check.

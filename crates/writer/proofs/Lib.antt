@@ -1,3 +1,2 @@
-mod Cases
 mod Taken
 mod Written

@@ -1,42 +1,43 @@
 -- What `write` gives, from what it asked, the rows' test and the writer. Assumes nothing.
 use mathlib.Core.Path.{_≡_, refl, sym, ap, ap₂, _∙_, subst}
 use mathlib.Core.Bool.{Bool, true, false, not, _||_, cond}
-use mathlib.Core.List.{List, _++_, map}
+use mathlib.Core.List.{List, [], _∷_, _++_, map}
 use Prim.Native.Nat.{ℕ, zero, suc, _+_, _≤_}
+use native.Mathlib.Nat.{suc-ne-zero}
 use native.Mathlib.Numerals.{add-one}
 use native.Mathlib.Omega.{arith}
 use lib.Dec.{leb, ltb}
 use lib.ListN.{length, take, drop}
 use borrow.Author.Tests.{leb-true, lt-ltb, le-ltb}
+use Rattle.relation.specs.Relation.{states}
 use Rattle.language.specs.Grammar.{Rule}
-use Rattle.calls.specs.ReplyLaws.{one-refusal}
-use Rattle.plan_file.specs.RefusalLaws.{number-none, neither-refuses}
+use Rattle.calls.specs.ReplyLaws.{reply-first}
+use Rattle.plan_file.specs.RefusalLaws.{number-none, neither-refuses, next-same, next-again, none-refuses, first-last, first-append}
 use Rattle.plan_file.specs.Refusals as refusals
-use Rattle.plan_file.specs.Refusals.{refuse, fault, byNumber, orNext}
-use Rattle.plan_file.specs.Views.{rulesOf}
+use Rattle.plan_file.specs.Refusals.{refuse, byNumber, orNext, firstOf}
+use Rattle.plan_file.specs.Views.{rulesOf, automatonOf}
 use Rattle.plan_file.specs.Answers.{refusalOf}
 use Rattle.plan_file.specs.declared.Refusal.{Refusal}
 use Rattle.working_order.specs.Journal.{Row}
 use Rattle.working_order.specs.Behind.{wordBehind}
 use Rattle.working_order.specs.Fitting.{rowsFit}
-use Rattle.calls.specs.Base.{words}
-use Rattle.calls.specs.Checking.{journalFault}
+use Rattle.calls.specs.Base.{base, words}
+use Rattle.calls.specs.Checking.{checkRefusals}
 use Rattle.calls.specs.Replies.{answered, unless, refused}
 use Rattle.calls.specs.Rows.{entryOf}
-use Rattle.calls.specs.Writing.{rowFault, roomFault, wordOf, writeOf, writtenBy, bufferAfter, WordMeans}
+use Rattle.calls.specs.Writing.{tooLong, rowFault, roomFault, wordOf, writeRefusals, writeOf, writtenBy, bufferAfter, WordMeans}
 use Rattle.calls.specs.WritingTruth.{write-means}
 use Rattle.fitting.specs.Forms.{noForms}
 use Rattle.fitting.specs.ByValue.{lastLen}
 use Rattle.fitting.specs.declared.Fit.{Fit}
-use Rattle.witness.specs.Parts.{partWord, Ready, Wrote}
-use Rattle.witness.specs.Writes.{tooLong, orNumber, writeFault, writeBy}
-use Rattle.witness.specs.OnFile.{write-of}
-use Rattle.witness.proofs.Faults.{neither, named, by-length, ready}
+use Rattle.witness.specs.Parts.{nothing, olderRow, partWord, Ready, Wrote}
+use Rattle.witness.proofs.Faults.{row-fault-same, named, by-length, ready}
 use Rattle.writer.specs.declared.Asked.{Asked}
+use Rattle.writer.specs.declared.Writing.the-variants as writing
 use Rattle.writer.specs.Answers.{writingBy, writingOf}
-use Rattle.writer.specs.Asking.{AskedFor, countFault, rowsAsked, refusalBy, nineBy, tenBy, partBy}
+use Rattle.writer.specs.Asking.{AskedFor, countFault, refusalBy, partBy}
 use Rattle.writer.specs.Contracts.{Writes}
-use Rattle.writer.proofs.Taken.{first-some, first-none, counted}
+use Rattle.writer.proofs.Taken.{counted}
 
 abbrev nineIf : Bool → ℕ
 nineIf b = cond b 9 0
@@ -60,158 +61,135 @@ rows-decide rules rows used i e =
     let c = counted (length rows) used i e in
     ap₂ (λ (x y : Bool). cond (not x || (y || not (rowsFit noForms rows rules (i + 1)))) 9 0) (lt-ltb i used (c .0)) (le-ltb (length rows) used (c .1))
 
+-- where 9 does not refuse, the counts do not
+counts-pass : (rules : List Rule) (rows : List (Row ℕ)) (used i : ℕ) → rowFault noForms rules rows used i ≡ 0 → countFault (length rows) used i ≡ 0
+counts-pass rules rows used i e = by (countFault (length rows) used i) refl
+  where
+    by : (k : ℕ) → countFault (length rows) used i ≡ k → countFault (length rows) used i ≡ 0
+    by zero z = z
+    by (suc k) z = counts-nine rules rows used i (λ q. suc-ne-zero k (sym z ∙ q)) ∙ e
+
 module _ (bs : List ℕ) (rows : List (Row ℕ)) (used i : ℕ) (table : List (List ℕ)) (a : Asked) (h : AskedFor bs (length rows) used i table a) where
   abbrev known : List Rule
   known = map entryOf (take (a .rules) table)
 
-  -- nothing refused so far
-  record Quiet : Type 0 where
-    file : fault bs .number ≡ 0
-    eight : journalFault (length rows) ≡ 0
-    counts : countFault (length rows) used i ≡ 0
-    rows-are : a .rows ≡ i + 1
-    rules-are : known ≡ rulesOf bs
+  -- what refuses by the file and the journal, and by the counts
+  abbrev start : refusals.Refusal
+  start = firstOf (checkRefusals bs (length rows))
 
-  quiet : a .refusal .number ≡ 0 → Quiet
-  quiet z =
-      let f = orNumber (journalFault (length rows)) (countFault (length rows) used i) in
-      let none : orNext (fault bs) (refuse f 0) .number ≡ 0 = sym (ap (λ (r : refusals.Refusal). r .number) (h .refusal)) ∙ z in
-      let v = neither-refuses (fault bs) (refuse f 0) none in
-      let o = neither (journalFault (length rows)) (countFault (length rows) used i) (v .1) in
-      record {
-        file = v .0;
-        eight = o .0;
-        counts = o .1;
-        rows-are = h .rows ∙ ap (λ (k : ℕ). rowsAsked k i) z;
-        rules-are = h .entries z;
-      }
+  abbrev counts : refusals.Refusal
+  counts = refuse (countFault (length rows) used i) 0
+
+  -- the rows that are looked at, and the rules, where nothing refused so far
+  rows-are : a .refusal .number ≡ 0 → a .rows ≡ i + 1
+  rows-are z = h .rows ∙ number-none 0 (i + 1) (a .refusal .number) z
 
   -- the rows that are looked at are there
   pub rows-low : a .rows ≤ length rows
   rows-low = by (a .refusal .number) refl
     where
       by : (k : ℕ) → a .refusal .number ≡ k → a .rows ≤ length rows
-      by zero e = let q = quiet e in let c = counted (length rows) used i (q .counts) in omega (arith, c .0, c .1, q .rows-are)
-      by (suc k) e = omega (arith, h .rows ∙ ap (λ (k : ℕ). rowsAsked k i) e)
+      by zero z =
+          let n = neither-refuses start counts (sym (ap (λ (r : refusals.Refusal). r .number) (h .refusal)) ∙ z) in
+          let c = counted (length rows) used i (n .1) in
+          omega (arith, c .0, c .1, rows-are z)
+      by (suc k) z = omega (arith, h .rows ∙ ap (λ (k : ℕ). byNumber k 0 (i + 1)) z)
 
   module _ (f : Fit) (fits : f .fits ≡ rowsFit noForms rows known (a .rows)) (len : f .len ≡ lastLen rows (a .rows)) (room : ℕ) where
-    abbrev final : Refusal
-    final = refusalBy a f room
+    abbrev w : List ℕ
+    w = wordBehind words (rulesOf bs) rows i
 
-    abbrev whole : refusals.Refusal
-    whole = orNext (fault bs) (refuse (writeFault (rulesOf bs) rows used i room) 0)
+    -- 9, as the definition of the call has it, and with no effects asked for
+    abbrev nine : ℕ
+    nine = rowFault (base states (automatonOf bs) .forms) (rulesOf bs) rows used i
 
-    -- 8 or the counts refused
-    early : (fault bs .number ≡ 0) → (orNumber (journalFault (length rows)) (countFault (length rows) used i) ≡ 0 → ⊥)
-        → orNumber (journalFault (length rows)) (countFault (length rows) used i) ≡ writeFault (rulesOf bs) rows used i room
-    unfolding writeFault
-    early v z = by (journalFault (length rows)) z
-      where
-        m : ℕ
-        m = roomFault (wordBehind words (rulesOf bs) rows i) room
+    nine-is : nine ≡ rowFault noForms (rulesOf bs) rows used i
+    nine-is = row-fault-same (base states (automatonOf bs) .forms) noForms (rulesOf bs) rows used i
 
-        by : (k : ℕ) → (orNumber k (countFault (length rows) used i) ≡ 0 → ⊥) → orNumber k (countFault (length rows) used i) ≡ orNumber k (orNumber (rowFault noForms (rulesOf bs) rows used i) m)
-        by (suc k) z = refl
-        by zero z =
-            let e = counts-nine (rulesOf bs) rows used i z in
-            e ∙ sym (first-some (rowFault noForms (rulesOf bs) rows used i) m (λ q. z (e ∙ q)))
+    -- 9 by the rows, and 10 by the length in the named row
+    abbrev of-rows : refusals.Refusal
+    of-rows = refuse (cond (not (f .fits)) 9 0) 0
 
-    -- the rows or the length decide
-    late : Quiet → (b : Bool) → f .fits ≡ b → refusalOf (nineBy b (tooLong (f .len) room)) ≡ refuse (writeFault (rulesOf bs) rows used i room) 0
-    unfolding writeFault roomFault
-    late q b e = by b (sym e ∙ fits ∙ ap₂ (λ (xs : List Rule) (k : ℕ). rowsFit noForms rows xs k) (q .rules-are) (q .rows-are))
-      where
-        w : List ℕ
-        w = wordBehind words (rulesOf bs) rows i
+    abbrev of-room : refusals.Refusal
+    of-room = refuse (cond (tooLong (f .len) room) 10 0) 0
 
-        nine : ℕ
-        nine = rowFault noForms (rulesOf bs) rows used i
+    module _ (z : start .number ≡ 0) where
+      none-so-far : countFault (length rows) used i ≡ 0 → a .refusal .number ≡ 0
+      none-so-far c = ap (λ (r : refusals.Refusal). r .number) (h .refusal ∙ number-none start counts (start .number) z) ∙ c
 
-        fault-is : orNumber (journalFault (length rows)) (orNumber nine (roomFault w room)) ≡ orNumber nine (roomFault w room)
-        fault-is = first-none (journalFault (length rows)) (orNumber nine (roomFault w room)) (q .eight)
+      -- 9 by the counts or by the rows is 9
+      nines : orNext counts of-rows ≡ refuse nine 0
+      nines = by (countFault (length rows) used i) refl ∙ ap (λ (k : ℕ). refuse k 0) (sym nine-is)
+        where
+          by : (k : ℕ) → countFault (length rows) used i ≡ k → orNext (refuse k 0) of-rows ≡ refuse (rowFault noForms (rulesOf bs) rows used i) 0
+          by zero c =
+              let q = none-so-far c in
+              let same : f .fits ≡ rowsFit noForms rows (rulesOf bs) (i + 1) = fits ∙ ap₂ (λ (xs : List Rule) (k : ℕ). rowsFit noForms rows xs k) (h .entries q) (rows-are q) in
+              ap (λ (k : ℕ). refuse k 0) (ap (λ (b : Bool). cond (not b) 9 0) same ∙ sym (rows-decide (rulesOf bs) rows used i c))
+          by (suc k) c = ap (λ (k : ℕ). refuse k 0) (sym c ∙ counts-nine (rulesOf bs) rows used i (λ q. suc-ne-zero k (sym c ∙ q)))
 
-        by : (b : Bool) → b ≡ rowsFit noForms rows (rulesOf bs) (i + 1) → refusalOf (nineBy b (tooLong (f .len) room)) ≡ refuse (orNumber (journalFault (length rows)) (orNumber nine (roomFault w room))) 0
-        by false e =
-            ap (λ (k : ℕ). refuse k 0) (sym (fault-is ∙ ap (λ (k : ℕ). orNumber k (roomFault w room)) (rows-decide (rulesOf bs) rows used i (q .counts) ∙ ap (λ (b : Bool). cond (not b) 9 0) (sym e))))
-        by true e =
-            let o : nine ≡ 0 = rows-decide (rulesOf bs) rows used i (q .counts) ∙ ap (λ (b : Bool). cond (not b) 9 0) (sym e) in
-            let same : tooLong (f .len) room ≡ tooLong (length w) room =
-            ap (λ (k : ℕ). tooLong k room) (len ∙ ap (lastLen rows) (q .rows-are ∙ add-one i)) ∙ by-length (rulesOf bs) rows used i (named (rulesOf bs) rows used i o) room
-            in
-            ap (λ (b : Bool). refusalOf (tenBy b)) same ∙ ten (tooLong (length w) room)
-            ∙ ap (λ (k : ℕ). refuse k 0) (sym (fault-is ∙ ap (λ (k : ℕ). orNumber k (roomFault w room)) o))
-          where
-            ten : (b : Bool) → refusalOf (tenBy b) ≡ refuse (cond b 10 0) 0
-            ten true = refl
-            ten false = refl
+      -- 10 by the length in the row is 10 by the word's
+      tens : nine ≡ 0 → of-room ≡ firstOf (refuse (roomFault w room) 0 ∷ [])
+      unfolding roomFault
+      tens e =
+          let n : rowFault noForms (rulesOf bs) rows used i ≡ 0 = sym nine-is ∙ e in
+          let q = none-so-far (counts-pass (rulesOf bs) rows used i n) in
+          ap (λ (b : Bool). refuse (cond b 10 0) 0) (ap (λ (k : ℕ). tooLong k room) (len ∙ ap (lastLen rows) (rows-are q ∙ add-one i)) ∙ by-length (rulesOf bs) rows used i (named (rulesOf bs) rows used i n) room)
+          ∙ sym (first-last (roomFault w room))
 
-    final-is : refusalOf final ≡ whole
-    final-is = by (a .refusal .number) refl
-      where
-        by : (k : ℕ) → a .refusal .number ≡ k → refusalOf (byNumber k (a .refusal) (nineBy (f .fits) (tooLong (f .len) room))) ≡ whole
-        by zero e = let q = quiet e in late q (f .fits) refl ∙ sym (number-none (fault bs) (refuse (writeFault (rulesOf bs) rows used i room) 0) (fault bs .number) (q .file))
-        by (suc k) e = h .refusal ∙ split (fault bs .number) refl
-          where
-            g : ℕ
-            g = orNumber (journalFault (length rows)) (countFault (length rows) used i)
+      late : orNext counts (orNext of-rows of-room) ≡ firstOf (refuse nine 0 ∷ refuse (roomFault w room) 0 ∷ [])
+      late = sym (next-again counts of-rows of-room) ∙ ap (λ (r : refusals.Refusal). orNext r of-room) nines ∙ next-same (refuse nine 0) of-room (firstOf (refuse (roomFault w room) 0 ∷ [])) tens
 
-            split : (n : ℕ) → fault bs .number ≡ n → byNumber n (fault bs) (refuse g 0) ≡ byNumber n (fault bs) (refuse (writeFault (rulesOf bs) rows used i room) 0)
-            split (suc n) v = refl
-            split zero v = ap (λ (m : ℕ). refuse m 0) (early v (λ z. let y : ⊥ = omega (arith, sym e ∙ ap (λ (r : refusals.Refusal). r .number) (h .refusal ∙ number-none (fault bs) (refuse g 0) (fault bs .number) v) ∙ z) in y))
+    -- t is the refusal that the code has
+    module _ (t : Refusal) (et : refusalOf t ≡ refusalBy a f room) where
+      final-is : refusalOf t ≡ firstOf (writeRefusals bs rows used i room)
+      unfolding wordOf
+      final-is =
+          et ∙ ap (λ (r : refusals.Refusal). orNext r (orNext of-rows of-room)) (h .refusal) ∙ next-again start counts (orNext of-rows of-room)
+          ∙ next-same start (orNext counts (orNext of-rows of-room)) (firstOf (refuse nine 0 ∷ refuse (roomFault w room) 0 ∷ [])) late
+          ∙ sym (first-append (checkRefusals bs (length rows)) (refuse nine 0 ∷ refuse (roomFault w room) 0 ∷ []))
 
-    -- the call is not refused, so nothing was before
-    asked-quiet : final .number ≡ 0 → Quiet
-    asked-quiet z = quiet (by (a .refusal .number) refl z)
-      where
-        by : (k : ℕ) → a .refusal .number ≡ k → byNumber k (a .refusal) (nineBy (f .fits) (tooLong (f .len) room)) .number ≡ 0 → a .refusal .number ≡ 0
-        by zero e z = e
-        by (suc k) e z = z
+      -- where it has no number, the rules are the file's
+      rules-are : t .number ≡ 0 → known ≡ rulesOf bs
+      rules-are e = h .entries (neither-refuses (refusalOf (a .refusal)) (orNext of-rows of-room) (sym (ap (λ (r : refusals.Refusal). r .number) et) ∙ e) .0)
 
-    -- what is handed to the writer may be written
-    pub ready-for : Ready known rows (partBy (final .number) i) room
-    ready-for = by (final .number) refl
-      where
-        by : (k : ℕ) → final .number ≡ k → Ready known rows (partBy k i) room
-        by (suc k) e = record { fits = tt; room = omega arith }
-        by zero e =
-            let q = asked-quiet e in
-            let none : writeFault (rulesOf bs) rows used i room ≡ 0 =
-            sym (ap (λ (r : refusals.Refusal). r .number) (final-is ∙ number-none (fault bs) (refuse (writeFault (rulesOf bs) rows used i room) 0) (fault bs .number) (q .file))) ∙ e
-            in
-            subst (λ (xs : List Rule). Ready xs rows (partBy 0 i) room) (sym (q .rules-are)) (ready (rulesOf bs) rows used i room none)
+      -- what is handed to the writer may be written
+      pub ready-for : Ready known rows (partBy t i) room
+      unfolding wordOf
+      ready-for = by (t .number) refl
+        where
+          by : (k : ℕ) → t .number ≡ k → Ready known rows (byNumber k nothing (olderRow i)) room
+          by (suc k) e = record { fits = tt; room = omega arith }
+          by zero e =
+              let none = none-refuses (writeRefusals bs rows used i room) (sym (ap (λ (r : refusals.Refusal). r .number) final-is) ∙ e) in
+              subst (λ (xs : List Rule). Ready xs rows (olderRow i) room) (sym (rules-are e)) (ready (rulesOf bs) rows used i room (sym nine-is ∙ none .1 .1 .0) (none .1 .1 .1 .0))
 
-    -- the file's refusal and the others are the one that the call has
-    reply-is : writeOf bs rows used i room ≡ unless (refusalOf final) (answered (length (wordBehind words (rulesOf bs) rows i)))
-    unfolding writeBy
-    reply-is =
-        let w = answered (length (wordBehind words (rulesOf bs) rows i)) in
-        write-of bs rows used i room ∙ one-refusal (fault bs) (refuse (writeFault (rulesOf bs) rows used i room) 0) w ∙ ap (λ (r : refusals.Refusal). unless r w) (sym final-is)
+      -- the reply goes by that refusal
+      reply-is : writeOf bs rows used i room ≡ unless (refusalOf t) (answered (length w))
+      unfolding writeOf wordOf
+      reply-is = reply-first (writeRefusals bs rows used i room) (length w) ∙ ap (λ (r : refusals.Refusal). unless r (answered (length w))) (sym final-is)
 
 -- what the writer wrote is what the call is to give
 pub writes : (bs : List ℕ) (rows : List (Row ℕ)) (used i : ℕ) (table : List (List ℕ)) (a : Asked) → AskedFor bs (length rows) used i table a → (f : Fit) → f .fits ≡ rowsFit noForms rows (map entryOf (take (a .rules) table)) (a .rows) → f .len ≡ lastLen rows (a .rows)
-    → (old new : List ℕ) (n : ℕ) → let r = refusalBy a f (length old) in Wrote (partWord (map entryOf (take (a .rules) table)) rows (partBy (r .number) i)) old new n → Writes bs rows used i old new (writingBy (r .number) r n)
+    → (old new : List ℕ) (n : ℕ) (t : Refusal) → refusalOf t ≡ refusalBy a f (length old) → Wrote (partWord (map entryOf (take (a .rules) table)) rows (partBy t i)) old new n → Writes bs rows used i old new (writingBy t n)
 unfolding bufferAfter wordOf
-writes bs rows used i table a h f fits len old new n w =
-    let r = refusalBy a f (length old) in
-    let reply = reply-is bs rows used i table a h f fits len (length old) in
-    let g = by (r .number) refl w in
-    let after : new ≡ bufferAfter bs rows used i old = g .1 ∙ ap (writtenBy (wordBehind words (rulesOf bs) rows i) old) (sym reply) in
+writes bs rows used i table a h f fits len old new n t et o =
+    let reply = reply-is bs rows used i table a h f fits len (length old) t et in
+    let g = by (t .number) refl o in
+    let after : new ≡ bufferAfter bs rows used i old = g .1 ∙ ap (writtenBy v old) (sym reply) in
     let means = write-means bs rows used i old in
     record { answer = g .0 ∙ sym reply; buffer = after; meaning = subst (λ (xs : List ℕ). WordMeans bs rows i xs (writeOf bs rows used i (length old))) (sym after) means }
   where
-    by : (k : ℕ) → refusalBy a f (length old) .number ≡ k → Wrote (partWord (map entryOf (take (a .rules) table)) rows (partBy k i)) old new n
-        → (writingOf (writingBy k (refusalBy a f (length old)) n) ≡ unless (refusalOf (refusalBy a f (length old))) (answered (length (wordBehind words (rulesOf bs) rows i))))
-        × (new ≡ writtenBy (wordBehind words (rulesOf bs) rows i) old (unless (refusalOf (refusalBy a f (length old))) (answered (length (wordBehind words (rulesOf bs) rows i)))))
-    by zero e w =
-        let q = asked-quiet bs rows used i table a h f fits len (length old) e in
-        let word : wordBehind words (map entryOf (take (a .rules) table)) rows i ≡ wordBehind words (rulesOf bs) rows i = ap (λ (xs : List Rule). wordBehind words xs rows i) (q .rules-are) in
-        let count : n ≡ length (wordBehind words (rulesOf bs) rows i) = w .count ∙ ap length word in
-        let back : answered (length (wordBehind words (rulesOf bs) rows i)) ≡ unless (refusalOf (refusalBy a f (length old))) (answered (length (wordBehind words (rulesOf bs) rows i))) =
-        sym (ap (λ (k : ℕ). byNumber k (refused (refusalOf (refusalBy a f (length old)))) (answered (length (wordBehind words (rulesOf bs) rows i)))) e)
-        in (
-          ap answered count ∙ back,
-          w .bytes ∙ ap₂ (λ (u : List ℕ) (m : ℕ). u ++ drop m old) word count ∙ ap (writtenBy (wordBehind words (rulesOf bs) rows i) old) back,
-        )
-    by (suc k) e w =
-        let back = sym (ap (λ (k : ℕ). byNumber k (refused (refusalOf (refusalBy a f (length old)))) (answered (length (wordBehind words (rulesOf bs) rows i)))) e) in
-        (back, w .bytes ∙ ap (λ (m : ℕ). drop m old) (w .count) ∙ ap (writtenBy (wordBehind words (rulesOf bs) rows i) old) back)
+    v : List ℕ
+    v = wordBehind words (rulesOf bs) rows i
+
+    by : (k : ℕ) → t .number ≡ k → Wrote (partWord (map entryOf (take (a .rules) table)) rows (byNumber k nothing (olderRow i))) old new n
+        → (writingOf (byNumber k (writing.Refused t) (writing.Length n)) ≡ unless (refusalOf t) (answered (length v))) × (new ≡ writtenBy v old (unless (refusalOf t) (answered (length v))))
+    by zero e o =
+        let word : wordBehind words (map entryOf (take (a .rules) table)) rows i ≡ v = ap (λ (xs : List Rule). wordBehind words xs rows i) (rules-are bs rows used i table a h f fits len (length old) t et e) in
+        let count : n ≡ length v = o .count ∙ ap length word in
+        let back : answered (length v) ≡ unless (refusalOf t) (answered (length v)) = sym (number-none (refused (refusalOf t)) (answered (length v)) (t .number) e) in
+        (ap answered count ∙ back, o .bytes ∙ ap₂ (λ (u : List ℕ) (m : ℕ). u ++ drop m old) word count ∙ ap (writtenBy v old) back)
+    by (suc k) e o =
+        let back = sym (ap (λ (k : ℕ). byNumber k (refused (refusalOf t)) (answered (length v))) e) in
+        (back, o .bytes ∙ ap (λ (m : ℕ). drop m old) (o .count) ∙ ap (writtenBy v old) back)

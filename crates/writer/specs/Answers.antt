@@ -7,9 +7,9 @@ use Rattle.calls.specs.Replies.{Reply, refused, answered}
 use Rattle.writer.specs.declared.Writing.{Writing}
 use Rattle.writer.specs.declared.Writing.the-variants as writing
 
--- by the number of the refusal
-abbrev pub writingBy : ℕ → Refusal → ℕ → Writing
-writingBy f r n = byNumber f (writing.Refused r) (writing.Length n)
+-- the refusal, where it has a number, and else the length
+abbrev pub writingBy : Refusal → ℕ → Writing
+writingBy r n = byNumber (r .number) (writing.Refused r) (writing.Length n)
 
 abbrev pub writingOf : Writing → Reply ℕ
 writingOf (writing.Refused r) = refused (refusalOf r)

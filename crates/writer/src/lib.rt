@@ -8,7 +8,8 @@ use witness::Part;
 ghost use mathlib.Core.Path.{_≡_};
 ghost use mathlib.Core.List.{map};
 ghost use Rattle.calls.specs.Rows.{rowOf};
-ghost use Rattle.witness.specs.Writes.{tooLong};
+ghost use Rattle.calls.specs.Writing.{tooLong};
+ghost use Rattle.plan_file.specs.Answers.{refusalOf, numbered};
 ghost use Rattle.writer.specs.Answers.{writingBy};
 ghost use Rattle.writer.specs.Asking.{AskedFor, countFault, refusalBy, partBy};
 ghost use Rattle.writer.specs.Contracts.{Writes};
@@ -27,35 +28,21 @@ struct Asked {
     rows: usize,
 }
 
-// 9, as far as the counts decide: the row is not below the used count, or that count exceeds the journal.
-fn count_fault(rows: usize, used: usize, row: usize) -> u64
-    ensures { λ r. ⌜ r ≡ countFault rows used row ⌝ }
+// Returns 9, as far as the counts decide: `row` is not below `used`, or `used` exceeds the journal's `rows`.
+fn count_refusal(rows: usize, used: usize, row: usize) -> Refusal
+    ensures { λ r. ⌜ r ≡ numbered (countFault rows used row) ⌝ }
 {
-    if (used <= row) | (rows < used) {
-        return 9;
-    }
-    0
+    Refusal::when(9, (used <= row) | (rows < used))
 }
 
-// A word of n steps is too long to be written, or longer than the buffer.
+// Returns whether a word of `n` steps is too long to be written, or longer than a buffer of `room` bytes.
 fn too_long(n: u64, room: usize) -> bool
     ensures { λ r. ⌜ r ≡ tooLong n room ⌝ }
 {
     (LONG_WORD <= n) | ((room as u64) < n)
 }
 
-// Nothing is to be looked at where something refuses.
-fn refused(refusal: Refusal) -> Asked
-    ensures { λ r. ⌜ (r .refusal ≡ refusal) × (r .rules ≡ 0) × (r .rows ≡ 0) ⌝ }
-{
-    Asked {
-        refusal,
-        rules: 0,
-        rows: 0,
-    }
-}
-
-// Fills in the table of rules where nothing refuses.
+// Returns what refuses the call by `file` and the counts, and reads the rules of `file` into `rules` where nothing does.
 fn ask(
     file: &[u8],
     rules: &mut [[u8; 4]; RULE_LIMIT],
@@ -66,53 +53,35 @@ fn ask(
     ensures { λ r. ⌜ AskedFor (now (file .entry)) rows used row (now (rules .exit)) r ⌝ }
 {
     let of_start = requests::refusal_for(file, rows);
-    if of_start.number != 0 {
-        return refused(of_start);
-    }
-    let number = count_fault(rows, used, row);
-    if number != 0 {
-        return refused(Refusal { number, place: 0 });
+    let so_far = of_start.or(count_refusal(rows, used, row));
+    if so_far.number != 0 {
+        return Asked {
+            refusal: so_far,
+            rules: 0,
+            rows: 0,
+        };
     }
     let n = tables::rule_table(file, rules);
     Asked {
-        refusal: Refusal {
-            number: 0,
-            place: 0,
-        },
+        refusal: so_far,
         rules: n,
         rows: row + 1,
     }
 }
 
-// The refusal of the whole call: 9 where the rows do not fit, 10 by the length in the row.
+// Returns the refusal of the whole call: what `asked` has, then 9 where the rows do not fit, then 10 by the length in the row.
 fn refusal_of(asked: Asked, fit: Fit, room: usize) -> Refusal
-    ensures { λ r. ⌜ r ≡ refusalBy asked fit room ⌝ }
+    ensures { λ r. ⌜ refusalOf r ≡ refusalBy asked fit room ⌝ }
 {
     let so_far = asked.refusal;
-    if so_far.number != 0 {
-        return so_far;
-    }
-    if !fit.fits {
-        return Refusal {
-            number: 9,
-            place: 0,
-        };
-    }
-    if too_long(fit.len, room) {
-        return Refusal {
-            number: 10,
-            place: 0,
-        };
-    }
-    Refusal {
-        number: 0,
-        place: 0,
-    }
+    let of_rows = Refusal::when(9, !fit.fits);
+    let of_room = Refusal::when(10, too_long(fit.len, room));
+    so_far.or(of_rows.or(of_room))
 }
 
-// The named row, or nothing where the call is refused.
+// Returns the named row, or nothing where the call is refused.
 fn part_of(refusal: Refusal, row: usize) -> Part
-    ensures { λ r. ⌜ r ≡ partBy (refusal .number) row ⌝ }
+    ensures { λ r. ⌜ r ≡ partBy refusal row ⌝ }
 {
     if refusal.number != 0 {
         return witness::no_part();
@@ -125,8 +94,9 @@ fn part_of(refusal: Refusal, row: usize) -> Part
     }
 }
 
+// Returns `said` where it has a number, and else the length `n`.
 fn as_writing(said: Refusal, n: usize) -> Writing
-    ensures { λ r. ⌜ r ≡ writingBy (said .number) said n ⌝ }
+    ensures { λ r. ⌜ r ≡ writingBy said n ⌝ }
 {
     if said.number != 0 {
         return Writing::Refused(said);
@@ -134,7 +104,7 @@ fn as_writing(said: Refusal, n: usize) -> Writing
     Writing::Length(n)
 }
 
-// Writes the word behind a row of the journal, of which so many rows are used, to the front of the buffer: proved by hand.
+// Writes the word behind `row` of the journal, of which `used` rows are used, to the front of `buffer`, and returns its length: proved by hand.
 pub fn write(file: &[u8], journal: &[Row], used: usize, row: usize, buffer: &mut [u8]) -> Writing
     ensures { λ r. ⌜ Writes (now (file .entry)) (map rowOf (now (journal .entry))) used row (now (buffer .entry)) (now (buffer .exit)) r ⌝ }
 {

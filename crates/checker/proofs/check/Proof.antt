@@ -282,7 +282,7 @@ module _ {M : Type 1} (𝓤 : URA M) (H : Heap 𝓤) (A : Atoms 𝓤) (W : Given
         split ! $ split ! $ array-back ! tt u32 μ₃ ε₃ 45824 (us .1 .0) l₆ 33 refl (λ k₃. split ! $ array-unshared ! tt u64 μ₁ xs l₄ 37 refl $ array-unshared ! tt Entry μ₂ ys l₅ 34 refl $
         land ! (from ! (stop !)) (init ! 26 refl (typed 𝓤 H A W S.the-type S′.the-laws st st-is .0)) $
         -- the answer
-        calls-plain saying.ended (saying.clauses 𝓤 H A mem run) (to-saying (b .refusal) (refusal-is b b-is) st st-is) tt (asks-saying (b .refusal) (refusal-is b b-is) st st-is) (λ c. c ≡ checkedBy (b .refusal .number) (b .refusal) (answerIn st)) (λ c vs. id⊢ 𝓤 _)
+        calls-plain saying.ended (saying.clauses 𝓤 H A mem run) (to-saying (b .refusal) (refusal-is b b-is) st st-is) tt (asks-saying (b .refusal) (refusal-is b b-is) st st-is) (λ c. c ≡ checkedBy (b .refusal) (answerIn st)) (λ c vs. id⊢ 𝓤 _)
         checkedVal (EL.tells Ck.the-type Ck′.the-laws) ! fm (known .1 .1 .0) (and-then ! (field-of ! 28 refl refl refl) (and-then ! (its ! 26 refl) (no-more !))) (λ c ec c-is.
         land ! (from ! (stop !)) (init ! 44 refl (checked-typed c c-is)) $
         array-gone ! u64 128 xs l₄ 36 m₁ refl $ array-gone ! Entry 256 ys l₅ 34 m₂ refl $ array-gone ! u32 45824 (us .1 .0) l₆ 32 k₃ refl $

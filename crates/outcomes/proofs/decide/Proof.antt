@@ -14,4 +14,4 @@ returns-3 : tie.Need-returns-3
 returns-3 c = rw (c .before .before .before .before .if1 .left, ne-eqb _ _ (c .before .before .if2 .left), c .born .ensures, c .before .breaks .ensures)
 
 pub decide-spec : {M : Type 1} → statement M
-decide-spec = tie.close (tie.spec (λ c. search needs) returns returns-2 (λ c. search needs) (λ c κs. search needs) (λ c κs. search needs) returns-3)
+decide-spec = tie.close (tie.spec (λ c. search needs) returns returns-2 (λ c. search needs) (λ c. search needs) (λ c κs. search needs) (λ c κs. search needs) returns-3)

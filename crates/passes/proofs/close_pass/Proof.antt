@@ -1,6 +1,7 @@
 -- `passes::close_pass` meets its contract: the last pass, or one more. Assumes nothing.
-use mathlib.Core.Path.{_≡_, refl, sym, ap, _∙_, subst}
+use mathlib.Core.Path.{_≡_, refl, sym, ap, subst}
 use Prim.Native.Nat.{_+_}
+use native.Mathlib.Nat.{le-refl}
 use native.Mathlib.Omega.{arith}
 use lib.ListN.{length, take}
 use lib.Seq.{length-take-le}
@@ -10,7 +11,7 @@ use Rattle.verdicts.specs.Running.{Onward}
 use Rattle.verdicts.specs.States.{finished}
 use Rattle.verdicts.specs.Walks.{passIn}
 use Rattle.verdicts.specs.declared.Outcome.the-variants.{Going}
-use Rattle.verdicts.specs.RunningLaws.{close-last, close-again, close-known}
+use Rattle.verdicts.specs.RunningLaws.{onward-from, close-last, close-again, close-known}
 use Rattle.deciding.specs.declared.Terms.{Terms}
 use Rattle.passes.proofs.close_pass.Statement.{statement}
 use Rattle.passes.proofs.close_pass.Tie as tie
@@ -23,7 +24,7 @@ returns c letters finals B j₀ first j₁ j z rows y h x g =
     let n : st .rules ≡ length rs = sym (length-take-le (st .rules) (s .args .rules .now) (s .pre .opens .count)) in
     rw (c .finish .ensures)
     (subst (λ (b : Terms). Onward letters rs finals B j₀ (s .args .counts) (finished st b (s .args .counts)) j (s .args .table .now)) (sym (y .terms))
-    (close-last letters rs finals B j₀ st rows n (y .at-pass) (y .before) h (subst (λ (b : Terms). Answers B (passIn b letters rs first j₁) first j₁ j (Going (s .args .counts))) (y .terms) x) (s .args .table .now) (c .before .if1 .taken ∙ ap (λ (b : Terms). b .start) (y .terms))))
+    (close-last letters rs finals B j₀ st rows n (y .at-pass) (y .before) h (subst (λ (b : Terms). Answers B (passIn b letters rs first j₁) first j₁ j (Going (s .args .counts))) (y .terms) x) (s .args .table .now) (c .before .if1 .taken)))
 
 returns-2 : tie.Need-returns-2
 returns-2 c letters finals B j₀ first j₁ j z rows y h x g =
@@ -32,13 +33,13 @@ returns-2 c letters finals B j₀ first j₁ j z rows y h x g =
     let rs = take (s .args .state .rules) (s .args .rules .now) in
     let n : st .rules ≡ length rs = sym (length-take-le (st .rules) (s .args .rules .now) (s .pre .opens .count)) in
     let w = s .args .counts in
-    let begun : st .terms .start ≡ first .used = ap (λ (b : Terms). b .start) (y .terms) in
-    let more : w .used ≡ first .used → ⊥ = λ q. c .before .before .before .before .before .before .if1 .left (q ∙ sym begun) in
+    let more : w .added ≡ 0 → ⊥ = c .before .before .before .before .before .before .if1 .left in
     let gave = subst (λ (b : Terms). Answers B (passIn b letters rs first j₁) first j₁ j (Going w)) (y .terms) x in
     rw (c .stand-or-finish .ensures)
+    (onward-from letters rs finals B j₀ st rows n (le-refl (w .joins))
     (c .before .before .before .open-pass .ensures letters finals B j₀ j (y .pass + 1) (first .used) st refl z rows (close-again letters rs finals B j₀ st rows n (y .at-pass) (y .before) h gave more)
     (ap (λ (b : Terms). record { budget = b .budget; finals = b .finals; pass = b .pass + 1; start = w .used; before = b .start }) (y .terms))
-    (omega (arith, y .at-pass .room, z .limit)) (close-known letters rs finals B j₀ st rows n (y .at-pass) (y .before) h gave more (z .limit)) g)
+    (omega (arith, y .at-pass .room, z .limit)) (close-known letters rs finals B j₀ st rows n (y .at-pass) (y .before) h gave more (z .limit)) g))
 
 pub close-pass-spec : {M : Type 1} → statement M
 close-pass-spec = tie.close (tie.spec (λ c κs. search needs) returns (λ c. search needs) (λ c κs. search needs) (λ c κs. search needs) (λ c. search needs) returns-2)

@@ -5,17 +5,17 @@ use Prim.Native.Nat.{ℕ, _-_}
 use native.Mathlib.Omega.{arith}
 use borrow.Author.Needs.{needs}
 use borrow.Author.Tests.{eq-eqb, ne-eqb}
-use Rattle.plan_file.specs.Refusals.{exceeds, rises}
+use Rattle.plan_file.specs.Refusals.{rises, exceedsIn}
 use Rattle.plan_file.specs.EntryLaws.{whole}
 use Rattle.reader.proofs.exceeds.Statement.{statement}
 use Rattle.reader.proofs.exceeds.Tie as tie
 
 returns : tie.Need-returns
-unfolding exceeds
+unfolding exceedsIn
 returns c = rw (eq-eqb _ _ (c .if1 .taken))
 
 returns-2 : tie.Need-returns-2
-unfolding exceeds
+unfolding exceedsIn
 returns-2 c =
     let a = c .before .before .before .before .before .args in
     let f = a .file .now in

@@ -5,14 +5,14 @@ use mathlib.Core.List.{List}
 use Prim.Native.Nat.{ℕ}
 use native.Mathlib.Omega.{arith}
 use borrow.Author.Needs.{needs}
-use Rattle.plan_file.specs.Refusals.{kindKnown, aboveRange, strayByte, overLimit, faultBy}
+use Rattle.plan_file.specs.Refusals.{kindKnown, aboveRange, strayByte, overLimit, faultByIn}
 use Rattle.plan_file.specs.EntryLaws.{whole}
 use Rattle.plan_file.specs.RefusalLaws.{test-next}
 use Rattle.reader.proofs.fault_by.Statement.{statement}
 use Rattle.reader.proofs.fault_by.Tie as tie
 
 returns : tie.Need-returns
-unfolding faultBy
+unfolding faultByIn
 returns c =
     let to-7 = c .before .before .before .before .before .before .before .before in
     let to-6 = c .before .before .before .before .before .before in

@@ -1,12 +1,12 @@
 -- `above_range` meets its contract: the body is the definition's text. Assumes nothing.
 use mathlib.Core.Path.{refl}
 use borrow.Author.Needs.{needs}
-use Rattle.plan_file.specs.Refusals.{aboveRange}
+use Rattle.plan_file.specs.Refusals.{aboveRangeIn}
 use Rattle.record_checks.proofs.above_range.Statement.{statement}
 use Rattle.record_checks.proofs.above_range.Tie as tie
 
 returns : tie.Need-returns
-unfolding aboveRange
+unfolding aboveRangeIn
 returns c = refl
 
 pub above-range-spec : {M : Type 1} → statement M

@@ -1,12 +1,12 @@
 -- `stray_byte` meets its contract: the body is the definition's text. Assumes nothing.
 use mathlib.Core.Path.{refl}
 use borrow.Author.Needs.{needs}
-use Rattle.plan_file.specs.Refusals.{strayByte}
+use Rattle.plan_file.specs.Refusals.{strayByteIn}
 use Rattle.record_checks.proofs.stray_byte.Statement.{statement}
 use Rattle.record_checks.proofs.stray_byte.Tie as tie
 
 returns : tie.Need-returns
-unfolding strayByte
+unfolding strayByteIn
 returns c = refl
 
 pub stray-byte-spec : {M : Type 1} → statement M

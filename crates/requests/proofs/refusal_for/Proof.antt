@@ -1,15 +1,16 @@
--- The file's refusal, then 8. Assumes nothing.
-use mathlib.Core.Path.{ap}
-use Prim.Native.Nat.{ℕ}
+-- The file's refusal, then 8: the list's order. Assumes nothing.
+use mathlib.Core.Path.{sym, ap, _∙_}
 use borrow.Author.Needs.{needs}
-use Rattle.plan_file.specs.Refusals.{refuse}
-use Rattle.plan_file.specs.RefusalLaws.{said-or}
+use Rattle.plan_file.specs.Answers.{refusalOf}
+use Rattle.plan_file.specs.RefusalLaws.{said-or, first-last}
+use Rattle.calls.specs.Checking.{journalFault}
 use Rattle.requests.proofs.refusal_for.Statement.{statement}
 use Rattle.requests.proofs.refusal_for.Tie as tie
 
 returns : tie.Need-returns
+unfolding journalFault
 returns c =
-    said-or _ _ _ (c .or .ensures) (c .before .before .file-refusal .ensures) (ap (λ (k : ℕ). refuse k 0) (c .before .journal-fault .ensures))
+    said-or _ _ _ (c .or .ensures) (c .before .before .file-refusal .ensures) (ap refusalOf (c .before .when .ensures) ∙ sym (first-last (journalFault (c .before .before .before .before .args .rows))))
 
 pub refusal-for-spec : {M : Type 1} → statement M
 refusal-for-spec = tie.close (tie.spec (λ c κs. search needs) (λ c κs. search needs) (λ c κs. search needs) returns)

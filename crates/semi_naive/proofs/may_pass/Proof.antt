@@ -5,7 +5,7 @@ use Rattle.semi_naive.proofs.may_pass.Statement.{statement}
 use Rattle.semi_naive.proofs.may_pass.Tie as tie
 
 returns : tie.Need-returns
-returns c = rw (c .repeats .ensures) refl
+returns c = rw (c .before .spent .ensures, c .repeats .ensures) refl
 
 pub may-pass-spec : {M : Type 1} → statement M
-may-pass-spec = tie.close (tie.spec (λ c κs. search needs) returns)
+may-pass-spec = tie.close (tie.spec (λ c κs. search needs) (λ c κs. search needs) returns)

@@ -1,6 +1,6 @@
 -- `semi_naive::pass_rights` meets its contract. The loop's invariant: the candidates up to the right are done. Assumes nothing.
-use mathlib.Core.Path.{_≡_}
-use mathlib.Core.Bool.{true, _&&_}
+use mathlib.Core.Path.{_≡_, subst}
+use mathlib.Core.Bool.{Bool, true, not, _&&_}
 use Prim.Native.Nat.{ℕ, _-_, _<_}
 use native.Mathlib.Omega.{arith}
 use lib.Dec.{ltb}
@@ -9,7 +9,8 @@ use borrow.Author.Tests.{ltb-true}
 use Rattle.basics.specs.Tests.{and-fst, and-snd}
 use Rattle.places.specs.Lists.{afterIn}
 use Rattle.covers.specs.Covers.{listsIn}
-use Rattle.verdicts.specs.PassingOver.{withRight, rights-none, rights-next}
+use Rattle.deciding.specs.Forming.{isSpent}
+use Rattle.verdicts.specs.PassingOver.{not-spent, withRight, rights-none, rights-next}
 use Rattle.verdicts.specs.Running.{PassesRights}
 use Rattle.semi_naive.proofs.pass_rights.Statement.{statement}
 use Rattle.semi_naive.proofs.pass_rights.Tie as tie
@@ -27,30 +28,31 @@ loop-holds c =
     (c .after-in .ensures, rights-none (a .table .now) (a .terms) (a .done))
 
 -- what the loop's test says
-tested : (next before joins budget : ℕ) → (ltb next before && ltb joins budget) ≡ true → (next < before) × (joins < budget)
-tested next before joins budget e = (ltb-true next before (and-fst (ltb next before) (ltb joins budget) e), ltb-true joins budget (and-snd (ltb next before) (ltb joins budget) e))
+tested : (next before joins budget : ℕ) (spent : Bool) → spent ≡ isSpent budget joins → (ltb next before && not spent) ≡ true → (next < before) × (joins < budget)
+tested next before joins budget spent s e =
+    (ltb-true next before (and-fst (ltb next before) (not spent) e), not-spent budget joins (subst (λ (b : Bool). not b ≡ true) s (and-snd (ltb next before) (not spent) e)))
 
 add-joins : tie.Need-add-joins Inv-loop μ-loop
 add-joins c =
     let b = c .before .before .before .before .before .before .before .before .args .terms in
     let l = c .before .before .before .loop in
-    omega (arith, tested (l .next) (b .before) (l .joins) (b .budget) (c .if1 .taken) .1, c .before .struct-known2)
+    omega (arith, tested (l .next) (b .before) (l .joins) (b .budget) _ (c .before .spent .ensures) (c .if1 .taken) .1, c .before .before .struct-known)
 
 loop-less : tie.Need-loop-less Inv-loop μ-loop
 loop-less c =
     let b = c .before .before .before .before .before .before .before .before .before .args .terms in
     let l = c .before .before .before .before .loop in
-    omega (arith, tested (l .next) (b .before) (l .joins) (b .budget) (c .before .if1 .taken) .1)
+    omega (arith, tested (l .next) (b .before) (l .joins) (b .budget) _ (c .before .before .spent .ensures) (c .before .if1 .taken) .1)
 
 loop-again : tie.Need-loop-again Inv-loop μ-loop
 loop-again c =
     let a = c .before .before .before .before .before .before .before .before .before .args in
     let l = c .before .before .before .before .loop in
-    let t = tested (l .next) (a .terms .before) (l .joins) (a .terms .budget) (c .before .if1 .taken) in
+    let t = tested (l .next) (a .terms .before) (l .joins) (a .terms .budget) _ (c .before .before .spent .ensures) (c .before .if1 .taken) in
     (c .after-in2 .ensures, rights-next (a .table .now) (a .terms) (a .done) (l .joins) (l .right) (l .next) (l .inv .1) (l .inv .0) (t .0) (t .1))
 
 returns : tie.Need-returns Inv-loop μ-loop
 returns c = c .before .before .before .loop .inv .1
 
 pub pass-rights-spec : {M : Type 1} → statement M
-pass-rights-spec = tie.close (tie.spec Inv-loop μ-loop (λ c κs. search needs) loop-holds add-joins (λ c κs. search needs) loop-less loop-again returns)
+pass-rights-spec = tie.close (tie.spec Inv-loop μ-loop (λ c κs. search needs) loop-holds (λ c κs. search needs) add-joins (λ c κs. search needs) loop-less loop-again returns)

@@ -44,6 +44,7 @@ use Rattle.lent.proofs.LocalArrays.{lifts, lays, uses, front-length, take-all, 
 use Rattle.lent.proofs.Opening.{Arguments, entering}
 use Rattle.lent.proofs.Parameters.{Param, shared, handed, number, datum, dropped, stays, typed-all}
 use Rattle.lent.proofs.SharedFront.{front-of, sees-front}
+use Rattle.calls.specs.Codes.{refusedBy}
 use Rattle.calls.specs.Rows.{rowOf, blank}
 use Rattle.calls.specs.declared.Row.{Row}
 use Rattle.calls.specs.Checking.{journalLimit}
@@ -63,7 +64,7 @@ use Rattle.checker.proofs.check.Symbol as checks-def
 use Rattle.checker.proofs.check.Met as checks-thm
 use Rattle.standalone.specs.Contracts.{ChecksAlone}
 use Rattle.telling.specs.Fronts.{frontOf, placeOf, nameIn}
-use Rattle.telling.specs.Telling.{refusedBy, toldBy}
+use Rattle.telling.specs.Telling.{toldBy}
 use Rattle.standalone.specs.TellingLaws.{few-bytes, tells-alone}
 use Rattle.telling.specs.declared.Named.{Named}
 use Rattle.telling.specs.declared.Told.{Told}

@@ -4,7 +4,7 @@ use mathlib.Core.Path.{_≡_, refl, ap, _∙_}
 use mathlib.Core.Logic.{⊎-elim}
 use Prim.Native.Nat.{ℕ, _+_, _-_, _≤_}
 use native.Mathlib.Omega.{arith}
-use Rattle.plan_file.specs.Records.{countOf}
+use Rattle.plan_file.specs.Records.{countOf, countIn}
 use Rattle.plan_file.specs.WalkLaws.{count-yes, count-no}
 use Rattle.views.proofs.count_of.Statement.{statement}
 use Rattle.views.proofs.count_of.Tie as tie
@@ -16,7 +16,7 @@ abbrev μ-loop : tie.MeasureT-loop
 μ-loop file kind n count₀ i₀ count i = n - i
 
 loop-holds : tie.Need-loop-holds Inv-loop μ-loop
-unfolding countOf
+unfolding countIn
 loop-holds c = (omega arith, (omega arith, refl))
 
 loop-again : tie.Need-loop-again Inv-loop μ-loop

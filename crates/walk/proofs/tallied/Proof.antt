@@ -4,6 +4,7 @@ use Prim.Native.Nat.{ℕ, _+_, _<_, _^_}
 use native.Mathlib.Nat.{add-zero}
 use native.Mathlib.Omega.{arith}
 use borrow.Author.Needs.{needs}
+use Rattle.plan_file.specs.Answers.{refusalOf}
 use Rattle.reader.specs.declared.Step.{Step}
 use Rattle.reader.specs.Answers.{stepOf}
 use Rattle.walk.specs.Given.{rulesGiven, transitionsGiven}
@@ -31,7 +32,7 @@ returns-2 : tie.Need-returns-2
 returns-2 c =
     let d = c .before in
     let t = d .before .before .before .before .before .before .before .args .t in
-    rw (d .before .before .before .before .before .s .given .1) (refl, ap (λ (k : ℕ). t .rules + k) (d .before .before .before .rules-in .ensures), ap (λ (k : ℕ). t .transitions + k) (d .before .transitions-in .ensures), c .none .ensures)
+    rw (d .before .before .before .before .before .s .given .1) (refl, ap (λ (k : ℕ). t .rules + k) (d .before .before .before .rules-in .ensures), ap (λ (k : ℕ). t .transitions + k) (d .before .transitions-in .ensures), ap refusalOf (c .none .ensures))
 
 pub tallied-spec : {M : Type 1} → statement M
 tallied-spec = tie.close (tie.spec (λ c. search needs) (λ c κs. search needs) returns (λ c κs. search needs) add-rules (λ c κs. search needs) add-transitions (λ c κs. search needs) returns-2)

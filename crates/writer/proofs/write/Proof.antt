@@ -46,6 +46,7 @@ use Rattle.lent.proofs.Locals.{its, field-of, sets}
 use Rattle.lent.proofs.LocalArrays.{lifts, lays, uses, from-start, array-made, array-gone, lends-whole, whole-back, shares-front, front-unshared}
 use Rattle.lent.proofs.Opening.{Arguments, entering}
 use Rattle.lent.proofs.Parameters.{Param, shared, handed, number, dropped, stays, typed-all}
+use Rattle.plan_file.specs.Answers.{refusalOf}
 use Rattle.plan_file.specs.Limits.{ruleLimit}
 use Rattle.plan_file.specs.declared.Refusal.{Refusal}
 use Rattle.plan_file.proofs.Refusal as F
@@ -273,14 +274,14 @@ module _ {M : Type 1} (𝓤 : URA M) (H : Heap 𝓤) (A : Atoms 𝓤) (W : Given
     rules-room : length zs ≡ ruleLimit → Room Entry (r .rules)
     rules-room l = (omega (arith, h .rules, l), omega (arith, h .rules, l))
 
-    module _ (g : Fit) (e : (g .fits ≡ rowsFit noForms rows (map entryOf (take (r .rules) zs)) (r .rows)) × (g .len ≡ lastLen rows (r .rows))) (t : Refusal) (et : t ≡ refusalBy r g (length (now d))) (x : Part) (ex : x ≡ partBy (t .number) i) where
+    module _ (g : Fit) (e : (g .fits ≡ rowsFit noForms rows (map entryOf (take (r .rules) zs)) (r .rows)) × (g .len ≡ lastLen rows (r .rows))) (t : Refusal) (et : refusalOf t ≡ refusalBy r g (length (now d))) (x : Part) (ex : x ≡ partBy t i) where
       ready : Ready (map entryOf (take (r .rules) zs)) rows x (length (now d))
-      ready = rw (ex, et) (ready-for (now s) rows used i zs r asked-rows g (e .0) (e .1) (length (now d)))
+      ready = rw ex (ready-for (now s) rows used i zs r asked-rows g (e .0) (e .1) (length (now d)) t et)
 
-      written : (new : List ℕ) (n : ℕ) → Wrote (partWord (map entryOf (take (r .rules) zs)) rows x) (now d) new n → (w : Writing) → w ≡ writingBy (t .number) t n → Writes (now s) rows used i (now d) new w
+      written : (new : List ℕ) (n : ℕ) → Wrote (partWord (map entryOf (take (r .rules) zs)) rows x) (now d) new n → (w : Writing) → w ≡ writingBy t n → Writes (now s) rows used i (now d) new w
       written new n o w ew =
-          subst (λ (z : Writing). Writes (now s) rows used i (now d) new z) (sym (ew ∙ ap (λ (u : Refusal). writingBy (u .number) u n) et))
-          (writes (now s) rows used i zs r asked-rows g (e .0) (e .1) (now d) new n (subst (λ (y : Part). Wrote (partWord (map entryOf (take (r .rules) zs)) rows y) (now d) new n) (ex ∙ ap (λ (u : Refusal). partBy (u .number) i) et) o))
+          subst (λ (z : Writing). Writes (now s) rows used i (now d) new z) (sym ew)
+          (writes (now s) rows used i zs r asked-rows g (e .0) (e .1) (now d) new n t et (subst (λ (y : Part). Wrote (partWord (map entryOf (take (r .rules) zs)) rows y) (now d) new n) ex o))
 
   module _ (𝓣 : Tables 𝓤 H) (known : Knows 𝓤 H A mem run 𝓣 callees) (wt : Arguments (code.function .locals) (sliceVal (s .ptr) (length (now s)) ∷ sliceVal (j .ptr) (length (now j)) ∷ vint w64 used ∷ vint w64 i ∷ sliceVal (d .ptr) (length (now d)) ∷ [])) where
     from-entry : ent 𝓤 (onEntry 𝓤 H A f.signature (κ, (κ′, (κ″, tt))) (q, (q′, (q″, tt))) a at)
@@ -316,9 +317,9 @@ module _ {M : Type 1} (𝓤 : URA M) (H : Heap 𝓤) (A : Atoms 𝓤) (W : Given
         land ! (from ! (stop !)) (init ! 18 refl (typed 𝓤 H A W Ft.the-type Ft′.the-laws g g-is .0)) $
         -- what is refused, and what is written
         sets ! (of-opd ! (field-of ! 26 refl refl refl)) (store ! 6 refl (tt, record { fits = gd .0 })) $
-        calls-plain refusing.ended (refusing.clauses 𝓤 H A mem run) (to-refusing r g r-is g-is) tt (asks-refusing r g r-is g-is) (λ t. t ≡ refusalBy r g (length (now d))) (λ t us. id⊢ 𝓤 _) F′.lowered (F′.lowers .val-is) ! fm (known .1 .1 .0)
+        calls-plain refusing.ended (refusing.clauses 𝓤 H A mem run) (to-refusing r g r-is g-is) tt (asks-refusing r g r-is g-is) (λ t. refusalOf t ≡ refusalBy r g (length (now d))) (λ t us. id⊢ 𝓤 _) F′.lowered (F′.lowers .val-is) ! fm (known .1 .1 .0)
         (and-then ! (its ! 22 refl) (and-then ! (its ! 18 refl) (and-then ! (its ! 6 refl) (no-more !)))) (λ t et t-is. land ! (from ! (stop !)) (init ! 16 refl (typed 𝓤 H A W F.the-type F′.the-laws t t-is .0)) $
-        calls-plain parting.ended (parting.clauses 𝓤 H A mem run) (to-parting t t-is i gi) tt (asks-parting t t-is i gi) (λ x. x ≡ partBy (t .number) i) (λ x us. id⊢ 𝓤 _) Pt′.lowered (Pt′.lowers .val-is) ! fm (known .1 .1 .1 .0)
+        calls-plain parting.ended (parting.clauses 𝓤 H A mem run) (to-parting t t-is i gi) tt (asks-parting t t-is i gi) (λ x. x ≡ partBy t i) (λ x us. id⊢ 𝓤 _) Pt′.lowered (Pt′.lowers .val-is) ! fm (known .1 .1 .1 .0)
         (and-then ! (its ! 16 refl) (and-then ! (its ! 28 refl) (no-more !))) (λ x ex x-is. land ! (from ! (stop !)) (init ! 14 refl (typed 𝓤 H A W Pt.the-type Pt′.the-laws x x-is .0)) $
         sets ! (addr ! (from ! (fld ! refl (hop ! (look-in ! 26 (sub ! 0 refl (whole !))) (stop !))))) (init ! 2 refl (tt, tt)) $
         sets ! (agg ! (and-then ! (its ! 2 refl) (and-then ! (field-of ! 26 refl refl refl) (no-more !)))) (init ! 0 refl (tt, (tt, (record { fits = gd .0 }, tt)))) $
@@ -328,7 +329,7 @@ module _ {M : Type 1} (𝓤 : URA M) (H : Heap 𝓤) (A : Atoms 𝓤) (W : Given
         let new = us .1 .1 .1 .0 in
         drop ! $ use2 W (From-writer l₆ (r .rules) zs μ ε x x-is new) (from-writer l₆ (r .rules) zs μ ε x x-is new) $ learn ! (λ ln. split ! $ lays ! 41 $ front-unshared ! tt Entry μ (r .rules) zs l₆ 24 refl $
         land ! (from ! (stop !)) (init ! 12 refl (tt, record { fits = n-is .1 })) $
-        calls-plain saying.ended (saying.clauses 𝓤 H A mem run) (to-saying t t-is n (n-is .1)) tt (asks-saying t t-is n (n-is .1)) (λ w. w ≡ writingBy (t .number) t n) (λ w vs. id⊢ 𝓤 _) writingVal (EL.tells Wr.the-type Wr′.the-laws) ! fm (known .1 .1 .1 .1 .1 .0)
+        calls-plain saying.ended (saying.clauses 𝓤 H A mem run) (to-saying t t-is n (n-is .1)) tt (asks-saying t t-is n (n-is .1)) (λ w. w ≡ writingBy t n) (λ w vs. id⊢ 𝓤 _) writingVal (EL.tells Wr.the-type Wr′.the-laws) ! fm (known .1 .1 .1 .1 .1 .0)
         (and-then ! (its ! 16 refl) (and-then ! (its ! 12 refl) (no-more !))) (λ w ew w-is. land ! (from ! (stop !)) (init ! 36 refl (writing-typed w w-is)) $
         array-gone ! Entry ruleLimit zs l₆ 24 n₁ refl $ move ! (38 ∷ 39 ∷ 40 ∷ 41 ∷ []) $ closing ! 4 refl refl $
         by ! (exits w new w-is ln (written zs r h g eg t et x ex new n o w ew))))))))))))))

@@ -40,13 +40,13 @@ map-replicate : {A B : Type 0} (f : A → B) (n : ℕ) (a : A) → map f (replic
 map-replicate f zero a = refl
 map-replicate f (suc n) a = ap (λ xs. f a ∷ xs) (map-replicate f n a)
 
+-- a row of zeros but for its effect
+abbrev zerosBut : ℕ → Row ℕ
+zerosBut e = record { head = 0; rule = 0; effect = e; left = 0; right = 0; len = 0; birth = 0; retired = 0 }
+
 -- a blank row, read so
 zero-read : rowOf blank ≡ zeroRow
-zero-read = ap zeros-but value-none
-  where
-    -- a row of zeros but for its effect
-    zeros-but : ℕ → Row ℕ
-    zeros-but e = record { head = 0; rule = 0; effect = e; left = 0; right = 0; len = 0; birth = 0; retired = 0 }
+zero-read = ap zerosBut value-none
 
 zeros-read : (n : ℕ) → map rowOf (replicate n blank) ≡ zeroRows n
 unfolding zeroRows

@@ -93,7 +93,7 @@ lineThree buffer (answered n) = numbersLine (take n buffer)
 
 -- ---- the answer
 
--- lines 2 and 3 of a broken answer to a check of the file bs, whose run is written to a buffer of so many zeros
+-- lines 2 and 3 of a broken answer to a check of the file bs, whose run is written to a buffer of `room` zeros
 unfoldable pub brokenLines : List ℕ → ℕ → Answer ℕ → List ℕ
 brokenLines bs room a =
     let rows = a .journal in

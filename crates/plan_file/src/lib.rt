@@ -1,8 +1,8 @@
 // What a plan file of 8-byte records says, and the types in which the code says it. Definitions in specs/: Limits (document 01's numbers),
-// Records (records and their bytes), Refusals (numbers 1 to 7), Reading and Walk (steps of a reader, the stretch), Views (the grammar and the
-// automaton), Entries (counts, readings by number), Answers (the code's types as the definitions have them). Laws of a file that is not
-// refused: Valid, Ranges, Sorted and Rising (rules first, then transitions, then finals), EntryLaws, StretchLaws; of reading by steps WalkLaws;
-// of the order of refusals RefusalLaws.
+// Forms (the form of records), Records (records and their bytes), Refusals (numbers 1 to 7), Reading and Walk (steps of a reader, the stretch),
+// Views (the grammar and the automaton), Entries (counts, readings by number), Answers (the code's types as the definitions have them). Laws of
+// a file that is not refused: Valid, Ranges, Sorted and Rising (rules first, then transitions, then finals), EntryLaws, StretchLaws; of reading
+// by steps WalkLaws; of the order of refusals RefusalLaws.
 ghost use mathlib.Core.Path.{_≡_};
 ghost use mathlib.Core.Bool.{cond};
 ghost use Rattle.plan_file.specs.Answers.{numbered};

@@ -13,7 +13,7 @@ use Rattle.working_order.specs.Journal.{absent}
 use Rattle.working_order.specs.Order.{dropped, consider, walk}
 use Rattle.working_order.specs.Repeating.{Repeats}
 use Rattle.rows.specs.Base.{Row, Candidate, Progress, Outcome}
-use Rattle.rows.specs.declared.Place.{Place}
+use Rattle.deciding.specs.declared.Place.{Place}
 use Rattle.covers.specs.Rows.{Journal, firstRows}
 use Rattle.deciding.specs.declared.Counts.{Counts}
 use Rattle.deciding.specs.declared.Terms.{Terms}

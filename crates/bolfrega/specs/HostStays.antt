@@ -10,11 +10,10 @@ use Rattle.plan_file.specs.Views.{automatonOf}
 use Rattle.working_order.specs.Journal.{capped}
 use Rattle.working_order.specs.Order.{Answer, Verdict, broken}
 use Rattle.calls.specs.Checking.{checkOf, shown}
-use Rattle.calls.specs.Codes.{verdictCode}
+use Rattle.calls.specs.Codes.{verdictCode, refusedBy}
 use Rattle.calls.specs.DemandThree.{Agrees, Promises}
 use Rattle.calls.specs.Replies.{answered, unless}
 use Rattle.calls.specs.Writing.{roomFault, writtenBy}
-use Rattle.calls.specs.Codes.{refusedBy}
 use Rattle.standalone.specs.Told.{lastThree, shownBy}
 use Rattle.bolfrega.specs.BrokenLaws.{if-broken-same}
 use Rattle.bolfrega.specs.Hosts.{toldJoins, toldPass, toldPairs, toldLength, toldRefused, TellsAlike}

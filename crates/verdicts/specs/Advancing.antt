@@ -1,4 +1,4 @@
--- A candidate more: what became of it is what the working order makes of it, and the search stands on. Assumes nothing.
+-- One candidate: what became of it is what the working order makes of it, and the invariant of the search holds after it. Assumes nothing.
 use mathlib.Core.Path.{_≡_, refl, sym, ap, ap₂, _∙_, subst}
 use mathlib.Core.Bool.{Bool, true, false, true≢false, not, cond}
 use mathlib.Core.List.{List, []}

@@ -1,4 +1,5 @@
--- Over candidates that the pass before formed: each is one join, and the place after it is where the pass goes on. Assumes nothing.
+-- Passing over candidates that the pass before formed: each is one join, and the invariant of the pass holds at the place after it. Assumes
+-- nothing.
 use mathlib.Core.Path.{_≡_, refl, ap, _∙_}
 use mathlib.Core.Bool.{Bool, true, not, _&&_, _||_}
 use mathlib.Core.List.{List}

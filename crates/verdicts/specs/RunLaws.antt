@@ -1,4 +1,4 @@
--- What is known where the search goes on, and after a candidate. Assumes nothing.
+-- What the invariant says of a search that is going, and after a candidate. Assumes nothing.
 use mathlib.Core.Path.{_≡_, refl, sym, ap, _∙_, subst}
 use mathlib.Core.Bool.{Bool, true, false, not}
 use mathlib.Core.List.{List}

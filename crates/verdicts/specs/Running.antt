@@ -1,4 +1,5 @@
--- Where the search stands between candidates, and what each step of it keeps, whatever the journal. Definitions only. Assumes nothing.
+-- The invariant of the search between candidates, and what each step keeps of it, for every journal. The letters are those at the head of
+-- src/lib.rt. Definitions only. Assumes nothing.
 use mathlib.Core.Path.{_≡_}
 use mathlib.Core.Bool.{Bool, true, not, _&&_, cond}
 use mathlib.Core.List.{List}
@@ -35,20 +36,21 @@ use Rattle.verdicts.specs.Walks.{candidatesIn, passIn, repeatsAt, Known}
 use Rattle.verdicts.specs.declared.Outcome.the-variants.{Going}
 use Rattle.verdicts.specs.declared.Reached.{Reached}
 
--- ---- where the search stands
+-- ---- the invariant
 
--- on the problem P, with a budget of B joins, over the journal j₀
+-- of a search on the problem P, with a budget of B joins, that began over the journal j₀
 module _ (P : Problem) (B : ℕ) (j₀ : Journal) where
-  -- what it is to give
+  -- the answer that the search must come to
   abbrev pub target : order.Answer
   target = orderOf P (length j₀) B
 
+  -- the table of letters is whole, and the journal has a row and not too many
   pub record Sized : Type 0 where
     pub all : 128 ≤ length (P .letters)
     pub some : 0 < length j₀
     pub limit : length j₀ ≤ rowCells
 
-  -- in pass k, which began at w over the journal j
+  -- the search is in pass `pass`, which began with the counts w over the journal j; `before` is the rows used when the pass before began
   pub record Begun (s : State) (w : Counts) (j : Journal) : Type 0 where
     pub pass : ℕ
     pub before : ℕ
@@ -57,7 +59,8 @@ module _ (P : Problem) (B : ℕ) (j₀ : Journal) where
     pub known : Known before (candidatesIn P (firstRows (w .used) j)) (firstRows (w .used) j)
     pub terms : s .terms ≡ termsOf P B pass (w .used) before
 
-  -- at a place of the pass
+  -- the search is at a place of the pass: `first` and `journal` are the counts and the journal when the pass began, the lists are those of its
+  -- live rows, the candidates from the place on give the answer, and the budget leaves a join
   pub record Goes (s : State) (j : Journal) (t : List ℕ) : Type 0 where
     pub first : Counts
     pub journal : Journal
@@ -69,7 +72,7 @@ module _ (P : Problem) (B : ℕ) (j₀ : Journal) where
     pub right : s .right ≡ positionRow (s .place .right) (s .counts .used)
     pub unspent : s .counts .joins < B
 
-  -- at a place, or at the end
+  -- the search is at a place, or has ended with the answer that it must come to
   pub record Stands (s : State) (j : Journal) (t : List ℕ) : Type 0 where
     pub size : length j ≡ length j₀
     pub rows : s .rows ≡ length j₀
@@ -81,22 +84,25 @@ module _ (P : Problem) (B : ℕ) (j₀ : Journal) where
 abbrev pub problemAt : Letters → RuleBytes → State → Problem
 problemAt letters rules start = problemIn (start .terms) letters (take (start .rules) rules)
 
--- the search that began in start, over the journal j₀, stands in s, over j and t
+-- the invariant of the loop: the search that began in the state `start` over the journal j₀ is now in s, over j and t
 pub record Running (letters : Letters) (rules : RuleBytes) (start : State) (j₀ : Journal) (s : State) (j : Journal) (t : List ℕ) : Type 0 where
-  -- one that does not go on at all leaves all as it is
+  -- a search that had ended before it began leaves all as it is
   pub idle : T (not (start .going)) → (s ≡ start) × (j ≡ j₀)
   pub sized : T (start .going) → Sized (problemAt letters rules start) (start .terms .budget) j₀
   pub whole : T (start .going) → start .rules ≤ length rules
   pub stands : T (start .going) → Stands (problemAt letters rules start) (start .terms .budget) j₀ s j t
 
+-- the search has run to its end
 abbrev pub Ran : Letters → RuleBytes → State → Journal → Journal → List ℕ → State → Type 0
 Ran letters rules start j₀ j t r = T (not (r .going)) × Running letters rules start j₀ r j t
 
 -- ---- a candidate
 
+-- what looking for a cover asks: the used rows are within the journal, it has a row to read, and the links lead over the live rows
 abbrev pub MayFind : State → Journal → List ℕ → Type 0
 MayFind s j t = (s .counts .used ≤ length j) × (0 < length j) × Leads (firstRows (s .counts .used) j) (s .counts .used) t
 
+-- looking for a cover has ended at the cursor l
 abbrev pub Found : State → Candidate → Journal → List ℕ → CoverCursor → Type 0
 Found s c j t l = Seeking (candidateOf c) (firstRows (s .counts .used) j) (s .counts .used) t l × T (not (l .active))
 
@@ -104,6 +110,7 @@ Found s c j t l = Seeking (candidateOf c) (firstRows (s .counts .used) j) (s .co
 abbrev pub fateFor : State → Candidate → Bool → Fate
 fateFor s c covered = fateIn s (c .head) covered (breakingIn (s .terms) (candidateOf c))
 
+-- what settling the candidate c asks
 pub record MaySettle (s : State) (c : Candidate) (f : Fate) (l : CoverCursor) (j : Journal) (t : List ℕ) : Type 0 where
   pub fate : f ≡ fateFor s c (l .covers)
   pub pass : 0 < s .terms .pass
@@ -124,13 +131,13 @@ pub record Considered (letters : Letters) (rules : RuleBytes) (start : State) (j
   pub fate : f ≡ fateFor s c (l .covers)
   pub settled : Settled (s .terms .pass) (candidateOf c) (s .counts .used) l before table j t
 
--- how many candidates are left at most
+-- the measure of the loop: at most this many candidates are left, since each is one join
 abbrev pub candidatesLeft : State → ℕ
 candidatesLeft s = cond (s .going) (suc (s .terms .budget - s .counts .joins)) 0
 
 -- ---- steps
 
--- the table leads on as it did, over the same lists
+-- storing hints leaves the lists as they were, and the links lead as they did
 pub record Notes (old new : List ℕ) : Type 0 where
   pub size : length new ≡ length old
   pub lists : listsIn new ≡ listsIn old
@@ -175,15 +182,15 @@ pub record Onward (P : Problem) (B : ℕ) (j₀ : Journal) (w : Counts) (r : Sta
 
 -- ---- over what the pass before formed
 
--- the candidate of p is done, with the counts w: the pass goes on at the place after it
+-- the candidate of x is done, with its counts: the invariant of the pass holds at the place after it
 abbrev pub DoneAt : Terms → Problem → List ℕ → Counts → Journal → Journal → Reached → Type 0
 DoneAt b P t first j₁ j x = (q : Place) → places.Follows (listsIn t) (P .rules) (x .place) q → InPass b P (listsIn t) first j₁ t (x .counts) j q
 
--- the candidate may be passed over
+-- the candidate of x may be passed over: its rule is one of the n, the budget leaves a join, and the pass before formed it
 abbrev pub passesAt : Terms → ℕ → Reached → Bool
 passesAt b n x = ltb (x .place .rule) n && (not (isSpent (b .budget) (x .counts .joins)) && repeatsAt (b .before) (x .place))
 
--- with joins alone
+-- from x to r only joins were counted
 pub record Counted (x r : Reached) : Type 0 where
   pub joins : x .counts .joins ≤ r .counts .joins
   pub used : r .counts .used ≡ x .counts .used
@@ -195,7 +202,7 @@ pub record PassesRights (t : List ℕ) (b : Terms) (x r : Reached) : Type 0 wher
   pub done : (P : Problem) (first : Counts) (j₁ j : Journal) → x .place .rule < length (P .rules) → repeatsAt (b .before) (x .place) ≡ true
       → b .before ≤ rowCells → Listed (firstRows (first .used) j₁) (listsIn t) → DoneAt b P t first j₁ j x → DoneAt b P t first j₁ j r
 
--- from a place to a place
+-- if the invariant of the pass holds at x, it holds at r: every candidate between them was passed over
 pub record PassesOver (rules : RuleBytes) (t : List ℕ) (b : Terms) (x r : Reached) : Type 0 where
   pub counted : Counted x r
   pub stands : (P : Problem) (first : Counts) (j₁ j : Journal) → b .before ≤ rowCells → Listed (firstRows (first .used) j₁) (listsIn t)
@@ -203,28 +210,28 @@ pub record PassesOver (rules : RuleBytes) (t : List ℕ) (b : Terms) (x r : Reac
 
 -- ---- the steps between candidates
 
--- a pass over the first n rules begins at w, and comes to x: a search that opens there stands on
+-- opening a pass over the first n rules with the counts w, which has come to x: the invariant holds of the state there
 abbrev pub Opens : RuleBytes → List ℕ → ℕ → Terms → Counts → List ℕ → Reached → Type 0
 Opens rules t n b w t′ x =
     (P : Problem) (B : ℕ) (j₀ j : Journal) (k m : ℕ) (s : State) → let Q = withRules P (take n rules) in s .rules ≡ n → Sized Q B j₀ → s .rows ≡ length j₀
     → AtPass Q B (target Q B j₀) j₀ w j k → b ≡ termsOf P B k (w .used) m
     → m ≤ rowCells → Known m (candidatesIn Q (firstRows (w .used) j)) (firstRows (w .used) j) → Covering (firstRows (w .used) j) t → Onward Q B j₀ w (opening s b x) j t′
 
--- the pass in which s stands is over, with the counts w
+-- closing the pass of s, which is over with the counts w: the invariant holds of r, in the next pass or at the end
 abbrev pub Closes : RuleBytes → List ℕ → State → Counts → List ℕ → State → Type 0
 Closes rules t s w t′ r =
     (P : Problem) (B : ℕ) (j₀ : Journal) (first : Counts) (j₁ j : Journal) → let Q = withRules P (take (s .rules) rules) in Sized Q B j₀ → s .rows ≡ length j₀
     → Begun Q B j₀ s first j₁ → length j ≡ length j₁ → Answers B (passIn (s .terms) Q first j₁) first j₁ j (Going w)
     → Covering (firstRows (w .used) j) t → Onward Q B j₀ w r j t′
 
--- the pass in which s stands has come to a place
+-- from the place x that the pass of s has come to: the invariant holds of r, at x, at a later place or past the pass
 abbrev pub GoesFrom : RuleBytes → List ℕ → State → Reached → List ℕ → State → Type 0
 GoesFrom rules t s x t′ r =
     (P : Problem) (B : ℕ) (j₀ : Journal) (first : Counts) (j₁ j : Journal) → let Q = withRules P (take (s .rules) rules) in Sized Q B j₀ → s .rows ≡ length j₀ → Begun Q B j₀ s first j₁
     → Listed (firstRows (first .used) j₁) (listsIn t) → InPass (s .terms) Q (listsIn t) first j₁ t (x .counts) j (x .place)
     → Onward Q B j₀ (x .counts) r j t′
 
--- the candidate at which s stands is done, with the counts w
+-- after the candidate of s, which is done with the counts w: the invariant holds of r
 abbrev pub GoesOnOver : RuleBytes → List ℕ → State → Counts → List ℕ → State → Type 0
 GoesOnOver rules t s w t′ r =
     (P : Problem) (B : ℕ) (j₀ : Journal) (first : Counts) (j₁ j : Journal) → let Q = withRules P rules in Sized Q B j₀ → s .rows ≡ length j₀ → s .place .rule < length rules → Begun Q B j₀ s first j₁
@@ -234,7 +241,7 @@ GoesOnOver rules t s w t′ r =
 abbrev pub GoesOn : RuleBytes → List ℕ → State → Counts → List ℕ → State → Type 0
 GoesOn rules t s w t′ r = GoesOnOver (take (s .rules) rules) t s w t′ r
 
--- a candidate more
+-- after a candidate c that was considered: the invariant of the loop holds of r, and its measure has fallen
 abbrev pub Advances : RuleBytes → List ℕ → State → Fate → CoverCursor → List ℕ → State → Type 0
 Advances rules t s f l t′ r =
     (letters : Letters) (start : State) (j₀ j : Journal) (c : Candidate) → Considered letters rules start j₀ s c f l j t → Running letters rules start j₀ r j t′ × (candidatesLeft r < candidatesLeft s)

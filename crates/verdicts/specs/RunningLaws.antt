@@ -1,4 +1,4 @@
--- The steps of the search, between candidates: each stands where the working order has it. Assumes nothing.
+-- The steps of the search between candidates: each comes to where the working order is. Assumes nothing.
 use mathlib.Core.Path.{_≡_, refl, sym, ap, _∙_, subst}
 use mathlib.Core.Bool.{Bool, true, false}
 use mathlib.Core.List.{List}

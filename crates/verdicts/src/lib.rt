@@ -1,5 +1,12 @@
-// What becomes of a candidate and what a search answers, and what both say of the working order: see specs/. A crate of types, definitions
-// and laws; the steps that make them stand in the crates above.
+// What a search answers, and the laws of the search: that its steps do what the working order says. A crate of types, definitions and laws; the
+// code of the steps is in the crates above. Definitions in specs/: Problems (what a search works on), Meanings (the code's counts, outcomes,
+// states and answers as the working order has them), States (the states that a step returns), Walks and Contracts (a candidate, a pass and the
+// search), Running (the invariant of the loop, and what each step keeps of it). Laws: Deciding, Passing, PassingOver, Remaining, Passes, Closing,
+// Advancing (what is left to do gives the answer), RunLaws, RunningLaws, NoteLaws, ProblemLaws; OnAutomaton (a file's tables are its automaton).
+//
+// Letters, in every file: P is the problem, B the budget, b the terms of a pass, k its number. j₀ is the journal when the search began, j₁ when
+// the pass began, j now; t is the table, t′ the table after a step. s is the state, r the state or place after a step, w counts, x a place
+// reached with its counts, p and q places; c is a candidate, f its fate, l the cursor where looking for a cover ended.
 use deciding::Counts;
 use deciding::Place;
 
@@ -10,7 +17,7 @@ pub struct Totals {
     pub pass: u64,
 }
 
-// The numbers of the verdicts, as hosts are told them; a search that has ended has one, too.
+// The numbers of the verdicts, those that hosts get; a search that has ended has one, too.
 pub const HOLDS: u8 = 100;
 
 pub const BROKEN: u8 = 101;
@@ -44,7 +51,7 @@ pub enum Stop {
     Broken(usize, Counts),
 }
 
-// What became of a candidate: the search goes on, or stops.
+// What became of a candidate: the search is going, or stops.
 pub enum Outcome {
     Going(Counts),
     Stopped(Stop),

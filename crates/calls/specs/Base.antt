@@ -30,6 +30,6 @@ baseBy n letter reject = record { forms = formsBy n letter; below = contained; s
 abbrev pub base : ℕ → Automaton → Algebra ℕ
 base n A = baseBy n (letterRelation n (A .transitions)) (rejects n (isFinal A))
 
--- what stands behind a row is a word
+-- words, as what is behind a row
 abbrev pub words : Spelling ℕ (List ℕ)
 words = record { nothing = []; single = λ c. c ∷ []; joined = λ e u v. u ++ v; size = length }

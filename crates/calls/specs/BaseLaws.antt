@@ -114,7 +114,7 @@ module _ (n : ℕ) (A : Automaton) where
       let r = yields-along wordValues (effectValues (base n A)) (λ w e. relation w ≡ e) word-relation rules h x w (within-yields rules h x w d) in
       subst (Yields (effectValues (base n A)) rules h x) (sym (r .2)) (r .1)
 
-  -- what stands behind a row is a word that its nonterminal derives, with the row's relation
+  -- the word behind a row derives from its nonterminal, with the row's relation
   pub word-derived : (rules : List Rule) (h x e : ℕ) (w : List ℕ) → Yields (spelledValues (base n A) words) rules h x (w, e)
       → DerivesWithin (map productionOf rules) h x w × (wordRelation n (A .transitions) w ≡ e)
   word-derived rules h x e w d =

@@ -49,7 +49,7 @@ pub data Output : Type 0 where
 abbrev says : String → Output
 says text = printed (bytes text)
 
--- with a run buffer of so many bytes
+-- with a run buffer of the given number of bytes
 checkedIn : ℕ → List ℕ → ℕ → ℕ → Output
 unfolding textOf brokenLines lineOne lineTwo lineThree refusedLine wordLine numbersLine separated blanked decimal writeOf bufferAfter wordOf rowFault roomFault rowsFit rowFits bodyFits pointerFits symbolLen wordBehind wordsOf wordsFrom rowWord bodyWord symbolWord pairs count checkOf orderOn journalFault faultIn lengthFaultIn faultFromIn faultAtIn faultByIn kindKnown aboveRangeIn strayByteIn risesFrom exceedsIn overLimit countIn rulesOf transitionsOf finalsOf collect check passes onePass walk consider decide added retire larger dropped answer born passCandidates bodyCandidates choices bare sole paired liveRows live liveOf capped letterRelation moves isFinal rejects compose identity table has some number subset bit
 checkedIn room bs J B = printed (textOf bs J B room)

@@ -110,7 +110,7 @@ pub eight-bytes :
 unfolding risesFrom lone
 eight-bytes = (refl, refl, refl)
 
--- 7, after so many rules and moves
+-- 7, after the given numbers of rules and moves
 pub limits :
     -- of the 257th rule
     (overLimit (lone []) 255 0 ≡ false)

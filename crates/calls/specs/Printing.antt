@@ -93,7 +93,7 @@ lineThree buffer (answered n) = numbersLine (take n buffer)
 
 -- ---- the answer
 
--- lines 2 and 3 of a broken answer to a check of the file bs, whose run is written to a buffer of so many zeros
+-- lines 2 and 3 of a broken answer to a check of the file bs, whose run is written to a buffer of `room` zeros
 unfoldable pub brokenLines : List ℕ → ℕ → Answer ℕ → List ℕ
 brokenLines bs room a =
     let rows = a .journal in
@@ -111,7 +111,7 @@ abbrev pub textBy : List ℕ → ℕ → Reply (Answer ℕ) → List ℕ
 textBy bs room (refused r) = refusedLine (r .number)
 textBy bs room (answered a) = linesBy (a .verdict) bs room a
 
--- what is printed of a check with J rows and a budget of B joins, with a run buffer of so many bytes
+-- what is printed of a check with J rows and a budget of B joins, with a run buffer of `room` bytes
 unfoldable pub textOf : List ℕ → ℕ → ℕ → ℕ → List ℕ
 textOf bs J B room = textBy bs room (checkOf bs J B)
 

@@ -1,15 +1,20 @@
 -- Laws of the journal's first rows. Assumes nothing.
-use mathlib.Core.Path.{_≡_, refl, ap, _∙_}
+use mathlib.Core.Path.{_≡_, refl, sym, ap, _∙_, subst}
+use mathlib.Core.Bool.{Bool, true, false, cond}
 use mathlib.Core.List.{List, [], _∷_, _++_, map, map-append}
 use Prim.Native.Nat.{ℕ, _+_, _≤_, _<_}
 use native.Mathlib.Numerals.{add-one}
 use native.Mathlib.Omega.{arith}
-use lib.ListN.{length, getD, take, set, length-map, List·getD-map}
+use lib.Dec.{ltb}
+use lib.ListN.{length, getD, take, set, length-map, List·getD-map, List·getD-eq-default}
 use lib.Seq.{length-take-le, take-suc-set, drop-set-lt, getD-take}
+use borrow.Author.Tests.{ltb-true, ltb-false}
 use Rattle.basics.specs.Lists.{drop-later-same}
 use Rattle.calls.specs.Rows.{rowOf, blank}
 use Rattle.calls.specs.declared.Row.{Row as LentRow}
 use Rattle.rows.specs.Base.{Row}
+use Rattle.rows.specs.Forming.{amongFirst}
+use Rattle.places.specs.Lists.{rowIn}
 use Rattle.covers.specs.Rows.{Journal, firstRows, Stored}
 
 pub rows-length : (u : ℕ) (j : Journal) → u ≤ length j → length (firstRows u j) ≡ u
@@ -38,3 +43,14 @@ stored-more rows i old new xs h s =
       front = rows-set-next new i xs h ∙ ap (λ (l : List Row). l ++ (rowOf xs ∷ [])) (s .front);
       beyond = drop-set-lt (i + 1) new i xs (omega arith) ∙ drop-later-same i (i + 1) new old (omega arith) (s .beyond);
     }
+
+-- ---- rows that a candidate is formed from
+
+-- what is read for position i is row i of the first n
+pub among-row : (j : Journal) (n i : ℕ) (r : LentRow) → n ≤ length j → (i < n → r ≡ getD j i blank) → rowOf (amongFirst r i n) ≡ rowIn (firstRows n j) i
+among-row j n i r h e = by (ltb i n) refl
+  where
+    by : (b : Bool) → ltb i n ≡ b → rowOf (cond b r blank) ≡ rowIn (firstRows n j) i
+    by true p = let l = ltb-true i n p in ap rowOf (e l) ∙ sym (rows-at n j i l)
+    by false p =
+        sym (List·getD-eq-default (firstRows n j) (rowOf blank) (subst (λ (m : ℕ). m ≤ i) (sym (rows-length n j h)) (ltb-false i n p)))

@@ -2,18 +2,15 @@
 // and cell 4,096 + x the first row of nonterminal x. Then come hints, rows to try first: cell 4,352 + x has the row of x that covered last,
 // and the cells from 4,608 on have rows by their relation. The last cells, from 41,472 on, are the lists of the pass: the links as they were
 // when it began.
+use deciding::FIRSTS;
+use deciding::LASTS;
+use deciding::LISTS;
 ghost use mathlib.Core.Path.{_≡_};
 ghost use Prim.Native.Nat.{_≤_};
 ghost use lib.ListN.{length};
 ghost use Rattle.places.specs.Lists.{listCells, rowCells};
 ghost use Rattle.covers.specs.Covers.{tableCells};
 ghost use Rattle.covers.specs.Listing.{Copied, Gathered};
-
-const ROWS: usize = 4096;
-
-const LINKS: usize = 4352;
-
-const LISTS: usize = 41472;
 
 // Copies the links of so many cells to the lists.
 fn copy_links(table: &mut [u32], from: usize, to: usize)
@@ -33,5 +30,5 @@ pub fn gather(table: &mut [u32], used: usize)
     ensures { λ r. ⌜ Gathered used (now (table .entry)) (now (table .exit)) ⌝ }
 {
     copy_links(table, 0, used);
-    copy_links(table, ROWS, LINKS);
+    copy_links(table, FIRSTS, LASTS);
 }

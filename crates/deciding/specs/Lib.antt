@@ -1,4 +1,4 @@
-pub mod Looking
-pub mod LookLaws
-pub mod Forming
-pub mod FormLaws
+pub mod Budgets
+pub mod Positions
+pub mod PositionLaws
+pub mod Fates

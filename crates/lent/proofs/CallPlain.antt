@@ -37,7 +37,8 @@ module _ {M : Type 1} {𝓤 : URA M} {H : Heap 𝓤} {A : Atoms 𝓤} {K : Type 
   }
 
 module _ {M : Type 1} (𝓤 : URA M) (H : Heap 𝓤) (A : Atoms 𝓤) (T : Ended) (c : Clauses 𝓤 T) (x : Bound 𝓤 H A (T .signature)) (g : c (x .0) (x .3) .ghost) where
-  -- what a callee of plain data asks: `id⊢ 𝓤 _` shows the tokens of no lifetime and a `requires` that is not written, and `factI 𝓤 φ _ p` a `requires` that is a fact
+  -- what a callee of plain data asks: `id⊢ 𝓤 _` shows the tokens of no lifetime and a `requires` that is not written, and `factI 𝓤 φ _ p` a
+  -- `requires` that is a fact
   pub asks-plain : ent 𝓤 (emp 𝓤) (alive 𝓤 H A (T .signature) (x .0) (x .1)) → ent 𝓤 (emp 𝓤) (c (x .0) (x .3) .requires g)
       → Makess 𝓤 H A (typesAt (T .signature .params) (x .0)) (Ises (typesAt (T .signature .params) (x .0))) → Are (typesAt (T .signature .params) (x .0)) (Ises (typesAt (T .signature .params) (x .0))) (x .3) (x .4)
       → ent 𝓤 (emp 𝓤) (Called 𝓤 H A T c .pre (x, g))

@@ -224,7 +224,7 @@ module _ {M : Type 1} {𝓤 : URA M} {H : Heap 𝓤} {A : Atoms 𝓤} {T : Ended
 
   handing : {K : Type 0} {W : Given 𝓤 H A} {Γ : List (Item 𝓤)} {G : Goal 𝓤 H} → K → Soaks G → ((cs : Names (h .slices)) → Seq K W (pre cs ∷ ‵ (Keepings (h .slices) cs) ∷ Γ) G) → Seq K W (Holding (h .slices) Γ) G
   handing {W = W} t s go =
-      nothing t $ hands-all t s (h .slices) ftrue (owns (types-of (h .values)) (values-of (h .values)) (machine-of (h .values))) (values-owned 𝓤 H A (h .values)) (λ cs. use2 W (pre cs) (asks cs) $ move t (2 ∷ []) $ drop t $ go cs)
+      nothing t $ hands-all t s (h .slices) ftrue (owns (types-of (h .values)) (values-of (h .values)) (machine-of (h .values))) (values-owned 𝓤 H A W (h .values)) (λ cs. use2 W (pre cs) (asks cs) $ move t (2 ∷ []) $ drop t $ go cs)
 
 -- what follows the call
 abbrev pub Goes : {M : Type 1} {𝓤 : URA M} {H : Heap 𝓤} {A : Atoms 𝓤} (K : Type 0) (W : Given 𝓤 H A) (Γ : List (Item 𝓤)) {T : Ended} {c : Clauses 𝓤 T} (h : Handing 𝓤 H A T c) → (Val → Goal 𝓤 H) → Type 1

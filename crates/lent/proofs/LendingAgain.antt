@@ -94,7 +94,8 @@ module _ {M : Type 1} {𝓤 : URA M} {H : Heap 𝓤} {A : Atoms 𝓤} {K : Type 
       move t (1 ∷ []) $ fsplit t $ move t (1 ∷ []) $ fsplit t $ move t (3 ∷ 2 ∷ 0 ∷ 1 ∷ []) $ closes-slice t z R ys ys refl b o $ fjoin t $
       pureI t (at-slice R (ref R L ys) (slice-vals (ref R L ys))) (tt, (tt, tt)) (refl, p) $ fjoin t $ fjoin t $ s))
 
--- the two statements that make the slice which the callee is lent, of the local at n: the address, into the local at m, and the address with the length, into the local at k
+-- the two statements that make the slice which the callee is lent, of the local at n: the address, into the local at m, and the address with the
+-- length, into the local at k
 pub relends : {M : Type 1} {𝓤 : URA M} {H : Heap 𝓤} {A : Atoms 𝓤} {K : Type 0} {W : Given 𝓤 H A} {Γ : List (Item 𝓤)} {E : Env 𝓤 H} {C : Calls 𝓤 H} {Λ : Loops 𝓤 H} {z : Post 𝓤 H} → K → (n m k : ℕ) {s a l : ℕ} {τ σ : Ty} {ℓ : Lifetime} {μ : Mutability} {b o c : ℕ} {rest : Body}
     → let slice = ‵ (fat fullShare (sliceTy (tyRef ℓ μ σ)) (spotOf 𝓤 H E s .1) 0 (sliceVal (b, o) c)) in
     let address = ‵ (fat fullShare (spotOf 𝓤 H E a .0) (spotOf 𝓤 H E a .1) 0 (vptr b o)) in

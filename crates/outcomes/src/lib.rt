@@ -1,35 +1,32 @@
 // What becomes of a candidate, in steps on values: it is noted where looking for it ended, and counted.
 use deciding::Counts;
-use deciding::Look;
+use deciding::Fate;
+use deciding::LASTS;
 use deciding::State;
-use rows::Candidate;
+use search_cover::CoverCursor;
 use verdicts::Outcome;
 use verdicts::Stop;
 use verdicts::Unbroken;
 ghost use mathlib.Core.Path.{_≡_};
-ghost use Rattle.rows.specs.Meanings.{candidateOf};
 ghost use Rattle.verdicts.specs.Meanings.{bornBy, decidedIn};
 ghost use Rattle.verdicts.specs.Running.{MayNote, Notes, MayDecide};
 
-// Where the table has the row that covered last (crate covers).
-const LASTS: usize = 4352;
-
 // Updates the hints: a covering row found through the links becomes the last-cover hint of its nonterminal and the hint of its relation; a
 // new row becomes the hint of its relation.
-pub fn note(table: &mut [u32], state: State, candidate: Candidate, look: Look)
-    requires { ⌜ MayNote state look (now table) ⌝ }
+pub fn note(table: &mut [u32], state: State, fate: Fate, found: CoverCursor)
+    requires { ⌜ MayNote state found (now table) ⌝ }
     ensures { λ r. ⌜ Notes (now (table .entry)) (now (table .exit)) ⌝ }
 {
     let counts = state.counts;
     let used = counts.used;
-    let slot = look.slot;
-    if !look.covers {
+    let slot = found.slot;
+    if !found.covers {
         table[slot] = places::cell(used);
         return;
     }
-    if look.linked {
-        let row = places::cell(look.at);
-        table[LASTS + candidate.head as usize] = row;
+    if found.linked {
+        let row = places::cell(found.row);
+        table[LASTS + fate.head as usize] = row;
         table[slot] = row;
     }
 }
@@ -44,20 +41,19 @@ fn born(broken: bool, row: usize, counts: Counts) -> Outcome
     Outcome::Going(counts)
 }
 
-// The candidate is one join more: a row covers it, there is no room for it, or it is a new row.
-pub fn decide(state: State, candidate: Candidate, look: Look) -> Outcome
+// Counts the candidate as one join more, by its `fate`: a row covers it, there is no room for it, or it is a new row.
+pub fn decide(state: State, fate: Fate) -> Outcome
     requires { ⌜ MayDecide state ⌝ }
-    ensures { λ r. ⌜ r ≡ decidedIn state (candidateOf candidate) (look .covers) ⌝ }
+    ensures { λ r. ⌜ r ≡ decidedIn state fate ⌝ }
 {
     let counts = state.counts;
-    let terms = state.terms;
     let used = counts.used;
     let joins = counts.joins + 1;
     let added = counts.added;
-    if look.covers {
+    if fate.covered {
         return Outcome::Going(Counts { used, joins, added });
     }
-    if used == state.rows {
+    if fate.full {
         return Outcome::Stopped(Stop::Ended(Unbroken::Full, Counts { used, joins, added }));
     }
     let more = Counts {
@@ -65,5 +61,5 @@ pub fn decide(state: State, candidate: Candidate, look: Look) -> Outcome
         joins,
         added: added + 1,
     };
-    born(rows::breaks(terms.finals, candidate), used, more)
+    born(fate.breaks, used, more)
 }

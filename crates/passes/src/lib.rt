@@ -1,11 +1,11 @@
 // The passes of the search, in steps on values: the place after a candidate, the pass after this one, and the end.
 use deciding::Counts;
-use deciding::Look;
+use deciding::END;
+use deciding::Fate;
+use deciding::Place;
 use deciding::State;
 use deciding::Terms;
-use rows::Candidate;
-use rows::Place;
-use semi_naive::END;
+use search_cover::CoverCursor;
 use verdicts::Outcome;
 use verdicts::Reached;
 ghost use Rattle.verdicts.specs.Running.{MayOpen, Opens, MayGoOn, Closes, GoesFrom, GoesOn, MayAdvance, Advances};
@@ -94,14 +94,14 @@ pub fn advance(
     rules: &[[u8; 4]],
     table: &mut [u32],
     state: State,
-    candidate: Candidate,
-    look: Look,
+    fate: Fate,
+    found: CoverCursor,
 ) -> State
-    requires { ⌜ MayAdvance (now rules) state candidate look (now table) ⌝ }
-    ensures { λ r. ⌜ Advances (now (rules .entry)) (now (table .entry)) state candidate look (now (table .exit)) r ⌝ }
+    requires { ⌜ MayAdvance (now rules) state fate found (now table) ⌝ }
+    ensures { λ r. ⌜ Advances (now (rules .entry)) (now (table .entry)) state fate found (now (table .exit)) r ⌝ }
 {
-    outcomes::note(table, state, candidate, look);
-    let outcome = outcomes::decide(state, candidate, look);
+    outcomes::note(table, state, fate, found);
+    let outcome = outcomes::decide(state, fate);
     match outcome {
         Outcome::Going(counts) => go_on(rules, table, state, counts),
         Outcome::Stopped(stop) => standing::stop(state, stop),

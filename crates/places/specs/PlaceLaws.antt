@@ -18,10 +18,10 @@ use Rattle.working_order.specs.Journal.{absent}
 use Rattle.calls.specs.Rows.{entryOf}
 use Rattle.rows.specs.Base.{Row, Choice, Candidate, joined}
 use Rattle.rows.specs.Meanings.{formsOf}
-use Rattle.rows.specs.Forming.{none, some, leftPart, rightPart, combined}
-use Rattle.rows.specs.declared.Place.{Place}
+use Rattle.rows.specs.Forming.{none, some, leftPart, rightPart, combined, ruleAt}
+use Rattle.deciding.specs.declared.Place.{Place}
 use Rattle.places.specs.Lists.{heads, end, headCell, afterIn, Chain, Listed}
-use Rattle.places.specs.Places.{partChoices, Begins, ruleAt, withRights, allRights, allLefts, onward, leftOf, rightOf, Ahead, Stands, Opens, Follows}
+use Rattle.places.specs.Places.{partChoices, Begins, withRights, allRights, allLefts, onward, leftOf, rightOf, Ahead, Stands, Opens, Follows}
 
 -- ---- positions
 

@@ -9,8 +9,8 @@ use Rattle.working_order.specs.Candidates.{choices, passCandidates}
 use Rattle.calls.specs.Rows.{entryOf}
 use Rattle.rows.specs.Base.{Row, Choice, Candidate}
 use Rattle.rows.specs.Meanings.{formsOf}
-use Rattle.rows.specs.Forming.{Part, none, some, leftPart, rightPart, noChoice, partChoice, combined, formedBy}
-use Rattle.rows.specs.declared.Place.{Place}
+use Rattle.rows.specs.Forming.{Part, none, some, leftPart, rightPart, noChoice, partChoice, combined, formedBy, ruleAt}
+use Rattle.deciding.specs.declared.Place.{Place}
 use Rattle.places.specs.Lists.{afterIn, Chain, rowIn, Listed}
 
 module _ (letters : List ℕ) (A : List Row) where
@@ -26,9 +26,6 @@ module _ (letters : List ℕ) (A : List Row) where
 -- i is the first position of a part, whatever the rows that the table lists
 abbrev pub Begins : List ℕ → Part → ℕ → Type 0
 Begins lists p i = (letters : List ℕ) (A : List Row) → Listed A lists → Chain (partAt letters A p) lists i (partChoices letters A p)
-
-abbrev pub ruleAt : List (List ℕ) → ℕ → Rule
-ruleAt rules r = entryOf (getD rules r [])
 
 module _ (letters : List ℕ) (A : List Row) (lists : List ℕ) (rules : List (List ℕ)) where
   -- the candidates of rule r with c as its left choice, over these right choices

@@ -1,8 +1,12 @@
 // The order in which a pass takes its candidates: rules in file order, the left symbol outer, the right one inner, rows rising. The rows
 // that were live when the pass began stand in a table of lists: cell i has the row after row i in the list of its nonterminal, and cell
 // 4,096 + x the first row of nonterminal x.
+use deciding::ABSENT;
+use deciding::END;
+use deciding::FIRSTS;
+use deciding::Place;
+use deciding::ROWS;
 use plan_file::TERMINALS;
-use rows::Place;
 ghost use mathlib.Core.Path.{_≡_};
 ghost use Prim.Native.Nat.{_≤_};
 ghost use lib.ListN.{length};
@@ -11,14 +15,6 @@ ghost use Rattle.calls.specs.Rows.{entryOf};
 ghost use Rattle.rows.specs.Forming.{some, leftPart, rightPart};
 ghost use Rattle.places.specs.Lists.{listCells, end, afterIn};
 ghost use Rattle.places.specs.Places.{Begins, Opens, Follows};
-
-const ROWS: usize = 4096;
-
-// The position of a symbol that is no row.
-const ABSENT: usize = 65535;
-
-// No position is left.
-const END: usize = 65536;
 
 // ---- positions
 
@@ -58,7 +54,7 @@ fn first_of(lists: &[u32], symbol: u8) -> usize
     if symbol < TERMINALS {
         return ABSENT;
     }
-    let cell = ROWS + (symbol - TERMINALS) as usize;
+    let cell = FIRSTS + (symbol - TERMINALS) as usize;
     position(lists[cell])
 }
 

@@ -92,7 +92,7 @@ module _ (F : Form) where
   unfoldable pub exceedsIn : List ℕ → ℕ → Bool
   exceedsIn bs i = eqb i 0 || risesIn (recordIn F bs (i - 1)) (recordIn F bs i)
 
-  -- the numbers that may refuse record i, which stands after `rules` rules and `transitions` transitions, each with its test, in the order
+  -- the numbers that may refuse record i, which comes after `rules` rules and `transitions` transitions, each with its test, in the order
   -- in which they are looked at
   abbrev pub recordTestsIn : List ℕ → ℕ → ℕ → ℕ → List (ℕ × Bool)
   recordTestsIn bs i rules transitions =
@@ -103,7 +103,7 @@ module _ (F : Form) where
       ∷ (7, overLimit (recordIn F bs i) rules transitions)
       ∷ []
 
-  -- the number that refuses record i after so many, or 0
+  -- the number that refuses record i after `rules` rules and `transitions` transitions, or 0
   unfoldable pub faultByIn : List ℕ → ℕ → ℕ → ℕ → ℕ
   faultByIn bs i rules transitions = firstHolding (recordTestsIn bs i rules transitions)
 

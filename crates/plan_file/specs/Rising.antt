@@ -45,7 +45,7 @@ module _ (f : ℕ → ℕ) (k : ℕ) where
   upTo-none zero h = refl
   upTo-none (suc n) h = rw (lt-leb (f n) k (h n (omega arith))) (let e = upTo-none n (λ i l. h i (omega arith)) in let z : upTo f k n + 0 ≡ 0 = omega arith in z)
 
-  -- an element is at most k just where it stands among the first so many
+  -- the elements that are at most k are exactly the first `upTo f k n`
   pub first-ones : (n : ℕ) → Rising n → (i : ℕ) → i < n → leb (f i) k ≡ ltb i (upTo f k n)
   unfolding upTo
   first-ones zero h i l = absurd (not-suc-le-zero l)

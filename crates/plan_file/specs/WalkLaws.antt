@@ -116,7 +116,7 @@ rest-step bs i = by (lengthFault bs) (leb n i) (leb-true n i) (leb-false n i)
         ∙ one (faultAt bs i) (faultFrom bs (n - (i + 1)) (suc i))
         ∙ ap (λ (m : ℕ). after (unlessRefused (refuse (faultAt bs i) i) (gives r (i + 1))) (faultFrom bs (n - (i + 1)) m)) (sym (add-one i))
 
--- where a walk stands at place i, with the counts of the records before it
+-- the walk is at place i, with the counts of the records before it
 pub record At (bs : List ℕ) (rules transitions i : ℕ) : Type 0 where
   pub rules-are : rules ≡ countOf bs ruleKind i
   pub transitions-are : transitions ≡ countOf bs transitionKind i
@@ -125,7 +125,7 @@ pub record At (bs : List ℕ) (rules transitions i : ℕ) : Type 0 where
   pub few-rules : rules ≤ i
   pub few-transitions : transitions ≤ i
 
--- where it stands after a step that gave record r, at place j
+-- the walk after a step that gave record r, at place j
 pub record Moved (bs : List ℕ) (rules transitions i : ℕ) (r : Record) (j : ℕ) : Type 0 where
   pub inside : i < recordCount bs
   pub on : i < j

@@ -1,6 +1,6 @@
 -- What a reader owns: the file's bytes, as a lent slice owns them, and its place, which owns nothing.
 --     bytes-of     a reader gives what its file owns        reader-of    that makes a reader again, at any place
---     both         what a file owns is had twice
+--     both         what a file owns may be used twice
 --     the-file, the-reader, a-count, a-step     the parameters of the functions that are walked
 --     reader-on, bytes-in, reader-again         a reader on a file, the file of a reader, and a reader at another place, where the first is kept
 --     file-and, reader-and, file-alone, reader-alone     the same as what a callee's parameters own
@@ -139,7 +139,7 @@ module _ {M : Type 1} (𝓤 : URA M) (H : Heap 𝓤) (A : Atoms 𝓤) (W : Given
     pub typed : Is (Held κ) d (machine d ∷ []) → Holds (hasTy (T′.mir (named 0)) (machine d)) × WT (machine d)
     typed p = LL.lawful D L 𝓤 H A W .typed d (machine d ∷ []) p .0
 
-  -- ---- what is had of a file, and of a reader, which are kept
+  -- ---- what a walk gets of a file and of a reader, which it keeps
   pub reader-on : (d : Reader) → d .place < 2 ^ 64 → ent 𝓤 (sem 𝓤 H A (Bytes κ (d .file))) (sep 𝓤 (sem 𝓤 H A (Held κ .own d (machine d ∷ []))) (sem 𝓤 H A (Bytes κ (d .file))))
   reader-on d fits = via 𝓤 (sep 𝓤 (sem 𝓤 H A (Bytes κ (d .file))) (sem 𝓤 H A (Bytes κ (d .file)))) (both (d .file)) (monoL 𝓤 (sem 𝓤 H A (Bytes κ (d .file))) (reader-of d fits))
 

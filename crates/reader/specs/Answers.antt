@@ -10,7 +10,7 @@ stepOf (Gives r i) = gives (saidBy r) i
 stepOf (Refused x) = refuses (refusalOf x)
 stepOf Ended = ended
 
--- where a reader that stands at a place stands after a step: a record moves it on, a refusal or the end leaves it (document 01, "Records")
+-- the place of a reader after a step from the given place: a record moves it on, a refusal or the end leaves it (document 01, "Records")
 abbrev pub placeAfter : Step → ℕ → ℕ
 placeAfter (gives r i) place = i
 placeAfter (refuses x) place = place

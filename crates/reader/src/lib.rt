@@ -27,6 +27,7 @@ pub enum Step {
 
 // ---- a record in its file
 
+// Tests whether record `i` is the first, or exceeds the one before it.
 fn exceeds(file: &[u8], i: usize) -> bool
     requires { ⌜ i < recordCount (now file) ⌝ }
     ensures { λ x. ⌜ x ≡ refusals.exceeds (now (file .entry)) i ⌝ }
@@ -40,8 +41,8 @@ fn exceeds(file: &[u8], i: usize) -> bool
     )
 }
 
-// The number that refuses record i, before which so many rules and transitions stand, or 0. The test that is looked at first wins, so it
-// stands last.
+// Returns the number that refuses record `i`, or 0; `rules` and `transitions` are the counts of the records before it. The first test in the
+// order of the definition wins, so the code makes it last.
 fn fault_by(file: &[u8], i: usize, rules: usize, transitions: usize) -> u64
     requires { ⌜ i < recordCount (now file) ⌝ }
     ensures { λ x. ⌜ x ≡ refusals.faultBy (now (file .entry)) i rules transitions ⌝ }
@@ -54,7 +55,8 @@ fn fault_by(file: &[u8], i: usize, rules: usize, transitions: usize) -> u64
     record_checks::number_or(3, !record_checks::kind_known(r), f)
 }
 
-// The step at a place before which so many rules and transitions stand.
+// Steps from `place`, where `rules` and `transitions` are the counts of the records before it: checks 1 and 2, the end of the file, and then
+// the checks of the record there.
 pub fn step_from(file: &[u8], place: usize, rules: usize, transitions: usize) -> Step
     ensures { λ x. ⌜ stepOf x ≡ stepFrom (now (file .entry)) place rules transitions ⌝ }
 {
@@ -87,7 +89,7 @@ pub fn step_from(file: &[u8], place: usize, rules: usize, transitions: usize) ->
     )
 }
 
-// The records before the place are counted by their kind alone, and not checked again.
+// Steps from `place`. It counts the records before `place` by their kind alone, and does not check them again.
 fn step_counted(file: &[u8], place: usize) -> Step
     ensures { λ x. ⌜ stepOf x ≡ stepAt (now (file .entry)) place ⌝ }
 {
@@ -100,7 +102,7 @@ fn step_counted(file: &[u8], place: usize) -> Step
     step_from(file, place, rules, transitions)
 }
 
-// The place after a step: that of the next record, or the same where the step gave none.
+// Returns the place after the step `s` from `place`: that of the next record, or `place` where the step gave none.
 fn place_after(s: Step, place: usize) -> usize
     ensures { λ x. ⌜ x ≡ placeAfter (stepOf s) place ⌝ }
 {
@@ -132,14 +134,14 @@ impl<'a> Reader<'a> {
         step_counted(self.file, self.place)
     }
 
-    // The step where so many rules and transitions stand before the place.
+    // Steps from the place of the reader, where `rules` and `transitions` are the counts of the records before it.
     pub fn step_after(self, rules: usize, transitions: usize) -> Step
         ensures { λ x. ⌜ stepOf x ≡ stepFrom (now (self .entry .file)) (self .entry .place) rules transitions ⌝ }
     {
         step_from(self.file, self.place, rules, transitions)
     }
 
-    // The reader where it stands after a step.
+    // Returns the reader after the step `s`: at the next record, or where it was if the step gave none.
     pub fn moved(self, s: Step) -> Reader<'a>
         ensures { λ r. ⌜ (r .file ≡ self .entry .file) × (r .place ≡ placeAfter (stepOf s) (self .entry .place)) ⌝ }
     {
@@ -149,7 +151,7 @@ impl<'a> Reader<'a> {
         }
     }
 
-    // Steps and moves on: after a record the reader stands one further, else where it was.
+    // Steps, and moves the reader to the next record if the step gave one.
     pub fn advance(&mut self) -> Step
         ensures { λ x. ⌜ (stepOf x ≡ stepAt (now (now (self .entry) .file)) (now (self .entry) .place)) × (now (self .exit) .file ≡ now (self .entry) .file)
             × (now (self .exit) .place ≡ placeAfter (stepOf x) (now (self .entry) .place)) ⌝ }
@@ -160,7 +162,7 @@ impl<'a> Reader<'a> {
     }
 }
 
-// The step of a reader at a place of a file.
+// Steps from `place` of `file`, by a reader there.
 pub fn step_at(file: &[u8], place: usize) -> Step
     ensures { λ x. ⌜ stepOf x ≡ stepAt (now (file .entry)) place ⌝ }
 {

@@ -27,7 +27,7 @@ below : (base a b x y : ℕ) → x < base → a < b → a * base + x < b * base 
 below base a b x y hx h = omega (arith, mul-le-mul-right base h)
 
 module _ (base a b x y : ℕ) (hx : x < base) (hy : y < base) where
-  -- what stands before the digits decides, and where that is the same, the digits
+  -- of two numbers the leading digits decide, and where these are the same, the last one
   digit-less : ltb (a * base + x) (b * base + y) ≡ (ltb a b || (eqb a b && ltb x y))
   digit-less = by-cases (ltb a b) (eqb a b) (ltb x y) refl refl refl
     where

@@ -1,4 +1,5 @@
--- What the walks of `check` and `write` share: the row of zeros that the table of rules is made of; the token of a loan; and that a struct's machine value is of its type.
+-- What the walks of `check` and `write` share: the row of zeros that the table of rules is made of; the token of a loan; and that a struct's
+-- machine value is of its type.
 -- Definitions assume nothing; the laws of a model assume `Given`.
 use mathlib.Core.List.{[], _∷_}
 use Prim.Native.Nat.{ℕ}

@@ -1,114 +1,100 @@
-// A candidate that no row covers, in steps on values: the larger rows retire, and it becomes a row. The journal is not here: a step that
-// needs a row is given it by value, and says which row the next one needs.
-use calls::Row;
-use deciding::HEADS;
-use deciding::Look;
+// A candidate that no row covers becomes a row, and the larger rows retire: a cursor over the live rows of its nonterminal and then the new
+// row, moved in steps that know neither a row nor a candidate. A step is given what comparing the row at the cursor with the candidate gave,
+// keeps the links, and returns the cursor at the row to compare next.
+use deciding::Comparison;
+use deciding::END;
+use deciding::FIRSTS;
+use deciding::Fate;
 use deciding::State;
-use rows::Candidate;
+use search_cover::CoverCursor;
 ghost use mathlib.Core.Path.{_≡_};
 ghost use lib.ListN.{length};
-ghost use Rattle.calls.specs.Rows.{rowOf};
-ghost use Rattle.rows.specs.Meanings.{candidateOf};
 ghost use Rattle.covers.specs.Covers.{tableCells};
-ghost use Rattle.retiring.specs.Clearing.{clearingFrom, keptRow, ClearsFirst, ClearsOn, MayClear};
+ghost use Rattle.retiring.specs.Steps.{retireFrom, begun, stepped, linksAfter};
+ghost use Rattle.retiring.specs.Clearing.{MayClear};
 
-// No row comes after.
-const END: usize = 65536;
-
-// Where the retirement stands: at a linked row, which the cell leads to, or past the last one at the new row.
-pub struct Clearing {
-    pub walking: bool,
-    pub last: bool,
-    pub at: usize,
+// While the cursor is `active`, `row` is the row to replace next: the linked row to which the link in `cell` leads, or, if `new`, the first
+// row that is not used, and `cell` is the last link of the nonterminal.
+pub struct RetireCursor {
+    pub active: bool,
+    pub new: bool,
+    pub row: usize,
     pub cell: usize,
 }
 
-// The linked row, or past the last one the new row.
-fn clear_from(used: usize, at: usize, cell: usize) -> Clearing
-    ensures { λ r. ⌜ r ≡ clearingFrom used at cell ⌝ }
+// The cursor at the linked row `row`, or at the new row if `row` is past the last one.
+fn at_link(used: usize, row: usize, cell: usize) -> RetireCursor
+    ensures { λ r. ⌜ r ≡ retireFrom used row cell ⌝ }
 {
-    if at < used {
-        return Clearing {
-            walking: true,
-            last: false,
-            at,
+    if row < used {
+        return RetireCursor {
+            active: true,
+            new: false,
+            row,
             cell,
         };
     }
-    Clearing {
-        walking: true,
-        last: true,
-        at: used,
+    RetireCursor {
+        active: true,
+        new: true,
+        row: used,
         cell,
     }
 }
 
-// Nothing is to be done where a row covers, or there is no room; where no row is larger, only the new row is left.
-pub fn clear_first(table: &[u32], state: State, candidate: Candidate, look: Look) -> Clearing
+// The beginning. Nothing is to be done where a row covers or the journal is full, which `fate` says. Where `found`, the cursor that looked for
+// a cover, has seen no larger row, none retires and only the new row is left.
+pub fn begin(table: &[u32], state: State, fate: Fate, found: CoverCursor) -> RetireCursor
     requires { ⌜ length (now table) ≡ tableCells ⌝ }
-    ensures { λ r. ⌜ ClearsFirst (now (table .entry)) (state .counts .used) (state .rows) candidate look r ⌝ }
+    ensures { λ r. ⌜ r ≡ begun (now (table .entry)) (state .counts .used) fate found ⌝ }
 {
     let counts = state.counts;
     let used = counts.used;
-    if look.covers | (used == state.rows) {
-        return Clearing {
-            walking: false,
-            last: false,
-            at: used,
-            cell: HEADS,
+    if fate.covered | fate.full {
+        return RetireCursor {
+            active: false,
+            new: false,
+            row: used,
+            cell: FIRSTS,
         };
     }
-    if look.larger {
-        let cell = HEADS + candidate.head as usize;
-        return clear_from(used, places::position(table[cell]), cell);
+    if found.larger {
+        let cell = FIRSTS + fate.head as usize;
+        return at_link(used, places::position(table[cell]), cell);
     }
-    clear_from(used, END, look.cell)
+    at_link(used, END, found.cell)
 }
 
-// What is to stand in the row's place: the new row, the row retired, or the row as it is.
-pub fn kept(state: State, candidate: Candidate, clearing: Clearing, held: Row) -> Row
-    ensures { λ r. ⌜ rowOf r ≡ keptRow (state .terms .pass) (candidateOf candidate) (clearing .last) (rowOf held) ⌝ }
-{
-    let terms = state.terms;
-    if clearing.last {
-        return rows::opened(terms.pass, candidate);
-    }
-    if rows::outgrown(held, candidate) {
-        return rows::retired(held, terms.pass);
-    }
-    held
-}
-
-// One step, with the row that it needs: a row that retires is linked no more, and the new row is linked.
-pub fn clear_on(
+// One step, after the row at `cursor` was replaced: a row that `compared` says is larger has retired and is linked no more, another stays
+// linked, and the new row is linked last.
+pub fn step(
     table: &mut [u32],
     state: State,
-    candidate: Candidate,
-    clearing: Clearing,
-    held: Row,
-) -> Clearing
-    requires { ⌜ MayClear (state .counts .used) clearing (now table) ⌝ }
-    ensures { λ r. ⌜ ClearsOn (now (table .entry)) (state .counts .used) candidate clearing held (now (table .exit)) r ⌝ }
+    cursor: RetireCursor,
+    compared: Comparison,
+) -> RetireCursor
+    requires { ⌜ MayClear (state .counts .used) cursor (now table) ⌝ }
+    ensures { λ r. ⌜ (r ≡ stepped (now (table .entry)) (state .counts .used) cursor (compared .larger)) × (now (table .exit) ≡ linksAfter (now (table .entry)) (state .counts .used) cursor (compared .larger)) ⌝ }
 {
     let counts = state.counts;
     let used = counts.used;
-    let at = clearing.at;
-    let cell = clearing.cell;
-    if clearing.last {
+    let row = cursor.row;
+    let cell = cursor.cell;
+    if cursor.new {
         table[used] = places::cell(END);
         table[cell] = places::cell(used);
-        return Clearing {
-            walking: false,
-            last: true,
-            at,
+        return RetireCursor {
+            active: false,
+            new: true,
+            row,
             cell,
         };
     }
-    let link = table[at];
+    let link = table[row];
     let next = places::position(link);
-    if rows::outgrown(held, candidate) {
+    if compared.larger {
         table[cell] = link;
-        return clear_from(used, next, cell);
+        return at_link(used, next, cell);
     }
-    clear_from(used, next, at)
+    at_link(used, next, row)
 }

@@ -1,15 +1,21 @@
 -- A candidate formed at one place of a pass, from the rule and the two rows of that place. Definitions only. Assumes nothing.
-use mathlib.Core.Bool.{Bool, _&&_}
-use mathlib.Core.List.{List}
-use Prim.Native.Nat.{ℕ, _+_, _*_}
-use Rattle.relation.specs.Relation.{contained, digest}
+use mathlib.Core.Bool.{Bool, _&&_, cond}
+use mathlib.Core.List.{List, []}
+use Prim.Native.Nat.{ℕ}
+use lib.Dec.{ltb}
+use lib.ListN.{getD}
+use Rattle.relation.specs.Relation.{contained}
 use Rattle.relation.specs.Representation.{value}
 use Rattle.language.specs.Grammar.{Symbol, terminal, nonterminal, Body, empty, one, two, Rule}
 use Rattle.working_order.specs.Candidates.{sole}
 use Rattle.working_order.specs.Journal.{absent, liveOf}
+use Rattle.working_order.specs.Order.{born}
+use Rattle.calls.specs.Rows.{rowOf, blank, entryOf}
+use Rattle.calls.specs.declared.Row.{Row as LentRow}
+use Rattle.deciding.specs.declared.State.{State}
 use Rattle.rows.specs.Base.{Row, Choice, Candidate, emptyBody, joined}
 use Rattle.rows.specs.Meanings.{letterIn}
-use Rattle.rows.specs.declared.Place.{Place}
+use Rattle.deciding.specs.declared.Place.{Place}
 
 -- a live row of the candidate's nonterminal with a contained relation
 unfoldable pub isBelow : Candidate → Row → Bool
@@ -20,9 +26,13 @@ abbrev pub retiredIn : ℕ → Row → Row
 retiredIn k r =
     record { head = r .head; rule = r .rule; effect = r .effect; left = r .left; right = r .right; len = r .len; birth = r .birth; retired = k }
 
--- where the row is noted that covered a candidate of this nonterminal and relation: a number below 36,864
-abbrev pub slotOf : Candidate → ℕ
-slotOf c = digest (c .effect) + 16 * c .head
+-- what is stored in the place of row r, in pass k for the candidate c: the new row, or r, retired if it is larger
+abbrev pub replacedBy : ℕ → Candidate → Bool → Bool → Row → Row
+replacedBy k c new larger r = cond new (born k c) (cond larger (retiredIn k r) r)
+
+-- the hints by nonterminal and relation: a digest and sixteen times the nonterminal is below this
+abbrev pub slotCells : ℕ
+slotCells = 36864
 
 -- row i as a choice
 abbrev pub rowChoice : ℕ → Row → Choice
@@ -65,3 +75,19 @@ combined x r (two s t) c d = joined x r c d
 abbrev pub formedBy : List ℕ → Rule → Place → Row → Row → Candidate
 formedBy letters x p left right =
     combined (x .head) (p .rule) (x .body) (partChoice letters (leftPart (x .body)) (p .left) left) (partChoice letters (rightPart (x .body)) (p .right) right)
+
+-- ---- at the place of a state
+
+-- the row at position i, if it is one of the first n
+abbrev pub amongFirst : LentRow → ℕ → ℕ → LentRow
+amongFirst r i n = cond (ltb i n) r blank
+
+-- rule r of the table
+abbrev pub ruleAt : List (List ℕ) → ℕ → Rule
+ruleAt rules r = entryOf (getD rules r [])
+
+-- the candidate of the place, from the used rows
+abbrev pub formedIn : List ℕ → List (List ℕ) → State → LentRow → LentRow → Candidate
+formedIn letters rules s left right =
+    formedBy letters (ruleAt rules (s .place .rule)) (s .place) (rowOf (amongFirst left (s .place .left) (s .counts .used)))
+    (rowOf (amongFirst right (s .place .right) (s .counts .used)))

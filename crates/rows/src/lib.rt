@@ -1,13 +1,18 @@
-// One row of the journal, one way to take a symbol, and one candidate of the working order, each by value. A rule is four bytes: its head, its
-// body's size and its symbols.
+// One row of the journal, one way to take a symbol, and one candidate of the working order, each by value. All that is done with an effect in
+// a search stands here: forming, comparing, retiring, opening, breaking, the digest. A rule is four bytes: its head, its body's size and its
+// symbols.
 use calls::ABSENT;
 use calls::Row;
+use deciding::Comparison;
+use deciding::Fate;
+use deciding::Place;
+use deciding::State;
 use plan_file::TERMINALS;
 use relation::Effect;
 use relation::Letter;
 use relation::StateSet;
 ghost use mathlib.Core.Path.{_≡_};
-ghost use Prim.Native.Nat.{_≤_};
+ghost use Prim.Native.Nat.{_≤_, _<_};
 ghost use lib.ListN.{length};
 ghost use Rattle.relation.specs.Relation.{contained};
 ghost use Rattle.plan_file.specs.Limits.{letterWords};
@@ -17,7 +22,8 @@ ghost use Rattle.working_order.specs.Order.{larger, born};
 ghost use Rattle.calls.specs.Rows.{rowOf, entryOf};
 ghost use Rattle.rows.specs.Base.{emptyBody, joined, breaking};
 ghost use Rattle.rows.specs.Meanings.{candidateOf, choiceOf};
-ghost use Rattle.rows.specs.Forming.{isBelow, retiredIn, slotOf, symbolChoice, formedBy};
+ghost use Rattle.deciding.specs.Fates.{fateIn};
+ghost use Rattle.rows.specs.Forming.{isBelow, retiredIn, replacedBy, slotCells, symbolChoice, formedBy, amongFirst, formedIn};
 
 // What would become a row.
 pub struct Candidate {
@@ -27,13 +33,6 @@ pub struct Candidate {
     pub left: u64,
     pub right: u64,
     pub len: u64,
-}
-
-// Where a candidate stands in a pass: its rule, and the rows of its two symbols.
-pub struct Place {
-    pub rule: usize,
-    pub left: usize,
-    pub right: usize,
 }
 
 // A nonterminal and a rule of it.
@@ -51,28 +50,24 @@ struct Choice {
 
 // ---- a row and a candidate
 
-// The row is live, of the candidate's nonterminal, and its relation is contained in the candidate's.
-pub fn below(row: Row, candidate: Candidate) -> bool
-    ensures { λ r. ⌜ r ≡ isBelow (candidateOf candidate) (rowOf row) ⌝ }
+// Compares `row` with `candidate`: `row` covers it where it is live, of the same nonterminal, and its relation is contained in the
+// candidate's; it is larger where the candidate's is contained in its own, and not the other way round.
+pub fn compare(row: Row, candidate: Candidate) -> Comparison
+    ensures { λ r. ⌜ (r .covers ≡ isBelow (candidateOf candidate) (rowOf row)) × (r .larger ≡ larger contained (candidateOf candidate) (rowOf row)) ⌝ }
 {
     let held = row.relation;
     let formed = candidate.relation;
-    (row.head == candidate.head as u64) & (row.retired == 0) & held.contained(formed)
-}
-
-// The row is live, of the candidate's nonterminal, and its relation is strictly larger.
-pub fn outgrown(row: Row, candidate: Candidate) -> bool
-    ensures { λ r. ⌜ r ≡ larger contained (candidateOf candidate) (rowOf row) ⌝ }
-{
-    let held = row.relation;
-    let formed = candidate.relation;
-    (row.head == candidate.head as u64)
-        & (row.retired == 0)
-        & (formed.contained(held) & !held.contained(formed))
+    let alike = (row.head == candidate.head as u64) & (row.retired == 0);
+    let within = held.contained(formed);
+    let over = formed.contained(held);
+    Comparison {
+        covers: alike & within,
+        larger: alike & (over & !within),
+    }
 }
 
 // The row, retired in this pass.
-pub fn retired(row: Row, pass: u64) -> Row
+fn retired(row: Row, pass: u64) -> Row
     ensures { λ r. ⌜ rowOf r ≡ retiredIn pass (rowOf row) ⌝ }
 {
     let relation = row.relation;
@@ -89,7 +84,7 @@ pub fn retired(row: Row, pass: u64) -> Row
 }
 
 // The row that the candidate becomes.
-pub fn opened(pass: u64, candidate: Candidate) -> Row
+fn opened(pass: u64, candidate: Candidate) -> Row
     ensures { λ r. ⌜ rowOf r ≡ born pass (candidateOf candidate) ⌝ }
 {
     let relation = candidate.relation;
@@ -105,18 +100,56 @@ pub fn opened(pass: u64, candidate: Candidate) -> Row
     }
 }
 
+// Returns what is to be stored in the place of `held`: the row that `candidate` becomes, if `new`, which is past the used rows; else `held`,
+// retired in this pass if it is larger than `candidate`, which `compared` says.
+pub fn replacement(
+    state: State,
+    candidate: Candidate,
+    new: bool,
+    compared: Comparison,
+    held: Row,
+) -> Row
+    ensures { λ r. ⌜ rowOf r ≡ replacedBy (state .terms .pass) (candidateOf candidate) new (compared .larger) (rowOf held) ⌝ }
+{
+    let terms = state.terms;
+    if new {
+        return opened(terms.pass, candidate);
+    }
+    if compared.larger {
+        return retired(held, terms.pass);
+    }
+    held
+}
+
 // Returns whether `candidate` is of the initial nonterminal and its relation rejects, where `finals` are the final states.
-pub fn breaks(finals: StateSet, candidate: Candidate) -> bool
+fn breaks(finals: StateSet, candidate: Candidate) -> bool
     ensures { λ r. ⌜ r ≡ breaking finals (candidateOf candidate) ⌝ }
 {
     let formed = candidate.relation;
     (candidate.head == 0) & formed.rejects(finals)
 }
 
-// Where the row that covered a candidate of this nonterminal and relation is noted.
-pub fn slot(candidate: Candidate) -> usize
-    ensures { λ r. ⌜ r ≡ slotOf (candidateOf candidate) ⌝ }
+// Decides what becomes of `candidate`, where a row covers it or not.
+pub fn fate(state: State, candidate: Candidate, covered: bool) -> Fate
+    ensures { λ r. ⌜ r ≡ fateIn state (candidate .head) covered (breaking (state .terms .finals) (candidateOf candidate)) ⌝ }
 {
+    let terms = state.terms;
+    deciding::fate_of(
+        state,
+        candidate.head,
+        covered,
+        breaks(terms.finals, candidate),
+    )
+}
+
+// Returns where the hints have a row for the nonterminal and the relation of `candidate`, unless `compared` says that a row covers it: then
+// no such hint is read, and the remainder that the digest takes is saved.
+pub fn slot_unless(compared: Comparison, candidate: Candidate) -> usize
+    ensures { λ r. ⌜ r < slotCells ⌝ }
+{
+    if compared.covers {
+        return 0;
+    }
     let formed = candidate.relation;
     formed.digest() + 16 * candidate.head as usize
 }
@@ -186,7 +219,7 @@ fn two_symbols(origin: Origin, first: Choice, second: Choice) -> Candidate
 }
 
 // Returns the candidate of `place`, whose rule is `rule` and whose rows are `left` and `right`.
-pub fn formed(letters: &[Letter], rule: [u8; 4], place: Place, left: Row, right: Row) -> Candidate
+fn formed(letters: &[Letter], rule: [u8; 4], place: Place, left: Row, right: Row) -> Candidate
     requires { ⌜ letterWords ≤ length (now letters) ⌝ }
     ensures { λ r. ⌜ candidateOf r ≡ formedBy (now (letters .entry)) (entryOf rule) place (rowOf left) (rowOf right) ⌝ }
 {
@@ -204,4 +237,28 @@ pub fn formed(letters: &[Letter], rule: [u8; 4], place: Place, left: Row, right:
     }
     let second = taken(letters, rule[3], place.right, right);
     two_symbols(origin, first, second)
+}
+
+// Returns `row`, which was read for `position`, or a row of zeros where `position` is none of the `used` rows.
+fn among(row: Row, position: usize, used: usize) -> Row
+    ensures { λ r. ⌜ r ≡ amongFirst row position used ⌝ }
+{
+    if position < used {
+        return row;
+    }
+    Row::blank()
+}
+
+// Forms the candidate of the place at which `state` stands, from the two rows that were read for it.
+pub fn form(letters: &[Letter], rules: &[[u8; 4]], state: State, left: Row, right: Row) -> Candidate
+    requires { ⌜ (letterWords ≤ length (now letters)) × (state .place .rule < length (now rules)) ⌝ }
+    ensures { λ r. ⌜ candidateOf r ≡ formedIn (now (letters .entry)) (now (rules .entry)) state left right ⌝ }
+{
+    let counts = state.counts;
+    let place = state.place;
+    let r = place.rule;
+    let rule = rules[r];
+    let first = among(left, place.left, counts.used);
+    let second = among(right, place.right, counts.used);
+    formed(letters, rule, place, first, second)
 }

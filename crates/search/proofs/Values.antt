@@ -12,14 +12,18 @@ use Rattle.places.specs.Lists.{heads}
 use Rattle.rows.proofs.Candidate as D
 use Rattle.rows.proofs.Candidate.Laws as D′
 use Rattle.deciding.specs.declared.State.{State}
-use Rattle.deciding.specs.declared.Look.{Look}
-use Rattle.retiring.specs.declared.Clearing.{Clearing}
+use Rattle.search_cover.specs.declared.CoverCursor.{CoverCursor}
+use Rattle.retiring.specs.declared.RetireCursor.{RetireCursor}
 use Rattle.deciding.proofs.State as S
 use Rattle.deciding.proofs.State.Laws as S′
-use Rattle.deciding.proofs.Look as L
-use Rattle.deciding.proofs.Look.Laws as L′
-use Rattle.retiring.proofs.Clearing as G
-use Rattle.retiring.proofs.Clearing.Laws as G′
+use Rattle.deciding.proofs.Comparison as M
+use Rattle.deciding.proofs.Comparison.Laws as M′
+use Rattle.deciding.proofs.Fate as F
+use Rattle.deciding.proofs.Fate.Laws as F′
+use Rattle.search_cover.proofs.CoverCursor as L
+use Rattle.search_cover.proofs.CoverCursor.Laws as L′
+use Rattle.retiring.proofs.RetireCursor as G
+use Rattle.retiring.proofs.RetireCursor.Laws as G′
 use Rattle.lent.proofs.PlainData.{Data, Means}
 
 abbrev pub row : Data
@@ -31,11 +35,17 @@ candidate = record { type = D.the-type; laws = D′.the-laws; plain = D′.the-p
 abbrev pub state : Data
 state = record { type = S.the-type; laws = S′.the-laws; plain = S′.the-plain; copy = S′.the-copy; low = S′.lowers }
 
-abbrev pub look : Data
-look = record { type = L.the-type; laws = L′.the-laws; plain = L′.the-plain; copy = L′.the-copy; low = L′.lowers }
+abbrev pub comparison : Data
+comparison = record { type = M.the-type; laws = M′.the-laws; plain = M′.the-plain; copy = M′.the-copy; low = M′.lowers }
 
-abbrev pub clearing : Data
-clearing = record { type = G.the-type; laws = G′.the-laws; plain = G′.the-plain; copy = G′.the-copy; low = G′.lowers }
+abbrev pub fate : Data
+fate = record { type = F.the-type; laws = F′.the-laws; plain = F′.the-plain; copy = F′.the-copy; low = F′.lowers }
+
+abbrev pub cover-cursor : Data
+cover-cursor = record { type = L.the-type; laws = L′.the-laws; plain = L′.the-plain; copy = L′.the-copy; low = L′.lowers }
+
+abbrev pub retire-cursor : Data
+retire-cursor = record { type = G.the-type; laws = G′.the-laws; plain = G′.the-plain; copy = G′.the-copy; low = G′.lowers }
 
 -- ---- the places of the fields
 module _ (s : State) (is : Means state s) where
@@ -48,11 +58,11 @@ module _ (s : State) (is : Means state s) where
 pub head-fits : (c : Candidate) → Means candidate c → c .head < heads
 head-fits c is = LL.owed D.the-type D′.the-laws c (D′.lowered c ∷ []) is .0 .1
 
-pub look-at-fits : (l : Look) → Means look l → l .at < 2 ^ 64
-look-at-fits l is = LL.owed L.the-type L′.the-laws l (L′.lowered l ∷ []) is .1 .1 .1 .0 .1
+pub cover-row-fits : (l : CoverCursor) → Means cover-cursor l → l .row < 2 ^ 64
+cover-row-fits l is = LL.owed L.the-type L′.the-laws l (L′.lowered l ∷ []) is .1 .1 .1 .0 .1
 
-pub clearing-at-fits : (g : Clearing) → Means clearing g → g .at < 2 ^ 64
-clearing-at-fits g is = LL.owed G.the-type G′.the-laws g (G′.lowered g ∷ []) is .1 .1 .0 .1
+pub retire-row-fits : (g : RetireCursor) → Means retire-cursor g → g .row < 2 ^ 64
+retire-row-fits g is = LL.owed G.the-type G′.the-laws g (G′.lowered g ∷ []) is .1 .1 .0 .1
 
 -- a cell of the table
 abbrev pub cell : RattleType

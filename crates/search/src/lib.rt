@@ -1,45 +1,62 @@
-// The three loops that hold the lent journal; all else is covered code on values.
+// The three loops that hold the lent journal; all else is covered code on values. Only here and in `rows` is an effect named: a loop reads a
+// row, has `rows` compare it with the candidate, and hands two bools on to steps that know neither.
 use calls::Row;
-use deciding::Look;
+use deciding::Fate;
 use deciding::State;
 use relation::Letter;
 use rows::Candidate;
+use search_cover::CoverCursor;
 ghost use Rattle.rows.specs.Meanings.{candidateOf};
 ghost use Rattle.retiring.specs.Clearing.{Settled};
 ghost use Rattle.verdicts.specs.Running.{MayFind, Found, MaySettle, Running, Ran};
 
-// Looks for a live row that covers the candidate, until one is found or none is left: at the row of its nonterminal that covered last, at the
-// row that was noted for its relation, and then along the linked rows. Any that covers will do: the contract is whether there is one.
-fn find(journal: &[Row], table: &[u32], state: State, candidate: Candidate) -> Look
+// Looks for a live row that covers `candidate`, until one is found or none is left: at the row of its nonterminal that covered last, at the
+// row that is noted for its relation, and then along the linked rows. Any that covers will do: the contract is whether there is one.
+fn find(journal: &[Row], table: &[u32], state: State, candidate: Candidate) -> CoverCursor
     requires { ⌜ MayFind state (now journal) (now table) ⌝ }
     ensures { λ r. ⌜ Found state candidate (now (journal .entry)) (now (table .entry)) r ⌝ }
 {
-    let last = deciding::last_row(table, state, candidate);
+    let head = candidate.head;
+    let last = search_cover::last_row(table, state, head);
     let noted = journal[last];
-    let mut look = deciding::look_first(table, state, candidate, noted);
-    while look.walking {
-        let at = look.at;
+    let compared = rows::compare(noted, candidate);
+    let slot = rows::slot_unless(compared, candidate);
+    let mut cursor = search_cover::begin(table, state, head, last, compared, slot);
+    while cursor.active {
+        let at = cursor.row;
         let held = journal[at];
-        look = deciding::look_on(table, state, candidate, look, held);
+        let compared = rows::compare(held, candidate);
+        cursor = search_cover::step(table, state, head, cursor, compared);
     }
-    look
+    cursor
 }
 
-// Where no row covers the candidate and there is room, the larger rows retire and it becomes the next row.
-fn settle(journal: &mut [Row], table: &mut [u32], state: State, candidate: Candidate, look: Look)
-    requires { ⌜ MaySettle state candidate look (now journal) (now table) ⌝ }
-    ensures { λ r. ⌜ Settled (state .terms .pass) (candidateOf candidate) (state .counts .used) look (now (journal .entry)) (now (table .entry)) (now (journal .exit)) (now (table .exit)) ⌝ }
+// Where `fate` says that no row covers `candidate` and there is room, the larger rows retire and it becomes the next row. `found` is where
+// looking for a cover ended.
+fn settle(
+    journal: &mut [Row],
+    table: &mut [u32],
+    state: State,
+    candidate: Candidate,
+    fate: Fate,
+    found: CoverCursor,
+)
+    requires { ⌜ MaySettle state candidate fate found (now journal) (now table) ⌝ }
+    ensures { λ r. ⌜ Settled (state .terms .pass) (candidateOf candidate) (state .counts .used) found (now (journal .entry)) (now (table .entry)) (now (journal .exit)) (now (table .exit)) ⌝ }
 {
-    let mut clearing = retiring::clear_first(table, state, candidate, look);
-    while clearing.walking {
-        let at = clearing.at;
-        let held = journal[at];
-        journal[at] = retiring::kept(state, candidate, clearing, held);
-        clearing = retiring::clear_on(table, state, candidate, clearing, held);
+    let mut cursor = retiring::begin(table, state, fate, found);
+    while cursor.active {
+        let row = cursor.row;
+        let held = journal[row];
+        let compared = rows::compare(held, candidate);
+        let new = cursor.new;
+        journal[row] = rows::replacement(state, candidate, new, compared, held);
+        cursor = retiring::step(table, state, cursor, compared);
     }
 }
 
-// The candidates, one after the other, to the end of the search.
+// Takes the candidates one after the other, to the end of the search. Between `find` and `settle` it is decided, once for both `settle` and
+// `advance`, what becomes of the candidate: rows that are used again (request C-19) make room at that seam, before it is asked.
 pub fn run(
     journal: &mut [Row],
     table: &mut [u32],
@@ -56,10 +73,12 @@ pub fn run(
         let left = journal[i];
         let k = state.right;
         let right = journal[k];
-        let candidate = deciding::form(letters, rules, state, left, right);
-        let look = find(journal, table, state, candidate);
-        settle(journal, table, state, candidate, look);
-        state = passes::advance(rules, table, state, candidate, look);
+        let candidate = rows::form(letters, rules, state, left, right);
+        let found = find(journal, table, state, candidate);
+        let covered = found.covers;
+        let fate = rows::fate(state, candidate, covered);
+        settle(journal, table, state, candidate, fate, found);
+        state = passes::advance(rules, table, state, fate, found);
     }
     state
 }

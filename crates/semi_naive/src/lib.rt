@@ -1,8 +1,11 @@
 // From place to place of a pass, and past those that need no work (semi-naive evaluation). A candidate of rows that were there when the pass
 // before began was formed in that pass, so that a live row covers it: it is one join, and nothing else.
+use deciding::ABSENT;
 use deciding::Counts;
+use deciding::END;
+use deciding::LISTS;
+use deciding::Place;
 use deciding::Terms;
-use rows::Place;
 use verdicts::Reached;
 ghost use Prim.Native.Nat.{_≤_, _<_};
 ghost use mathlib.Core.Path.{_≡_};
@@ -13,14 +16,6 @@ ghost use Rattle.places.specs.Places as places;
 ghost use Rattle.covers.specs.Covers.{tableCells, listsIn};
 ghost use Rattle.verdicts.specs.Walks.{isBefore, repeatsAt};
 ghost use Rattle.verdicts.specs.Running.{passesAt, PassesRights, PassesOver};
-
-// Where the table has the lists of the pass (crate covers).
-const LISTS: usize = 41472;
-
-// The position of a symbol that is no row, and no position (crate places).
-const ABSENT: usize = 65535;
-
-pub const END: usize = 65536;
 
 // ---- the lists of the pass
 

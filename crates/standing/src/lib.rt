@@ -1,8 +1,8 @@
 // Where the search stands, in steps on values: at a place, at the end with a verdict, and what it then answers.
 use deciding::Counts;
+use deciding::Place;
 use deciding::State;
 use deciding::Terms;
-use rows::Place;
 use verdicts::Answer;
 use verdicts::BROKEN;
 use verdicts::FULL;

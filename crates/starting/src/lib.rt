@@ -1,12 +1,12 @@
 // Where a check starts: what refuses it, and else the file's tables and the first pass.
 use deciding::Counts;
+use deciding::Place;
 use deciding::State;
 use deciding::Terms;
 use plan_file::Letters;
 use plan_file::RULE_LIMIT;
 use plan_file::Refusal;
 use relation::StateSet;
-use rows::Place;
 ghost use mathlib.Core.Path.{_≡_};
 ghost use lib.ListN.{replicate};
 ghost use Rattle.places.specs.Lists.{end};

@@ -15,27 +15,29 @@ use Rattle.language.specs.Grammar.{Rule}
 use Rattle.working_order.specs.Order.{dropped}
 use Rattle.calls.specs.Rows.{rowOf, blank, entryOf}
 use Rattle.rows.specs.Base as order
-use Rattle.rows.specs.Forming.{formedBy}
+use Rattle.rows.specs.Forming.{formedBy, ruleAt, amongFirst}
 use Rattle.rows.specs.Meanings.{candidateOf}
 use Rattle.rows.specs.declared.Candidate.{Candidate}
 use Rattle.places.specs.Lists.{rowCells, rowIn, Listed}
 use Rattle.places.specs.Places as places
 use Rattle.covers.specs.Covers.{tableCells, listsIn, Covering}
 use Rattle.covers.specs.Rows.{Journal, firstRows}
-use Rattle.covers.specs.RowLaws.{rows-length}
+use Rattle.covers.specs.RowLaws.{rows-length, among-row}
 use Rattle.retiring.specs.Clearing.{Outcome as Ending}
-use Rattle.deciding.specs.FormLaws.{among-row, position-row}
-use Rattle.deciding.specs.Forming.{positionRow, amongFirst}
-use Rattle.deciding.specs.LookLaws.{look-finds}
-use Rattle.deciding.specs.Looking.{Finds}
+use Rattle.search_cover.specs.SeekLaws.{seek-finds}
+use Rattle.search_cover.specs.Seeking.{Finds}
+use Rattle.search_cover.specs.declared.CoverCursor.{CoverCursor}
+use Rattle.deciding.specs.Fates.{fullIn}
+use Rattle.deciding.specs.PositionLaws.{position-row}
+use Rattle.deciding.specs.Positions.{positionRow}
 use Rattle.deciding.specs.declared.Counts.{Counts}
-use Rattle.deciding.specs.declared.Look.{Look}
+use Rattle.deciding.specs.declared.Fate.{Fate}
 use Rattle.deciding.specs.declared.State.{State}
 use Rattle.deciding.specs.declared.Terms.{Terms}
 use Rattle.verdicts.specs.Contracts.{Answers, Checked}
 use Rattle.verdicts.specs.Deciding.{answers-dropped, answers-full, answers-new}
 use Rattle.verdicts.specs.Meanings.{progressOf, countsIn, withJoin, withRow, bornBy, fullBy, decidedBy, decidedIn, totalsOf, answerTo, codeOf, answerAt, answerIn}
-use Rattle.verdicts.specs.Running.{target, Goes, Stands, Running, Considered, MayAdvance, Notes, GoesOn, GoesOnOver, Onward, candidatesLeft}
+use Rattle.verdicts.specs.Running.{target, Goes, Stands, Running, fateFor, Considered, MayAdvance, Notes, GoesOn, GoesOnOver, Onward, candidatesLeft}
 use Rattle.verdicts.specs.RunLaws.{counted, started, stands-on, goes-on, sized, used-fits, limit}
 use Rattle.verdicts.specs.RunningLaws.{stops}
 use Rattle.verdicts.specs.States.{stoppedIn}
@@ -66,7 +68,7 @@ stop-ends : (p : Stop) → Ends (outcome.Stopped p)
 stop-ends (stop.Ended v w) = λ j K. refl
 stop-ends (stop.Broken i w) = λ j K. refl
 
-module _ {letters : List ℕ} {rules : List (List ℕ)} {start : State} {j₀ : Journal} {s : State} {c : Candidate} {l : Look} {j : Journal} {t : List ℕ} (x : Considered letters rules start j₀ s c l j t) where
+module _ {letters : List ℕ} {rules : List (List ℕ)} {start : State} {j₀ : Journal} {s : State} {c : Candidate} {f : Fate} {l : CoverCursor} {j : Journal} {t : List ℕ} (x : Considered letters rules start j₀ s c f l j t) where
   abbrev u : ℕ
   u = s .counts .used
 
@@ -83,7 +85,7 @@ module _ {letters : List ℕ} {rules : List (List ℕ)} {start : State} {j₀ : 
   unspent = omega (arith, go .unspent, budget-is)
 
   finds : Finds (candidateOf c) (firstRows u (x .before)) u (x .table) l
-  finds = look-finds (x .found .0) (x .found .1)
+  finds = seek-finds (x .found .0) (x .found .1)
 
   cells : length t ≡ tableCells
   cells = by (x .settled .outcome)
@@ -92,9 +94,10 @@ module _ {letters : List ℕ} {rules : List (List ℕ)} {start : State} {j₀ : 
       by (inl z) = ap length (z .2) ∙ go .in-pass .covering .size
       by (inr z) = z .1 .covering .size
 
-  pub may-advance : MayAdvance rules s c l t
+  pub may-advance : MayAdvance rules s f l t
   may-advance =
       record {
+        full = ap (λ (z : Fate). z .full) (x .fate);
         note = record { used = omega (arith, room, limit (x .running) (x .going)); table = cells; above = x .found .0 .slot .0; below = x .found .0 .slot .1; row = finds .row };
         decide = record { used = omega (arith, room, limit (x .running) (x .going)); joins = unspent; added = omega (arith, go .in-pass .left .adds, go .begun .at-pass .none-added) };
         count = omega (arith, stands-on (x .running) (x .going) .count, length-take (start .rules) rules);
@@ -109,7 +112,11 @@ module _ {letters : List ℕ} {rules : List (List ℕ)} {start : State} {j₀ : 
   rows-are = stands-on (x .running) (x .going) .rows ∙ sym (stands-on (x .running) (x .going) .size)
 
   abbrev became : Outcome
-  became = decidedIn s (candidateOf c) (l .covers)
+  became = decidedIn s (fateFor s c (l .covers))
+
+  -- and what the fate says
+  pub decided-so : decidedIn s f ≡ became
+  decided-so = ap (decidedIn s) (x .fate)
 
   -- it is what the working order makes of it, and the table leads along the rows
   abbrev pub Right : Outcome → Type 0
@@ -162,14 +169,14 @@ module _ {letters : List ℕ} {rules : List (List ℕ)} {start : State} {j₀ : 
   row-there : (p i : ℕ) → i ≡ positionRow p u → rowOf (amongFirst (getD (x .before) i blank) p u) ≡ rowIn (firstRows u (x .before)) p
   row-there p i e = among-row (x .before) u p (getD (x .before) i blank) room (λ h. ap (λ (n : ℕ). getD (x .before) n blank) (e ∙ position-row p u h))
 
-  rule-there : places.ruleAt rules (s .place .rule) ≡ places.ruleAt (counted (x .running) (x .going)) (s .place .rule)
+  rule-there : ruleAt rules (s .place .rule) ≡ ruleAt (counted (x .running) (x .going)) (s .place .rule)
   rule-there = ap entryOf (sym (getD-take (start .rules) rules (s .place .rule) [] (omega (arith, go .here, length-take (start .rules) rules))))
 
-  formed-there : candidateOf c ≡ formedBy letters (places.ruleAt (counted (x .running) (x .going)) (s .place .rule)) (s .place) (rowIn (firstRows u (x .before)) (s .place .left)) (rowIn (firstRows u (x .before)) (s .place .right))
+  formed-there : candidateOf c ≡ formedBy letters (ruleAt (counted (x .running) (x .going)) (s .place .rule)) (s .place) (rowIn (firstRows u (x .before)) (s .place .left)) (rowIn (firstRows u (x .before)) (s .place .right))
   formed-there =
       x .formed
       ∙ ap (λ (r : Rule). formedBy letters r (s .place) (rowOf (amongFirst (getD (x .before) (s .left) blank) (s .place .left) u)) (rowOf (amongFirst (getD (x .before) (s .right) blank) (s .place .right) u))) rule-there
-      ∙ ap₂ (formedBy letters (places.ruleAt (counted (x .running) (x .going)) (s .place .rule)) (s .place)) (row-there (s .place .left) (s .left) (go .left)) (row-there (s .place .right) (s .right) (go .right))
+      ∙ ap₂ (formedBy letters (ruleAt (counted (x .running) (x .going)) (s .place .rule)) (s .place)) (row-there (s .place .left) (s .left) (go .left)) (row-there (s .place .right) (s .right) (go .right))
 
   -- ---- it stops the search
 
@@ -263,11 +270,14 @@ module _ {letters : List ℕ} {rules : List (List ℕ)} {start : State} {j₀ : 
       less false B n p q = omega arith
 
 -- a row more at most
-pub decided-used : (s : State) (c : order.Candidate) (k : Bool) → s .counts .used ≤ s .rows → s .rows ≤ rowCells → countsIn (decidedIn s c k) .used ≤ rowCells
-decided-used s c k h m = by k (eqb (s .counts .used) (s .rows)) refl (order.breaking (s .terms .finals) c)
+pub decided-used : (s : State) (f : Fate) → f .full ≡ fullIn s → s .counts .used ≤ s .rows → s .rows ≤ rowCells → countsIn (decidedIn s f) .used ≤ rowCells
+decided-used s f e h m = by (f .covered) (f .full) e (f .breaks)
   where
-    by : (d f : Bool) → eqb (s .counts .used) (s .rows) ≡ f → (b : Bool) → countsIn (decidedBy d f b (withJoin (s .counts))) .used ≤ rowCells
-    by true f e b = omega (arith, h, m)
+    fits : eqb (s .counts .used) (s .rows) ≡ false → s .counts .used + 1 ≤ rowCells
+    fits z = let n : s .counts .used < s .rows = lt-of-le-ne h (eqb-false (s .counts .used) (s .rows) z) in omega (arith, n, m)
+
+    by : (d k : Bool) → k ≡ fullIn s → (b : Bool) → countsIn (decidedBy d k b (withJoin (s .counts))) .used ≤ rowCells
+    by true k e b = omega (arith, h, m)
     by false true e b = omega (arith, h, m)
-    by false false e true = let n : s .counts .used < s .rows = lt-of-le-ne h (eqb-false (s .counts .used) (s .rows) e) in omega (arith, n, m)
-    by false false e false = let n : s .counts .used < s .rows = lt-of-le-ne h (eqb-false (s .counts .used) (s .rows) e) in omega (arith, n, m)
+    by false false e true = fits (sym e)
+    by false false e false = fits (sym e)

@@ -8,6 +8,7 @@ use Rattle.calls.specs.Codes.{holdsCode, brokenCode, fullCode, verdictCode}
 use Rattle.rows.specs.Base as order
 use Rattle.covers.specs.Rows.{Journal, firstRows}
 use Rattle.deciding.specs.declared.Counts.{Counts}
+use Rattle.deciding.specs.declared.Fate.{Fate}
 use Rattle.deciding.specs.declared.State.{State}
 use Rattle.verdicts.specs.declared.Answer.the-variants as answer
 use Rattle.verdicts.specs.declared.Answer.{Answer}
@@ -74,8 +75,9 @@ abbrev pub decidedBy : Bool → Bool → Bool → Counts → Outcome
 decidedBy true f b w = outcome.Going w
 decidedBy false f b w = fullBy f b w
 
-abbrev pub decidedIn : State → order.Candidate → Bool → Outcome
-decidedIn s c k = decidedBy k (eqb (s .counts .used) (s .rows)) (order.breaking (s .terms .finals) c) (withJoin (s .counts))
+-- one join more, by the candidate's fate
+abbrev pub decidedIn : State → Fate → Outcome
+decidedIn s f = decidedBy (f .covered) (f .full) (f .breaks) (withJoin (s .counts))
 
 -- ---- answers
 

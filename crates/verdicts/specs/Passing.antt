@@ -28,10 +28,10 @@ use Rattle.calls.specs.Checking.{journalLimit}
 use Rattle.calls.specs.Rows.{rowOf, blank, entryOf}
 use Rattle.rows.specs.Base as order
 use Rattle.rows.specs.Meanings.{letterIn, baseOf}
-use Rattle.rows.specs.Forming.{Part, none, some, rowChoice, symbolChoice, leftPart, rightPart, partChoice, combined, formedBy}
-use Rattle.rows.specs.declared.Place.{Place}
+use Rattle.rows.specs.Forming.{Part, none, some, rowChoice, symbolChoice, leftPart, rightPart, partChoice, combined, formedBy, ruleAt}
+use Rattle.deciding.specs.declared.Place.{Place}
 use Rattle.places.specs.Lists.{rowIn, Listed}
-use Rattle.places.specs.Places.{ruleAt, onward, Stands, Opens, Follows}
+use Rattle.places.specs.Places.{onward, Stands, Opens, Follows}
 use Rattle.covers.specs.Covers.{Covering}
 use Rattle.covers.specs.Rows.{Journal, firstRows}
 use Rattle.covers.specs.RowLaws.{rows-length, rows-at}

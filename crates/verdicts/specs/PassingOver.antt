@@ -10,12 +10,12 @@ use lib.ListN.{length}
 use borrow.Author.Tests.{leb-false, ltb-true, lt-ltb}
 use Rattle.basics.specs.Tests.{and-intro, and-fst, and-snd, fails, not-excludes}
 use Rattle.working_order.specs.Journal.{absent}
-use Rattle.rows.specs.declared.Place.{Place}
+use Rattle.deciding.specs.declared.Place.{Place}
 use Rattle.places.specs.Lists.{afterIn}
 use Rattle.places.specs.PlaceLaws.{follows-right}
 use Rattle.places.specs.Places.{Follows}
 use Rattle.covers.specs.Covers.{listsIn}
-use Rattle.deciding.specs.Forming.{isSpent}
+use Rattle.deciding.specs.Budgets.{isSpent}
 use Rattle.deciding.specs.declared.Terms.{Terms}
 use Rattle.verdicts.specs.Passing.{pass-over}
 use Rattle.verdicts.specs.Running.{passesAt, Counted, PassesRights, PassesOver}

@@ -10,11 +10,12 @@ use Rattle.rows.specs.declared.Candidate.{Candidate}
 use Rattle.places.specs.Lists.{rowCells}
 use Rattle.covers.specs.Rows.{Journal}
 use Rattle.covers.specs.RowLaws.{rows-length}
-use Rattle.deciding.specs.FormLaws.{position-inside}
-use Rattle.deciding.specs.LookLaws.{look-finds}
-use Rattle.deciding.specs.declared.Look.{Look}
+use Rattle.deciding.specs.PositionLaws.{position-inside}
+use Rattle.deciding.specs.declared.Fate.{Fate}
 use Rattle.deciding.specs.declared.State.{State}
-use Rattle.verdicts.specs.Running.{Sized, Goes, Stands, Running, MayFind, Found, MaySettle}
+use Rattle.search_cover.specs.SeekLaws.{seek-finds}
+use Rattle.search_cover.specs.declared.CoverCursor.{CoverCursor}
+use Rattle.verdicts.specs.Running.{Sized, Goes, Stands, Running, MayFind, Found, fateFor, MaySettle}
 
 module _ {letters : List ℕ} {rules : List (List ℕ)} {start : State} {j₀ : Journal} {s : State} {j : Journal} {t : List ℕ} (r : Running letters rules start j₀ s j t) (g : T (s .going)) where
   -- the rules that are checked
@@ -61,13 +62,14 @@ module _ {letters : List ℕ} {rules : List (List ℕ)} {start : State} {j₀ : 
   pub pass-some : 0 < s .terms .pass
   pass-some = omega (arith, goes-on .begun .at-pass .first, ap (λ (x : _). x .pass) (goes-on .begun .terms))
 
-  pub may-settle : {c : Candidate} {l : Look} → Found s c j t l → MaySettle s c l j t
-  may-settle f =
+  pub may-settle : {c : Candidate} {f : Fate} {l : CoverCursor} → Found s c j t l → f ≡ fateFor s c (l .covers) → MaySettle s c f l j t
+  may-settle h e =
       record {
+        fate = e;
         pass = pass-some;
         rows = stands-on .rows ∙ sym (stands-on .size);
         room = used-fits;
         limit = limit;
         covering = goes-on .in-pass .covering;
-        finds = look-finds (f .0) (f .1);
+        finds = seek-finds (h .0) (h .1);
       }

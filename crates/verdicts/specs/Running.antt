@@ -7,18 +7,22 @@ use lib.Dec.{T, ltb}
 use lib.ListN.{length, getD, take}
 use Rattle.calls.specs.Rows.{blank}
 use Rattle.rows.specs.Base as order
+use Rattle.rows.specs.Forming.{formedIn}
 use Rattle.rows.specs.Meanings.{candidateOf}
 use Rattle.rows.specs.declared.Candidate.{Candidate}
-use Rattle.rows.specs.declared.Place.{Place}
+use Rattle.deciding.specs.declared.Place.{Place}
 use Rattle.places.specs.Lists.{rowCells, heads, headCell, Listed}
 use Rattle.places.specs.Places as places
 use Rattle.covers.specs.Covers.{tableCells, listsFrom, listsIn, Covering}
 use Rattle.covers.specs.Rows.{Journal, firstRows}
+use Rattle.search_cover.specs.Seeking.{Leads, Finds, Seeking}
+use Rattle.search_cover.specs.declared.CoverCursor.{CoverCursor}
 use Rattle.retiring.specs.Clearing.{Settled}
-use Rattle.deciding.specs.Forming.{isSpent, positionRow, formedIn}
-use Rattle.deciding.specs.Looking.{Leads, Finds, InLook}
+use Rattle.deciding.specs.Budgets.{isSpent}
+use Rattle.deciding.specs.Fates.{fullIn, fateIn}
+use Rattle.deciding.specs.Positions.{positionRow}
 use Rattle.deciding.specs.declared.Counts.{Counts}
-use Rattle.deciding.specs.declared.Look.{Look}
+use Rattle.deciding.specs.declared.Fate.{Fate}
 use Rattle.deciding.specs.declared.State.{State}
 use Rattle.deciding.specs.declared.Terms.{Terms}
 use Rattle.verdicts.specs.Contracts.{Answers, Checked, orderOf}
@@ -88,10 +92,15 @@ Ran letters rules start j₀ j t r = T (not (r .going)) × Running letters rules
 abbrev pub MayFind : State → Journal → List ℕ → Type 0
 MayFind s j t = (s .counts .used ≤ length j) × (0 < length j) × Leads (firstRows (s .counts .used) j) (s .counts .used) t
 
-abbrev pub Found : State → Candidate → Journal → List ℕ → Look → Type 0
-Found s c j t l = InLook (candidateOf c) (firstRows (s .counts .used) j) (s .counts .used) t l × T (not (l .walking))
+abbrev pub Found : State → Candidate → Journal → List ℕ → CoverCursor → Type 0
+Found s c j t l = Seeking (candidateOf c) (firstRows (s .counts .used) j) (s .counts .used) t l × T (not (l .active))
 
-pub record MaySettle (s : State) (c : Candidate) (l : Look) (j : Journal) (t : List ℕ) : Type 0 where
+-- what becomes of the candidate c, where a row covers it or not
+abbrev pub fateFor : State → Candidate → Bool → Fate
+fateFor s c covered = fateIn s (c .head) covered (order.breaking (s .terms .finals) (candidateOf c))
+
+pub record MaySettle (s : State) (c : Candidate) (f : Fate) (l : CoverCursor) (j : Journal) (t : List ℕ) : Type 0 where
+  pub fate : f ≡ fateFor s c (l .covers)
   pub pass : 0 < s .terms .pass
   pub rows : s .rows ≡ length j
   pub room : s .counts .used ≤ length j
@@ -100,13 +109,14 @@ pub record MaySettle (s : State) (c : Candidate) (l : Look) (j : Journal) (t : L
   pub finds : Finds (candidateOf c) (firstRows (s .counts .used) j) (s .counts .used) t l
 
 -- the candidate of the place has been formed, looked for and settled
-pub record Considered (letters : List ℕ) (rules : List (List ℕ)) (start : State) (j₀ : Journal) (s : State) (c : Candidate) (l : Look) (j : Journal) (t : List ℕ) : Type 0 where
+pub record Considered (letters : List ℕ) (rules : List (List ℕ)) (start : State) (j₀ : Journal) (s : State) (c : Candidate) (f : Fate) (l : CoverCursor) (j : Journal) (t : List ℕ) : Type 0 where
   pub before : Journal
   pub table : List ℕ
   pub running : Running letters rules start j₀ s before table
   pub going : T (s .going)
   pub formed : candidateOf c ≡ formedIn letters rules s (getD before (s .left) blank) (getD before (s .right) blank)
   pub found : Found s c before table l
+  pub fate : f ≡ fateFor s c (l .covers)
   pub settled : Settled (s .terms .pass) (candidateOf c) (s .counts .used) l before table j t
 
 -- how many candidates are left at most
@@ -121,12 +131,12 @@ pub record Notes (old new : List ℕ) : Type 0 where
   pub lists : listsIn new ≡ listsIn old
   pub covering : (rows : List order.Row) → length rows ≤ rowCells → Covering rows old → Covering rows new
 
-pub record MayNote (s : State) (l : Look) (t : List ℕ) : Type 0 where
+pub record MayNote (s : State) (l : CoverCursor) (t : List ℕ) : Type 0 where
   pub used : s .counts .used ≤ rowCells
   pub table : length t ≡ tableCells
   pub above : headCell heads ≤ l .slot
   pub below : l .slot < listsFrom
-  pub row : l .covers ≡ true → l .at < s .counts .used
+  pub row : l .covers ≡ true → l .row < s .counts .used
 
 -- one join and one row more can be counted
 pub record MayDecide (s : State) : Type 0 where
@@ -143,7 +153,8 @@ pub record MayGoOn (rules : List (List ℕ)) (s : State) (w : Counts) (t : List 
   pub opens : MayOpen rules (s .rules) w t
   pub pass : s .terms .pass ≤ 65535
 
-pub record MayAdvance (rules : List (List ℕ)) (s : State) (c : Candidate) (l : Look) (t : List ℕ) : Type 0 where
+pub record MayAdvance (rules : List (List ℕ)) (s : State) (f : Fate) (l : CoverCursor) (t : List ℕ) : Type 0 where
+  pub full : f .full ≡ fullIn s
   pub note : MayNote s l t
   pub decide : MayDecide s
   pub count : s .rules ≤ length rules
@@ -219,6 +230,6 @@ abbrev pub GoesOn : List (List ℕ) → List ℕ → State → Counts → List �
 GoesOn rules t s w t′ r = GoesOnOver (take (s .rules) rules) t s w t′ r
 
 -- a candidate more
-abbrev pub Advances : List (List ℕ) → List ℕ → State → Candidate → Look → List ℕ → State → Type 0
-Advances rules t s c l t′ r =
-    (letters : List ℕ) (start : State) (j₀ j : Journal) → Considered letters rules start j₀ s c l j t → Running letters rules start j₀ r j t′ × (candidatesLeft r < candidatesLeft s)
+abbrev pub Advances : List (List ℕ) → List ℕ → State → Fate → CoverCursor → List ℕ → State → Type 0
+Advances rules t s f l t′ r =
+    (letters : List ℕ) (start : State) (j₀ j : Journal) (c : Candidate) → Considered letters rules start j₀ s c f l j t → Running letters rules start j₀ r j t′ × (candidatesLeft r < candidatesLeft s)

@@ -10,15 +10,15 @@ use lib.ListN.{length}
 use borrow.Author.Tests.{leb-true, leb-false, eq-eqb, ne-eqb, ltb-true, ltb-false}
 use Rattle.calls.specs.Codes.{holdsCode, spentCode}
 use Rattle.rows.specs.Base as order
-use Rattle.rows.specs.Forming.{formedBy}
-use Rattle.rows.specs.declared.Place.{Place}
+use Rattle.rows.specs.Forming.{formedBy, ruleAt}
+use Rattle.deciding.specs.declared.Place.{Place}
 use Rattle.places.specs.Lists.{rowCells, rowIn, Listed}
 use Rattle.places.specs.Places as places
 use Rattle.covers.specs.Covers.{listsIn, Covering}
 use Rattle.covers.specs.Listing.{Gathered, gathered-listed, gathered-covering}
 use Rattle.covers.specs.Rows.{Journal, firstRows}
 use Rattle.covers.specs.RowLaws.{rows-length}
-use Rattle.deciding.specs.Forming.{isSpent}
+use Rattle.deciding.specs.Budgets.{isSpent}
 use Rattle.deciding.specs.declared.Counts.{Counts}
 use Rattle.deciding.specs.declared.State.{State}
 use Rattle.deciding.specs.declared.Terms.{Terms}
@@ -65,7 +65,7 @@ module _ (letters : List ℕ) (rules : List (List ℕ)) (finals B : ℕ) (j₀ :
       -- the budget is spent there
       spent-there : p .rule < length rules → w .joins ≡ B → Checked (target letters rules finals B j₀) j₀ j (answer.Ended unbroken.Spent (totalsOf w k))
       spent-there h e =
-          let c : order.Candidate = formedBy letters (places.ruleAt rules (p .rule)) p (rowIn (firstRows (w .used) j) (p .left)) (rowIn (firstRows (w .used) j) (p .right)) in
+          let c : order.Candidate = formedBy letters (ruleAt rules (p .rule)) p (rowIn (firstRows (w .used) j) (p .left)) (rowIn (firstRows (w .used) j) (p .right)) in
           stops (g .left .same) (outcome.Stopped (stop.Ended unbroken.Spent w))
           (pass-stopped (at k n first) letters (listsIn t) rules first j₁ listed g h {c = c} refl refl {r = outcome.Stopped (stop.Ended unbroken.Spent w)}
           (answers-spent (at k n first) c w j (omega (arith, g .left .room, g .left .same)) (g .left .paid) e) (λ i K. refl)) refl

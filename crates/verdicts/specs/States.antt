@@ -3,8 +3,9 @@ use mathlib.Core.Bool.{Bool, true, false}
 use Prim.Native.Nat.{ℕ}
 use lib.Dec.{ltb}
 use Rattle.calls.specs.Codes.{holdsCode, brokenCode, spentCode}
-use Rattle.rows.specs.declared.Place.{Place}
-use Rattle.deciding.specs.Forming.{isSpent, positionRow}
+use Rattle.deciding.specs.declared.Place.{Place}
+use Rattle.deciding.specs.Budgets.{isSpent}
+use Rattle.deciding.specs.Positions.{positionRow}
 use Rattle.deciding.specs.declared.Counts.{Counts}
 use Rattle.deciding.specs.declared.State.{State}
 use Rattle.deciding.specs.declared.Terms.{Terms}

@@ -16,7 +16,7 @@ use Rattle.calls.specs.Base.{breaksBy}
 use Rattle.calls.specs.Rows.{entryOf}
 use Rattle.rows.specs.Base.{Row, Candidate, Progress, Outcome, rejecting}
 use Rattle.rows.specs.Meanings.{formsOf}
-use Rattle.rows.specs.declared.Place.{Place}
+use Rattle.deciding.specs.declared.Place.{Place}
 use Rattle.covers.specs.Rows.{Journal, firstRows}
 use Rattle.deciding.specs.declared.Counts.{Counts}
 use Rattle.deciding.specs.declared.Terms.{Terms}

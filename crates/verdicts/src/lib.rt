@@ -1,7 +1,7 @@
 // What becomes of a candidate and what a search answers, and what both say of the working order: see specs/. A crate of types, definitions
 // and laws; the steps that make them stand in the crates above.
 use deciding::Counts;
-use rows::Place;
+use deciding::Place;
 
 // What each answer carries.
 pub struct Totals {

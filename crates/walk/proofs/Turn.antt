@@ -1,4 +1,4 @@
--- One turn of the walk, as facts: where it stands after a step, and what it says where it stops. Assumes nothing.
+-- One turn of the walk, as facts: the place and the counts after a step, and the refusal where it stops. Assumes nothing.
 use mathlib.Core.Path.{_≡_, refl, sym}
 use mathlib.Core.Bool.{Bool, not, cond}
 use mathlib.Core.List.{List}
@@ -14,7 +14,7 @@ use Rattle.plan_file.specs.WalkLaws.{At, at-moved, at-stop}
 use Rattle.reader.specs.Answers.{placeAfter}
 use Rattle.walk.specs.Given.{givesRecord, rulesGiven, transitionsGiven}
 
--- where a walk stands that goes on or has stopped
+-- what holds of a walk that is going, and of one that has stopped
 pub record Stands (bs : List ℕ) (going : Bool) (rules transitions i : ℕ) (x : Refusal) : Type 0 where
   pub goes : T going → At bs rules transitions i
   pub stopped : T (not going) → x ≡ fault bs

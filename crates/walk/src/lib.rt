@@ -43,7 +43,7 @@ fn transitions_in(r: Record) -> usize
     }
 }
 
-// How many rules and transitions the walk has passed, whether it goes on, and what it said where it stopped.
+// The walk so far: whether it is `going`, the `rules` and `transitions` that it has passed, and the refusal that stopped it, if any.
 struct Tally {
     going: bool,
     rules: usize,
@@ -51,7 +51,7 @@ struct Tally {
     refusal: Refusal,
 }
 
-// The tally after a step.
+// Returns the tally `t` after the step `s`: a record is counted by its kind, and anything else stops the walk.
 fn tallied(t: Tally, s: Step) -> Tally
     requires { ⌜ (t .rules + rulesGiven (stepOf s) < 2 ^ 64) × (t .transitions + transitionsGiven (stepOf s) < 2 ^ 64) ⌝ }
     ensures { λ x. ⌜ (x .going ≡ givesRecord (stepOf s)) × (x .rules ≡ t .rules + rulesGiven (stepOf s))
@@ -73,7 +73,8 @@ fn tallied(t: Tally, s: Step) -> Tally
     }
 }
 
-// The refusal of a whole file; number 0 where there is none. The reader goes from record to record.
+// Returns the refusal of the whole `file`; number 0 if there is none. A reader goes from record to record, and the tally gives it the counts,
+// so that each record is looked at once. The proof is a walk (proofs/file_refusal).
 pub fn file_refusal(file: &[u8]) -> Refusal
     ensures { λ x. ⌜ refusalOf x ≡ fault (now (file .entry)) ⌝ }
 {
@@ -95,7 +96,7 @@ pub fn file_refusal(file: &[u8]) -> Refusal
     t.refusal
 }
 
-// The bytes of the file's transitions: empty where there are none, or the file is refused.
+// Returns the part of `file` that is its transitions: empty if there are none, or if the file is refused.
 pub fn transition_stretch(file: &[u8]) -> &[u8]
     ensures { λ x. ⌜ now x ≡ stretch (now (file .entry)) ⌝ }
 {

@@ -1,4 +1,5 @@
--- The walk of `write_row`: the row is read, what it hands over to is written, part after part, the second into what remains of the buffer. Assumes `Given`.
+-- The walk of `write_row`: the row is read, what it hands over to is written, part after part, the second into what remains of the buffer. Assumes
+-- `Given`.
 use mathlib.Core.Path.{_≡_, refl, sym, ap, subst, _∙_}
 use Prim.Native.Nat.{ℕ, _+_, _-_, _<_, _≤_, _^_}
 use native.Mathlib.Nat.{le-refl}

@@ -1,4 +1,5 @@
--- The contract that the row writer and the symbol writer have in common: each is lent the journal, the rules and a buffer, and writes one part, which its third argument names. And a call of either as one step of a walk.
+-- The contract that the row writer and the symbol writer have in common: each is lent the journal, the rules and a buffer, and writes one part,
+-- which its third argument names. And a call of either as one step of a walk.
 --     writer X         the signature, where the third argument has the type X
 --     Writer X to      the contract: what is written is the part `to x`
 --     write-call       the buffer's part from n on is lent to a writer, and comes back with the word at its front

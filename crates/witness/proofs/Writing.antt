@@ -1,5 +1,6 @@
 -- A walk of a writer: how it begins, how it ends, and how it shows the contract at one measure.
---     Argument         what a walk knows of the type X of the third argument: it owns nothing, and nothing is said of it at exit.        ps     the parameters
+--     Argument         what a walk knows of the type X of the third argument: it owns nothing, and nothing is said of it at exit
+--     ps               the parameters
 --     opened, closed   what there is on entry as `Around` has it, and `Around` at the word's end gives the end of the walk
 --     at-measure       a walk from `Around` shows a writer's contract where the measure is t
 -- The letters are those of Writers.

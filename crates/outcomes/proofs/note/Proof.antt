@@ -11,22 +11,22 @@ use Rattle.outcomes.proofs.note.Tie as tie
 returns : tie.Need-returns
 returns c =
     let s = c .before .before .before .before .before in
-    notes-one (s .args .table .now) (s .args .look .slot) (c .cell .result) (s .pre .above) (s .pre .below)
+    notes-one (s .args .table .now) (s .args .found .slot) (c .cell .result) (s .pre .above) (s .pre .below)
 
 cell-requires-2 : tie.Need-cell-requires-2
 cell-requires-2 c κs =
     let s = c .before .before .before .before .before in
-    omega (arith, s .pre .row (not-fails (s .args .look .covers) (c .before .if1 .left)), s .pre .used)
+    omega (arith, s .pre .row (not-fails (s .args .found .covers) (c .before .if1 .left)), s .pre .used)
 
 slice-write-table-3 : tie.Need-slice-write-table-3
 slice-write-table-3 c =
     let s = c .before .before .before .before .before .before .before in
-    omega (arith, length-set (s .args .table .now) (4352 + s .args .candidate .head) (c .before .cell2 .result), s .pre .table, s .pre .below)
+    omega (arith, length-set (s .args .table .now) (4352 + s .args .fate .head) (c .before .cell2 .result), s .pre .table, s .pre .below)
 
 returns-2 : tie.Need-returns-2
 returns-2 c =
     let s = c .before .before .before .before .before .before .before in
-    notes-two (s .args .table .now) (4352 + s .args .candidate .head) (s .args .look .slot) (c .before .cell2 .result) (omega arith) (omega arith) (s .pre .above) (s .pre .below)
+    notes-two (s .args .table .now) (4352 + s .args .fate .head) (s .args .found .slot) (c .before .cell2 .result) (omega arith) (omega arith) (s .pre .above) (s .pre .below)
 
 returns-3 : tie.Need-returns-3
 returns-3 c = notes-none (c .before .before .before .before .before .args .table .now)

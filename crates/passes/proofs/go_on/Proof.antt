@@ -3,7 +3,7 @@ use mathlib.Core.Path.{_≡_, sym, _∙_}
 use lib.ListN.{length, take}
 use lib.Seq.{length-take-le}
 use borrow.Author.Needs.{needs}
-use Rattle.rows.specs.declared.Place.{Place}
+use Rattle.deciding.specs.declared.Place.{Place}
 use Rattle.places.specs.PlaceLaws.{follows-right}
 use Rattle.covers.specs.Covers.{listsIn}
 use Rattle.verdicts.specs.RunningLaws.{stand-on}

@@ -1,4 +1,4 @@
--- The loop's invariant: n is the number of the first j bytes. Assumes nothing.
+-- The loop's invariant: `n` is the big-endian number of the first `j` bytes. The measure is 8 - j, which falls by 1 at each turn. Assumes nothing.
 use mathlib.Core.Path.{_≡_, refl}
 use Prim.Native.Nat.{ℕ, _-_, _^_, _≤_, _<_}
 use native.Mathlib.Nat.{lt-of-lt-of-le, pow-le-pow-right}

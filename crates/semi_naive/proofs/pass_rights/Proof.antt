@@ -9,7 +9,7 @@ use borrow.Author.Tests.{ltb-true}
 use Rattle.basics.specs.Tests.{and-fst, and-snd}
 use Rattle.places.specs.Lists.{afterIn}
 use Rattle.covers.specs.Covers.{listsIn}
-use Rattle.deciding.specs.Forming.{isSpent}
+use Rattle.deciding.specs.Budgets.{isSpent}
 use Rattle.verdicts.specs.PassingOver.{not-spent, withRight, rights-none, rights-next}
 use Rattle.verdicts.specs.Running.{PassesRights}
 use Rattle.semi_naive.proofs.pass_rights.Statement.{statement}

@@ -1,4 +1,6 @@
--- The walk by the reader: a reader in a local steps and moves on until the tally says that it has stopped. The loop's variable is the reader, the tally and where they stand.
+-- The walk by the reader: a reader in a local steps and moves on until the tally says that it has stopped. The invariant: the reader is at place
+-- i, the tally has the counts of the records before i, and the records from i on give the file's refusal; or the tally has stopped with it. The
+-- measure is the records that are left, one fewer with each record.
 -- Assumes nothing.
 use mathlib.Core.Path.{_≡_, refl, ap, _∙_}
 use mathlib.Core.Bool.{Bool, true, false}
@@ -139,7 +141,7 @@ module _ {M : Type 1} (𝓤 : URA M) (H : Heap 𝓤) (A : Atoms 𝓤) (W : Given
   abbrev weight : X → ℕ
   weight x = left (now s) (x .t .going) (x .r .place)
 
-  -- after a turn at x, where the walk goes on, whose step is st
+  -- after a turn at x, where the tally was going and the step was st
   module _ (x : X) (y : T (x .t .going)) (st : Step) (e : stepOf st ≡ stepFrom (now (x .r .file)) (x .r .place) (x .t .rules) (x .t .transitions)) where
     here : At (now s) (x .t .rules) (x .t .transitions) (x .r .place)
     here = x .stands .goes y

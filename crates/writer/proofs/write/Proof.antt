@@ -1,4 +1,5 @@
--- The public write: the table of rules in a local is lent to `ask`, and its first rows are shared to the test of the rows and to the writer, which is given the buffer for good.
+-- The public write: the table of rules in a local is lent to `ask`, and its first rows are shared to the test of the rows and to the writer, which
+-- is given the buffer for good.
 -- Assumes nothing.
 use mathlib.Core.Path.{_≡_, refl, sym, _∙_, ap, subst}
 use mathlib.Core.List.{List, [], _∷_, map}

@@ -1,4 +1,5 @@
--- The borrow of the reader is opened, `step_counted` and `place_after` are called on its parts, the new place is stored, and the borrow is closed. Assumes nothing.
+-- The borrow of the reader is opened, `step_counted` and `place_after` are called on its parts, the new place is stored, and the borrow is closed.
+-- Assumes nothing.
 use mathlib.Core.Path.{_≡_, refl}
 use mathlib.Core.List.{List, [], _∷_}
 use mir.Syntax.{named, w64}

@@ -1,0 +1,3 @@
+pub mod Steps
+pub mod Seeking
+pub mod SeekLaws

@@ -58,7 +58,7 @@ impl Relation {
         }
     }
 
-    // The one pair (a, b); no pair where one of them is no state.
+    // Returns the relation of the one pair (a, b), or of no pair where `a` or `b` is no state.
     pub fn single(a: u8, b: u8) -> Relation
         ensures { λ r. ⌜ value r ≡ single states a b ⌝ }
     {
@@ -75,7 +75,7 @@ impl Relation {
         Relation { bits: bit }
     }
 
-    // The relation with the pair (a, b); the same relation where one of them is no state.
+    // Returns the relation with the pair (a, b) too; the same relation where `a` or `b` is no state.
     pub fn insert(self, a: u8, b: u8) -> Relation
         ensures { λ r. ⌜ value r ≡ insert states (value self) a b ⌝ }
     {
@@ -101,7 +101,9 @@ impl Relation {
         table[i] = self.bits;
     }
 
-    // One relation after the other: for each middle state, its column here times its row there.
+    // Composes this relation with `next`: for each middle state `m`, the states that lead to `m` here (its column) times those that `m` leads to
+    // there (its row). A column has at most one bit in each byte and a row has eight, so the product puts the row into the bytes of the column,
+    // and nothing carries.
     pub fn compose(self, next: Relation) -> Relation
         ensures { λ r. ⌜ value r ≡ compose states (value self) (value next) ⌝ }
     {
@@ -118,35 +120,35 @@ impl Relation {
         Relation { bits }
     }
 
-    // Every pair is one of the other relation.
+    // Tests whether every pair of this relation is one of `other`.
     pub fn contained(self, other: Relation) -> bool
         ensures { λ r. ⌜ r ≡ contained (value self) (value other) ⌝ }
     {
         self.bits & other.bits == self.bits
     }
 
-    // Both have the same pairs.
+    // Tests whether both have the same pairs. Nothing calls it yet: request C-23 compares a row's effect with its run's.
     pub fn same(self, other: Relation) -> bool
         ensures { λ r. ⌜ r ≡ eqb (value self) (value other) ⌝ }
     {
         self.bits == other.bits
     }
 
-    // How many pairs there are.
+    // Counts the pairs.
     pub fn pairs(self) -> u32
         ensures { λ r. ⌜ r ≡ pairs states (value self) ⌝ }
     {
         u64::count_ones(self.bits)
     }
 
-    // A small number of the relation: equal relations have the same, and others seldom do.
+    // Returns a small number of the relation, for a table of hints: equal relations have the same, and others seldom do.
     pub fn digest(self) -> usize
         ensures { λ r. ⌜ r ≡ digest (value self) ⌝ }
     {
         (self.bits % DIGESTS) as usize
     }
 
-    // No pair (0, f) with f final; `finals` is the set of the final states.
+    // Tests whether there is no pair (0, f) with f in `finals`, the set of the final states.
     pub fn rejects(self, finals: StateSet) -> bool
         ensures { λ r. ⌜ r ≡ rejects states (bit finals) (value self) ⌝ }
     {

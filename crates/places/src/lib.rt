@@ -1,6 +1,6 @@
 // The order in which a pass takes its candidates: rules in file order, the left symbol outer, the right one inner, rows rising. The rows
-// that were live when the pass began stand in a table of lists: cell i has the row after row i in the list of its nonterminal, and cell
-// 4,096 + x the first row of nonterminal x.
+// that were live when the pass began stand in lists: cell i has the row after row i in the list of its nonterminal, and cell FIRSTS + x the
+// first row of nonterminal x, as in the table's first cells (crate `deciding` draws them).
 use deciding::ABSENT;
 use deciding::END;
 use deciding::FIRSTS;

@@ -14,7 +14,7 @@ use Rattle.calls.specs.Codes.{verdictCode}
 use Rattle.calls.specs.DemandThree.{Agrees, Promises}
 use Rattle.calls.specs.Replies.{answered, unless}
 use Rattle.calls.specs.Writing.{roomFault, writtenBy}
-use Rattle.telling.specs.Telling.{refusedBy}
+use Rattle.calls.specs.Codes.{refusedBy}
 use Rattle.standalone.specs.Told.{lastThree, shownBy}
 use Rattle.bolfrega.specs.BrokenLaws.{if-broken-same}
 use Rattle.bolfrega.specs.Hosts.{toldJoins, toldPass, toldPairs, toldLength, toldRefused, TellsAlike}

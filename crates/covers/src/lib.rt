@@ -10,7 +10,7 @@ ghost use Rattle.places.specs.Lists.{listCells, rowCells};
 ghost use Rattle.covers.specs.Covers.{tableCells};
 ghost use Rattle.covers.specs.Listing.{Copied, Gathered};
 
-// Copies the links of so many cells to the lists.
+// Copies the links in the cells from `from` to `to` to the lists.
 fn copy_links(table: &mut [u32], from: usize, to: usize)
     requires { ⌜ (length (now table) ≡ tableCells) × (from ≤ to) × (to ≤ listCells) ⌝ }
     ensures { λ r. ⌜ Copied from to (now (table .entry)) (now (table .exit)) ⌝ }
@@ -22,7 +22,7 @@ fn copy_links(table: &mut [u32], from: usize, to: usize)
     }
 }
 
-// The rows that are live now become the lists of the pass.
+// Makes the rows that are live now, among the first `used`, the lists of the pass: copies the links of these rows and of the heads.
 pub fn gather(table: &mut [u32], used: usize)
     requires { ⌜ (length (now table) ≡ tableCells) × (used ≤ rowCells) ⌝ }
     ensures { λ r. ⌜ Gathered used (now (table .entry)) (now (table .exit)) ⌝ }

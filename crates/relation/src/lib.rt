@@ -101,7 +101,9 @@ impl Relation {
         table[i] = self.bits;
     }
 
-    // One relation after the other: for each middle state, its column here times its row there.
+    // Composes this relation with `next`: for each middle state `m`, the states that lead to `m` here (its column) times those that `m` leads to
+    // there (its row). A column has at most one bit in each byte and a row has eight, so the product puts the row into the bytes of the column,
+    // and nothing carries.
     pub fn compose(self, next: Relation) -> Relation
         ensures { λ r. ⌜ value r ≡ compose states (value self) (value next) ⌝ }
     {
@@ -118,7 +120,7 @@ impl Relation {
         Relation { bits }
     }
 
-    // Every pair is one of the other relation.
+    // Tests whether every pair of this relation is one of `other`.
     pub fn contained(self, other: Relation) -> bool
         ensures { λ r. ⌜ r ≡ contained (value self) (value other) ⌝ }
     {

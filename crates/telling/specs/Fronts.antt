@@ -13,7 +13,7 @@ use Rattle.checker.specs.declared.Checked.{Checked}
 use Rattle.checker.specs.declared.Checked.the-variants as checked
 use Rattle.telling.specs.declared.Named.{Named}
 
--- so many rows, or none where a journal may not have them
+-- the rows that are lent where n are asked for: n, or none where a journal may not have n
 abbrev pub frontOf : ℕ → ℕ
 frontOf n = cond (leb n journalLimit) n 0
 
@@ -30,7 +30,8 @@ restOf n old = drop (frontOf n) (replicate journalLimit old)
 abbrev pub placeOf : ℕ → ℕ
 placeOf i = cond (ltb i journalLimit) i 0
 
--- the row of which the run is written, and so many bytes of the file, which has s; one that is not used and no bytes, where none is broken
+-- what to write after an answer on a file of s bytes: the row, the used rows, and how many bytes of the file writing is given. Where nothing is
+-- broken, a row that is not used and no bytes
 abbrev pub unnamed : Named
 unnamed = record { used = 0; row = 0; bytes = 0 }
 

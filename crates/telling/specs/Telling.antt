@@ -1,4 +1,4 @@
--- What is told, case by case, as the code has it; and the eight numbers of it. Definitions only. Assumes nothing.
+-- The result of a check for a host, case by case, as the code has it; and its eight numbers. Definitions only. Assumes nothing.
 use mathlib.Core.List.{List, [], _∷_}
 use Prim.Native.Nat.{ℕ}
 use Rattle.relation.specs.Relation.{states, pairs}

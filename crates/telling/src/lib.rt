@@ -1,4 +1,5 @@
-// What a host is told of a check, and what is decided around it: how many rows are lent, which of them are looked at afterwards.
+// The result of a check as numbers for a host, and what is decided around the check: how many rows are lent, and which of them are read
+// afterwards.
 use calls::ABSENT;
 use calls::JOURNAL_LIMIT;
 use calls::Row;
@@ -59,7 +60,7 @@ pub fn front(rows: usize) -> usize
 
 // ---- after the check
 
-// The row, if a journal may have it, or else row 0.
+// Returns `i`, if a journal may have that row, or else row 0: a row that can be read.
 pub fn row_number(i: usize) -> usize
     ensures { λ r. ⌜ (r ≡ placeOf i) × (r < journalLimit) ⌝ }
 {
@@ -69,8 +70,8 @@ pub fn row_number(i: usize) -> usize
     0
 }
 
-// The row of a broken answer, over a file of so many bytes. Where nothing is broken, a row that is not below the used ones: its run is not
-// written, so no byte of the file is read again.
+// Returns what to write after `answer` on a file of `size` bytes: the row of a broken answer, with the whole file. Where nothing is broken, it
+// names a row that is not below the used ones, so that no run is written, and no byte of the file, so that it is not read again.
 fn named_by(answer: Answer, size: usize) -> Named
     ensures { λ r. ⌜ r ≡ nameOf answer size ⌝ }
 {
@@ -88,6 +89,7 @@ fn named_by(answer: Answer, size: usize) -> Named
     }
 }
 
+// The same after a check; a refused one has nothing to write.
 pub fn named_in(checked: Checked, size: usize) -> Named
     ensures { λ r. ⌜ r ≡ nameIn checked size ⌝ }
 {
@@ -103,7 +105,7 @@ pub fn named_in(checked: Checked, size: usize) -> Named
 
 // ---- telling
 
-// What refused to write the run, or 0.
+// Returns the number that refused to write the run, or 0.
 fn refused_by(writing: Writing) -> u64
     ensures { λ r. ⌜ r ≡ refusedBy (writingOf writing) ⌝ }
 {
@@ -113,7 +115,7 @@ fn refused_by(writing: Writing) -> u64
     }
 }
 
-// An answer that is not broken.
+// Returns the result of an answer that is not broken.
 fn tell_unbroken(code: u64, totals: Totals, shown: Row) -> Told
     ensures { λ r. ⌜ r ≡ unbrokenBy code totals shown ⌝ }
 {

@@ -1,4 +1,5 @@
--- The loop's invariant: from letter i on there is a letter beyond the terminals where there is one at all. Assumes nothing.
+-- The loop's invariant: the word has a letter that is no terminal exactly if it has one from letter `i` on. The measure is the letters that are
+-- left, one fewer at each turn. Assumes nothing.
 use mathlib.Core.Path.{_≡_, refl}
 use Prim.Native.Nat.{_≤_, _-_}
 use native.Mathlib.Omega.{arith}

@@ -1,4 +1,5 @@
--- `covers::copy_links` meets its contract. The loop's invariant: the links up to the place are copied. Assumes nothing.
+-- `covers::copy_links` meets its contract. The loop's invariant: the links from `from` to `i` are copied, and all other cells are as
+-- they were. The measure is to - i, which falls by 1 at each turn. Assumes nothing.
 use Prim.Native.Nat.{ℕ, _-_, _≤_}
 use mathlib.Core.Path.{_≡_, subst}
 use native.Mathlib.Omega.{arith}

@@ -1,4 +1,5 @@
--- `places::first_place` meets its contract. The loop's invariant: the rules passed over form nothing. Assumes nothing.
+-- `places::first_place` meets its contract. The loop's invariant: the rules from `r` to the current one form no candidate. The
+-- measure is the rules that are left, one fewer at each turn. Assumes nothing.
 use mathlib.Core.Path.{refl}
 use Prim.Native.Nat.{_-_}
 use native.Mathlib.Omega.{arith}

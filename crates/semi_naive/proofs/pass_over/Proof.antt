@@ -1,4 +1,6 @@
--- `semi_naive::pass_over` meets its contract. The loop's invariant: it has come from the first place over such places alone. Assumes nothing.
+-- `semi_naive::pass_over` meets its contract. The loop's invariant: from the first place to `at` every candidate was one
+-- that the pass before formed, and is counted. The measure is the joins that the budget leaves, of which each turn makes at least one. Assumes
+-- nothing.
 use mathlib.Core.Path.{sym, _∙_}
 use Prim.Native.Nat.{_-_}
 use native.Mathlib.Omega.{arith}

@@ -1,4 +1,5 @@
--- `semi_naive::pass_rights` meets its contract. The loop's invariant: the candidates up to the right are done. Assumes nothing.
+-- `semi_naive::pass_rights` meets its contract. The loop's invariant: the candidates of this rule and left row up to `right` have
+-- been counted. The measure is the joins that the budget leaves, of which each turn makes one. Assumes nothing.
 use mathlib.Core.Path.{_≡_, subst}
 use mathlib.Core.Bool.{Bool, true, not, _&&_}
 use Prim.Native.Nat.{ℕ, _-_, _<_}

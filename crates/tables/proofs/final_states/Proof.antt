@@ -1,4 +1,4 @@
--- The loop's invariant: the mask has the final states among the first i records. Assumes nothing.
+-- The loop's invariant: `mask` has the final states among the first `i` records. The measure is the records that are left. Assumes nothing.
 use mathlib.Core.Path.{_≡_, sym, ap, _∙_}
 use Prim.Native.Nat.{_≤_, _-_, _/_}
 use native.Mathlib.Omega.{arith}

@@ -1,4 +1,5 @@
--- The loop's invariant: the rules among the first i records are written. Assumes nothing.
+-- The loop's invariant: the rules among the first `i` records are stored, up to the limit. The measure is the records that are left. Assumes
+-- nothing.
 use mathlib.Core.Path.{_≡_, refl, sym, ap, _∙_}
 use Prim.Native.Nat.{_≤_, _-_, _/_}
 use native.Mathlib.Omega.{arith}

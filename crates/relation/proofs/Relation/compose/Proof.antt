@@ -1,5 +1,5 @@
--- `Relation::compose` meets its contract. The loop's invariant: the word has the pairs with a middle state below `m`.
--- Assumes nothing.
+-- `Relation::compose` meets its contract. The loop's invariant: `bits` has the pairs with a middle state below `m`. The measure is the middle
+-- states that are left, one fewer at each turn. Assumes nothing.
 use mathlib.Core.Path.{_≡_, sym, ap, _∙_}
 use Prim.Native.Nat.{ℕ, _-_, _≤_, _<_}
 use native.Mathlib.Omega.{arith}

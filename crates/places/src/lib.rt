@@ -65,26 +65,14 @@ fn beginning(lists: &[u32], rule: [u8; 4], r: usize) -> Place
 {
     let size = rule[1];
     if size == 0 {
-        return Place {
-            rule: r,
-            left: ABSENT,
-            right: ABSENT,
-        };
+        return Place::first(r, ABSENT, ABSENT);
     }
     let left = first_of(lists, rule[2]);
     if size == 1 {
-        return Place {
-            rule: r,
-            left,
-            right: ABSENT,
-        };
+        return Place::first(r, left, ABSENT);
     }
     let right = first_of(lists, rule[3]);
-    Place {
-        rule: r,
-        left,
-        right,
-    }
+    Place::first(r, left, right)
 }
 
 // ---- the places of a pass
@@ -103,11 +91,7 @@ pub fn first_place(lists: &[u32], rules: &[[u8; 4]], r: usize) -> Place
         }
         r += 1;
     }
-    Place {
-        rule: r,
-        left: END,
-        right: END,
-    }
+    Place::first(r, END, END)
 }
 
 // The place after this one, which has no right position after it: the next left, or the next rule.
@@ -123,11 +107,7 @@ pub fn next_row(lists: &[u32], rules: &[[u8; 4]], place: Place) -> Place
     if left != END {
         let rule = rules[r];
         let start = beginning(lists, rule, r);
-        return Place {
-            rule: r,
-            left,
-            right: start.right,
-        };
+        return Place::first(r, left, start.right);
     }
     first_place(lists, rules, r + 1)
 }

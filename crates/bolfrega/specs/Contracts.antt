@@ -5,7 +5,7 @@ use Prim.Native.Nat.{ℕ}
 use lib.ListN.{replicate}
 use Rattle.plan_file.specs.Refusals.{fault}
 use Rattle.working_order.specs.Journal.{Row}
-use Rattle.calls.specs.Checking.{journalAfter}
+use Rattle.calls.specs.Checking.{Settings, journalAfter}
 use Rattle.calls.specs.Judging.{judgeOf, Means}
 use Rattle.calls.specs.Codes.{codeBy}
 use Rattle.standalone.specs.Told.{zeroRow}
@@ -28,6 +28,6 @@ pub record Judges (bs w : List ℕ) (r i : ℕ) : Type 0 where
 unfoldable pub zeroRows : ℕ → List (Row ℕ)
 zeroRows J = replicate J zeroRow
 
--- a check over J rows of zeros, for every J
-abbrev pub ChecksZeros : List ℕ → ℕ → ℕ → List ℕ → List ℕ → List ℕ → ℕ → Type 0
-ChecksZeros bs J B d old new r = ChecksBy bs J B (journalAfter bs (zeroRows J) B) d old new r
+-- a check over rows of zeros, as many as the settings g ask for, whatever that number is
+abbrev pub ChecksZeros : List ℕ → Settings → List ℕ → List ℕ → List ℕ → ℕ → Type 0
+ChecksZeros bs g d old new r = ChecksBy bs g (journalAfter bs g (zeroRows (g .rows))) d old new r

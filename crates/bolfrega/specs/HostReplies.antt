@@ -13,7 +13,7 @@ use borrow.Author.Tests.{eqb-true, ltb-true, ne-eqb, eq-eqb, lt-ltb}
 use Rattle.plan_file.specs.Refusals.{Refusal, refuse, fault, byNumber}
 use Rattle.working_order.specs.Journal.{Row}
 use Rattle.working_order.specs.Order.{Answer, Verdict, holds, broken, full, spent}
-use Rattle.calls.specs.Checking.{journalLimit, journalFault, orderOn, checkOf, keptBy, journalAfter, shown}
+use Rattle.calls.specs.Checking.{Settings, journalLimit, journalFault, orderOn, checkOf, keptBy, journalAfter, shown}
 use Rattle.calls.specs.Promising.{promises, broken-word, broken-writes}
 use Rattle.calls.specs.Replies.{Reply, refused, answered, unless}
 use Rattle.calls.specs.Writing.{roomFault, writeOf, writtenBy, bufferAfter}
@@ -63,9 +63,9 @@ module _ (bs old : List ℕ) (a : Answer ℕ) where
   answerBuffer = shownBy (a .verdict) (writtenBy (shown bs a) old writing) old
 
 -- after a check over these rows the contract says the same, of the journal
-module _ (bs old : List ℕ) (rows : List (Row ℕ)) (B : ℕ) (a : Answer ℕ) (e : checkOf bs (length rows) B ≡ answered a) where
+module _ (bs old : List ℕ) (g : Settings) (rows : List (Row ℕ)) (size : length rows ≡ g .rows) (a : Answer ℕ) (e : checkOf bs g ≡ answered a) where
   abbrev after : List (Row ℕ)
-  after = journalAfter bs rows B
+  after = journalAfter bs g rows
 
   abbrev wrote : Reply ℕ
   wrote = writeOf bs after (a .used) (a .row) (length old)
@@ -73,19 +73,19 @@ module _ (bs old : List ℕ) (rows : List (Row ℕ)) (B : ℕ) (a : Answer ℕ) 
   row-same : a .verdict ≡ broken → rowIn after (a .row) ≡ brokenRow a
   unfolding journalAfter
   row-same v =
-      let c = promises bs (length rows) B a e .counts in
+      let c = promises bs g a e .counts in
       ap (λ (xs : List (Row ℕ)). rowIn xs (a .row)) (ap (keptBy rows) e)
       ∙ List·getD-append (a .journal) (drop (a .used) rows) zeroRow (a .row) (omega (arith, c .last-row v, c .used-rows))
 
   pub details-same : detailsOf bs after (length old) (answered a) ≡ answerDetails bs old a
   details-same =
       ap (λ (xs : List ℕ). 0 ∷ a .joins ∷ a .used ∷ a .pass ∷ a .row ∷ xs)
-      (if-broken-same (a .verdict) _ _ (0 ∷ 0 ∷ 0 ∷ []) (λ q. ap₂ (λ (x : Row ℕ) (w : Reply ℕ). lastThree broken x w) (row-same q) (broken-writes bs rows B a e q (length old))))
+      (if-broken-same (a .verdict) _ _ (0 ∷ 0 ∷ 0 ∷ []) (λ q. ap₂ (λ (x : Row ℕ) (w : Reply ℕ). lastThree broken x w) (row-same q) (broken-writes bs g a e q rows size (length old))))
 
   pub buffer-same : shownOf bs after old (answered a) ≡ answerBuffer bs old a
   unfolding bufferAfter
   buffer-same =
-      if-broken-same (a .verdict) _ _ old (λ q. ap₂ (λ (w : List ℕ) (x : Reply ℕ). writtenBy w old x) (broken-word bs rows B a e q) (broken-writes bs rows B a e q (length old)))
+      if-broken-same (a .verdict) _ _ old (λ q. ap₂ (λ (w : List ℕ) (x : Reply ℕ). writtenBy w old x) (broken-word bs g a e q rows size) (broken-writes bs g a e q rows size (length old)))
 
 -- ---- why a call is refused
 
@@ -141,47 +141,47 @@ refused-rows n (inr l) e =
     suc-ne-zero 7
     (sym (ap₂ (λ (a b : Bool). cond (a || b) 8 0) (ne-eqb n 0 (λ z. omega arith)) (lt-ltb journalLimit n l)) ∙ e)
 
-pub why-refused : (bs : List ℕ) (J B : ℕ) (y : Refusal) → checkOf bs J B ≡ refused y → Why (fault bs) (journalFault J) y
+pub why-refused : (bs : List ℕ) (g : Settings) (y : Refusal) → checkOf bs g ≡ refused y → Why (fault bs) (journalFault (g .rows)) y
 unfolding checkOf
-why-refused bs J B y e = why (fault bs) (journalFault J) (orderOn bs J B) y e
+why-refused bs g y e = why (fault bs) (journalFault (g .rows)) (orderOn bs g) y e
 
 -- ---- the reply to a check that met its contract
 
-module _ (bs : List ℕ) (J B : ℕ) (d old new : List ℕ) (r : ℕ) where
+module _ (bs : List ℕ) (g : Settings) (d old new : List ℕ) (r : ℕ) where
   pub record ToldRefusal (y : Refusal) : Type 0 where
-    pub reply : checkOf bs J B ≡ refused y
+    pub reply : checkOf bs g ≡ refused y
     pub low : r < firstAnswerCode
     pub number : r ≡ y .number
     pub details : d ≡ y .place ∷ 0 ∷ 0 ∷ 0 ∷ 0 ∷ 0 ∷ 0 ∷ 0 ∷ []
     pub buffer : new ≡ old
 
   pub record ToldAnswer (a : Answer ℕ) : Type 0 where
-    pub reply : checkOf bs J B ≡ answered a
+    pub reply : checkOf bs g ≡ answered a
     pub number : r ≡ verdictCode (a .verdict)
     pub details : d ≡ answerDetails bs old a
     pub buffer : new ≡ answerBuffer bs old a
 
-  module _ (h : ChecksZeros bs J B d old new r) where
-    pub told-refusal : (y : Refusal) → checkOf bs J B ≡ refused y → ToldRefusal y
+  module _ (h : ChecksZeros bs g d old new r) where
+    pub told-refusal : (y : Refusal) → checkOf bs g ≡ refused y → ToldRefusal y
     told-refusal y e =
-        let rows = journalAfter bs (zeroRows J) B in
+        let rows = journalAfter bs g (zeroRows (g .rows)) in
         let n = h .told .code ∙ ap (codeBy answerCode) e in
         record {
           reply = e;
-          low = subst (λ (k : ℕ). k < firstAnswerCode) (sym n) (subst LowIn e (check-low bs J B));
+          low = subst (λ (k : ℕ). k < firstAnswerCode) (sym n) (subst LowIn e (check-low bs g));
           number = n;
           details = h .told .details ∙ ap (detailsOf bs rows (length old)) e;
           buffer = h .told .buffer ∙ ap (shownOf bs rows old) e;
         }
 
-    pub told-answer : (a : Answer ℕ) → checkOf bs J B ≡ answered a → ToldAnswer a
+    pub told-answer : (a : Answer ℕ) → checkOf bs g ≡ answered a → ToldAnswer a
     unfolding zeroRows
     told-answer a e =
-        let sized : checkOf bs (length (zeroRows J)) B ≡ answered a = ap (λ (n : ℕ). checkOf bs n B) (length-replicate J zeroRow) ∙ e in
-        let rows = journalAfter bs (zeroRows J) B in
+        let size : length (zeroRows (g .rows)) ≡ g .rows = length-replicate (g .rows) zeroRow in
+        let rows = journalAfter bs g (zeroRows (g .rows)) in
         record {
           reply = e;
           number = h .told .code ∙ ap (codeBy answerCode) e;
-          details = h .told .details ∙ ap (detailsOf bs rows (length old)) e ∙ details-same bs old (zeroRows J) B a sized;
-          buffer = h .told .buffer ∙ ap (shownOf bs rows old) e ∙ buffer-same bs old (zeroRows J) B a sized;
+          details = h .told .details ∙ ap (detailsOf bs rows (length old)) e ∙ details-same bs old g (zeroRows (g .rows)) size a e;
+          buffer = h .told .buffer ∙ ap (shownOf bs rows old) e ∙ buffer-same bs old g (zeroRows (g .rows)) size a e;
         }

@@ -22,7 +22,7 @@ use Rattle.working_order.specs.Journal.{Row, noRow, capped}
 use Rattle.working_order.specs.Order.{Answer, Verdict, broken}
 use Rattle.calls.specs.Codes.{refusedBy}
 use Rattle.calls.specs.Base.{base, words}
-use Rattle.calls.specs.Checking.{checkOf, shown}
+use Rattle.calls.specs.Checking.{Settings, checkOf, shown}
 use Rattle.calls.specs.DemandThree.{Promises}
 use Rattle.calls.specs.JournalTruth.{row-true}
 use Rattle.calls.specs.Promising.{from-order}
@@ -38,7 +38,7 @@ refused-told : (f n : ℕ) → refusedBy (unless (refuse f 0) (answered n)) ≡ 
 refused-told zero n = refl
 refused-told (suc f) n = refl
 
-module _ (bs : List ℕ) (J B : ℕ) (a : Answer ℕ) (reply : checkOf bs J B ≡ answered a) (v : a .verdict ≡ broken) (p : Promises bs J B a) where
+module _ (bs : List ℕ) (g : Settings) (a : Answer ℕ) (reply : checkOf bs g ≡ answered a) (v : a .verdict ≡ broken) (p : Promises bs g a) where
   abbrev run : List ℕ
   run = shown bs a
 
@@ -56,15 +56,15 @@ module _ (bs : List ℕ) (J B : ℕ) (a : Answer ℕ) (reply : checkOf bs J B �
   pub row-relation : brokenRow a .effect ≡ wordRelation states (automatonOf bs .transitions) run
   unfolding shown
   row-relation =
-      let order = from-order bs J B a reply .2 in
+      let order = from-order bs g a reply .2 in
       let here = subst (λ (x : Answer ℕ). a .row < length (x .journal)) order in-journal in
       let M = base states (automatonOf bs) .forms in
       field-same (λ x. x .effect) zeroRow (noRow M)
       ∙ ap (λ (x : Answer ℕ). getD (x .journal) (a .row) (noRow M) .effect) order
-      ∙ sym (row-true bs J B (a .row) here .relation-is)
+      ∙ sym (row-true bs g (a .row) here .relation-is)
       ∙ ap (λ (x : Answer ℕ). wordRelation states (automatonOf bs .transitions) (wordBehind words (rulesOf bs) (x .journal) (a .row))) (sym order)
 
-  module _ (d old new : List ℕ) (r : ℕ) (t : ToldAnswer bs J B d old new r a) where
+  module _ (d old new : List ℕ) (r : ℕ) (t : ToldAnswer bs g d old new r a) where
     abbrev room : ℕ
     room = length old
 
@@ -83,12 +83,12 @@ module _ (bs : List ℕ) (J B : ℕ) (a : Answer ℕ) (reply : checkOf bs J B �
     buffer-by : (f : ℕ) → roomFault run room ≡ f → new ≡ writtenBy run old (byNumber f (refused (refuse f 0)) (answered (length run)))
     buffer-by f e = buffer-is ∙ ap (λ (x : ℕ). writtenBy run old (byNumber x (refused (refuse x 0)) (answered (length run)))) e
 
-    in-buffer : InBuffer bs J B d old new r run
+    in-buffer : InBuffer bs g d old new r run
     unfolding capped
     in-buffer = by (room-cases run room)
       where
         by : ((roomFault run room ≡ 0) × (length run < longWord) × (length run ≤ room)) ⊎ ((roomFault run room ≡ 10) × ((longWord ≤ length run) ⊎ (room < length run)))
-            → InBuffer bs J B d old new r run
+            → InBuffer bs g d old new r run
         by (inl (f, short, fits)) =
             let size : length run ≡ toldLength d = omega (arith, length-told, short) in
             let new-is = buffer-by 0 f in
@@ -126,7 +126,7 @@ module _ (bs : List ℕ) (J B : ℕ) (a : Answer ℕ) (reply : checkOf bs J B �
                 over true q = let g = leb-true longWord (length run) q in inl (omega (arith, g, length-told))
                 over false q = let g = leb-false longWord (length run) q in inr (omega (arith, g, x, length-told))
 
-    pub run-shown : Shows bs J B d old new r run
+    pub run-shown : Shows bs g d old new r run
     run-shown =
         let pass-is : toldPass d ≡ a .pass = ap toldPass details-are in
         record {

@@ -9,12 +9,11 @@ use Rattle.plan_file.specs.Refusals.{refuse}
 use Rattle.plan_file.specs.Views.{automatonOf}
 use Rattle.working_order.specs.Journal.{capped}
 use Rattle.working_order.specs.Order.{Answer, Verdict, broken}
-use Rattle.calls.specs.Checking.{checkOf, shown}
-use Rattle.calls.specs.Codes.{verdictCode}
+use Rattle.calls.specs.Checking.{Settings, checkOf, shown}
+use Rattle.calls.specs.Codes.{verdictCode, refusedBy}
 use Rattle.calls.specs.DemandThree.{Agrees, Promises}
 use Rattle.calls.specs.Replies.{answered, unless}
 use Rattle.calls.specs.Writing.{roomFault, writtenBy}
-use Rattle.calls.specs.Codes.{refusedBy}
 use Rattle.standalone.specs.Told.{lastThree, shownBy}
 use Rattle.bolfrega.specs.BrokenLaws.{if-broken-same}
 use Rattle.bolfrega.specs.Hosts.{toldJoins, toldPass, toldPairs, toldLength, toldRefused, TellsAlike}
@@ -28,32 +27,32 @@ module _ (bs old : List ℕ) where
       pairs states (wordRelation states (automatonOf bs .transitions) w) ∷ capped (length w)
       ∷ refusedBy (unless (refuse (roomFault w (length old)) 0) (answered (length w))) ∷ []
 
-  of-run : (J B : ℕ) (a : Answer ℕ) → checkOf bs J B ≡ answered a → Promises bs J B a → a .verdict ≡ broken
+  of-run : (g : Settings) (a : Answer ℕ) → checkOf bs g ≡ answered a → Promises bs g a → a .verdict ≡ broken
       → lastThree broken (brokenRow a) (writing bs old a) ≡ ofRun (shown bs a)
-  of-run J B a reply p v =
-      ap₂ (λ (e n : ℕ). pairs states e ∷ n ∷ refusedBy (writing bs old a) ∷ []) (row-relation bs J B a reply v p) (row-length bs J B a reply v p)
+  of-run g a reply p v =
+      ap₂ (λ (e n : ℕ). pairs states e ∷ n ∷ refusedBy (writing bs old a) ∷ []) (row-relation bs g a reply v p) (row-length bs g a reply v p)
 
--- a: the answer of the call with J rows and a budget of B joins, which gave the details d, the buffer new and the number r. The letters with a
--- prime: the same of the call with J′ rows and a budget of B′
-module _ (bs : List ℕ) (J B J′ B′ : ℕ) (d d′ old new new′ : List ℕ) (r r′ : ℕ) (a a′ : Answer ℕ) (p : Promises bs J B a) (p′ : Promises bs J′ B′ a′)
-    (t : ToldAnswer bs J B d old new r a) (t′ : ToldAnswer bs J′ B′ d′ old new′ r′ a′) (g : Agrees bs a a′) where
+-- a: the answer of the call with the settings g, which gave the details d, the buffer new and the number r. The letters with a prime: the
+-- same of the call with the settings g′
+module _ (bs : List ℕ) (g g′ : Settings) (d d′ old new new′ : List ℕ) (r r′ : ℕ) (a a′ : Answer ℕ) (p : Promises bs g a) (p′ : Promises bs g′ a′)
+    (t : ToldAnswer bs g d old new r a) (t′ : ToldAnswer bs g′ d′ old new′ r′ a′) (same : Agrees bs a a′) where
   last-same : lastThree (a′ .verdict) (brokenRow a′) (writing bs old a′) ≡ lastThree (a .verdict) (brokenRow a) (writing bs old a)
   last-same =
-      ap (λ (v : Verdict). lastThree v (brokenRow a′) (writing bs old a′)) (g .verdict)
+      ap (λ (v : Verdict). lastThree v (brokenRow a′) (writing bs old a′)) (same .verdict)
       ∙ if-broken-same (a .verdict) _ _ (0 ∷ 0 ∷ 0 ∷ [])
-      (λ q. of-run bs old J′ B′ a′ (t′ .reply) p′ (g .verdict ∙ q) ∙ ap (ofRun bs old) (g .word) ∙ sym (of-run bs old J B a (t .reply) p q))
+      (λ q. of-run bs old g′ a′ (t′ .reply) p′ (same .verdict ∙ q) ∙ ap (ofRun bs old) (same .word) ∙ sym (of-run bs old g a (t .reply) p q))
 
-  pub tells-alike : TellsAlike bs J B d old new r d′ new′ r′
+  pub tells-alike : TellsAlike bs g d old new r d′ new′ r′
   tells-alike =
       record {
-        same-number = t′ .number ∙ ap verdictCode (g .verdict) ∙ sym (t .number);
-        same-joins = ap toldJoins (t′ .details) ∙ g .joins ∙ sym (ap toldJoins (t .details));
-        same-pass = ap toldPass (t′ .details) ∙ g .pass ∙ sym (ap toldPass (t .details));
+        same-number = t′ .number ∙ ap verdictCode (same .verdict) ∙ sym (t .number);
+        same-joins = ap toldJoins (t′ .details) ∙ same .joins ∙ sym (ap toldJoins (t .details));
+        same-pass = ap toldPass (t′ .details) ∙ same .pass ∙ sym (ap toldPass (t .details));
         same-pairs = ap toldPairs (t′ .details) ∙ ap (λ (xs : List ℕ). getD xs 0 0) last-same ∙ sym (ap toldPairs (t .details));
         same-length = ap toldLength (t′ .details) ∙ ap (λ (xs : List ℕ). getD xs 1 0) last-same ∙ sym (ap toldLength (t .details));
         same-refused = ap toldRefused (t′ .details) ∙ ap (λ (xs : List ℕ). getD xs 2 0) last-same ∙ sym (ap toldRefused (t .details));
         same-buffer =
             t′ .buffer
-            ∙ ap₂ (λ (v : Verdict) (w : List ℕ). shownBy v (writtenBy w old (unless (refuse (roomFault w (length old)) 0) (answered (length w)))) old) (g .verdict) (g .word)
+            ∙ ap₂ (λ (v : Verdict) (w : List ℕ). shownBy v (writtenBy w old (unless (refuse (roomFault w (length old)) 0) (answered (length w)))) old) (same .verdict) (same .word)
             ∙ sym (t .buffer);
       }

@@ -12,8 +12,8 @@ use Rattle.plan_file.specs.Views.{rulesOf, automatonOf}
 use Rattle.working_order.specs.Stopping.{Stops}
 use Rattle.working_order.specs.Order.{Answer, Verdict, holds, broken, full, spent}
 use Rattle.calls.specs.Base.{base}
-use Rattle.calls.specs.Checking.{journalFault, checkOf, shown}
-use Rattle.calls.specs.DemandThree.{Derivable, Counterexample, Promises}
+use Rattle.calls.specs.Checking.{Settings, journalFault, checkOf, shown}
+use Rattle.calls.specs.DemandThree.{Derivable, Counterexample, joinsBound, Promises}
 use Rattle.calls.specs.Promising.{from-order}
 use Rattle.calls.specs.Replies.{Reply, refused, answered}
 use Rattle.calls.specs.Codes.{firstAnswerCode, holdsCode, brokenCode, fullCode, spentCode, verdictCode}
@@ -29,8 +29,8 @@ use Rattle.bolfrega.specs.HostStays.{tells-alike}
 
 -- ---- a check that was refused
 
-module _ (bs : List ℕ) (J B : ℕ) (d old new : List ℕ) (r : ℕ) where
-  module _ (y : Refusal) (t : ToldRefusal bs J B d old new r y) where
+module _ (bs : List ℕ) (g : Settings) (d old new : List ℕ) (r : ℕ) where
+  module _ (y : Refusal) (t : ToldRefusal bs g d old new r y) where
     -- no verdict has such a number
     not-verdict : (v : Verdict) → r ≡ verdictCode v → ⊥
     not-verdict v e = low-high (t .low) (subst (λ (n : ℕ). firstAnswerCode ≤ n) (sym e) (verdict-high v))
@@ -44,7 +44,7 @@ module _ (bs : List ℕ) (J B : ℕ) (d old new : List ℕ) (r : ℕ) where
     file-number : r ≡ fault bs .number → FileRefused bs → (1 ≤ r) × (r ≤ 7)
     file-number e n = (omega (arith, e, n), omega (arith, e, file-refusal bs .number))
 
-    refusing-by : Why (fault bs) (journalFault J) y → Refusing bs J B d old new r
+    refusing-by : Why (fault bs) (journalFault (g .rows)) y → Refusing bs g d old new r
     refusing-by (inl (n, q)) =
         let number-is = t .number ∙ ap (λ (x : Refusal). x .number) q in
         let place-is = record-is ∙ ap (λ (x : Refusal). x .place) q in
@@ -57,7 +57,7 @@ module _ (bs : List ℕ) (J B : ℕ) (d old new : List ℕ) (r : ℕ) where
           rest-zero = λ l. zeros;
         }
     refusing-by (inr (z, (n, q))) =
-        let e = rows-refused J n in
+        let e = rows-refused (g .rows) n in
         record {
           refused-exactly = (λ l. inr (e .0), λ x. t .low);
           file-refused = λ m. absurd (m z);
@@ -68,10 +68,10 @@ module _ (bs : List ℕ) (J B : ℕ) (d old new : List ℕ) (r : ℕ) where
         }
 
     -- it is no answer
-    runs-not : (v : Verdict) → RunsOut bs J B d old new r v → ⊥
+    runs-not : (v : Verdict) → RunsOut bs g d old new r v → ⊥
     runs-not v o = let z : _≡_ {A = ℕ} 0 1 = cc (t .reply, o .answers) in omega (arith, z)
 
-    refusal-tells : Why (fault bs) (journalFault J) y → CheckTells bs J B d old new r
+    refusal-tells : Why (fault bs) (journalFault (g .rows)) y → CheckTells bs g d old new r
     refusal-tells w =
         record {
           refusing = refusing-by w;
@@ -87,9 +87,9 @@ module _ (bs : List ℕ) (J B : ℕ) (d old new : List ℕ) (r : ℕ) where
           };
           details = record {
             eight = ap length (t .details);
-            used-bound = subst (λ (n : ℕ). n ≤ J) (sym (ap toldUsed (t .details))) zero-le;
-            pass-bound = subst (λ (n : ℕ). n ≤ J + 1) (sym (ap toldPass (t .details))) zero-le;
-            joins-bound = subst (λ (n : ℕ). n ≤ length (rulesOf bs) * J * J * (J + 1)) (sym (ap toldJoins (t .details))) zero-le;
+            used-bound = subst (λ (n : ℕ). n ≤ g .rows) (sym (ap toldUsed (t .details))) zero-le;
+            pass-bound = subst (λ (n : ℕ). n ≤ g .rows + 1) (sym (ap toldPass (t .details))) zero-le;
+            joins-bound = subst (λ (n : ℕ). n ≤ joinsBound bs g) (sym (ap toldJoins (t .details))) zero-le;
             no-row = λ h. absurd (low-high (t .low) h);
             no-run = λ n. (ap toldPairs (t .details), ap toldLength (t .details), ap toldRefused (t .details));
             last-row = λ e. absurd (not-verdict broken e);
@@ -105,12 +105,12 @@ module _ (bs : List ℕ) (J B : ℕ) (d old new : List ℕ) (r : ℕ) where
 
 -- ---- a check that answers
 
-module _ (bs : List ℕ) (J B : ℕ) (d old new : List ℕ) (r : ℕ) (h : ChecksZeros bs J B d old new r) where
-  module _ (a : Answer ℕ) (reply : checkOf bs J B ≡ answered a) where
-    abbrev t : ToldAnswer bs J B d old new r a
-    t = told-answer bs J B d old new r h a reply
+module _ (bs : List ℕ) (g : Settings) (d old new : List ℕ) (r : ℕ) (h : ChecksZeros bs g d old new r) where
+  module _ (a : Answer ℕ) (reply : checkOf bs g ≡ answered a) where
+    abbrev t : ToldAnswer bs g d old new r a
+    t = told-answer bs g d old new r h a reply
 
-    abbrev p : Promises bs J B a
+    abbrev p : Promises bs g a
     p = h .promises a reply
 
     -- the number is that of the verdict
@@ -123,9 +123,9 @@ module _ (bs : List ℕ) (J B : ℕ) (d old new : List ℕ) (r : ℕ) (h : Check
     high : firstAnswerCode ≤ r
     high = subst (λ (n : ℕ). firstAnswerCode ≤ n) (sym (t .number)) (verdict-high (a .verdict))
 
-    refusing : Refusing bs J B d old new r
+    refusing : Refusing bs g d old new r
     refusing =
-        let o = from-order bs J B a reply in
+        let o = from-order bs g a reply in
         record {
           refused-exactly = (λ l. absurd (low-high l high), λ x. absurd (none (o .0) (o .1) x));
           file-refused = λ n. absurd (n (o .0));
@@ -135,12 +135,12 @@ module _ (bs : List ℕ) (J B : ℕ) (d old new : List ℕ) (r : ℕ) (h : Check
           rest-zero = λ l. absurd (low-high l high);
         }
       where
-        none : FilePasses bs → journalFault J ≡ 0 → FileRefused bs ⊎ RowsRefused J → ⊥
+        none : FilePasses bs → journalFault (g .rows) ≡ 0 → FileRefused bs ⊎ RowsRefused (g .rows) → ⊥
         none z k (inl n) = n z
-        none z k (inr x) = refused-rows J x k
+        none z k (inr x) = refused-rows (g .rows) x k
 
     -- the counts, as the details have them
-    runs-out : (v : Verdict) → Stops (base states (automatonOf bs)) (rulesOf bs) J B v a → RunsOut bs J B d old new r v
+    runs-out : (v : Verdict) → Stops (base states (automatonOf bs)) (rulesOf bs) (g .rows) (g .budget) v a → RunsOut bs g d old new r v
     runs-out v s =
         record {
           answer = a;
@@ -152,10 +152,10 @@ module _ (bs : List ℕ) (J B : ℕ) (d old new : List ℕ) (r : ℕ) (h : Check
         }
 
     -- and back
-    ran-out : (v : Verdict) (o : RunsOut bs J B d old new r v) → o .answer .verdict ≡ v → r ≡ verdictCode v
-    ran-out v o e = told-answer bs J B d old new r h (o .answer) (o .answers) .number ∙ ap verdictCode e
+    ran-out : (v : Verdict) (o : RunsOut bs g d old new r v) → o .answer .verdict ≡ v → r ≡ verdictCode v
+    ran-out v o e = told-answer bs g d old new r h (o .answer) (o .answers) .number ∙ ap verdictCode e
 
-    verdicts : Verdicts bs J B d old new r
+    verdicts : Verdicts bs g d old new r
     verdicts =
         record {
           one-of-four = λ l. four (a .verdict) refl;
@@ -189,13 +189,13 @@ module _ (bs : List ℕ) (J B : ℕ) (d old new : List ℕ) (r : ℕ) (h : Check
         calm x all full e = absurd (x .not-full (code full e))
         calm x all spent e = absurd (x .not-spent (code spent e))
 
-    details : Details bs J B d old new r
+    details : Details bs g d old new r
     details =
         record {
           eight = ap length (t .details) ∙ long (a .verdict);
-          used-bound = subst (λ (n : ℕ). n ≤ J) (sym (ap toldUsed (t .details))) (p .counts .rows-bound);
-          pass-bound = subst (λ (n : ℕ). n ≤ J + 1) (sym (ap toldPass (t .details))) (p .counts .pass-bound);
-          joins-bound = subst (λ (n : ℕ). n ≤ length (rulesOf bs) * J * J * (J + 1)) (sym (ap toldJoins (t .details))) (p .counts .joins-bound);
+          used-bound = subst (λ (n : ℕ). n ≤ g .rows) (sym (ap toldUsed (t .details))) (p .counts .rows-bound);
+          pass-bound = subst (λ (n : ℕ). n ≤ g .rows + 1) (sym (ap toldPass (t .details))) (p .counts .pass-bound);
+          joins-bound = subst (λ (n : ℕ). n ≤ joinsBound bs g) (sym (ap toldJoins (t .details))) (p .counts .joins-bound);
           no-row = λ l n. ap toldRow (t .details) ∙ p .counts .no-row (λ e. n (code broken e));
           no-run = λ n.
               let e = t .details ∙ ap (λ (xs : List ℕ). 0 ∷ a .joins ∷ a .used ∷ a .pass ∷ a .row ∷ xs) (if-not-broken (a .verdict) _ (0 ∷ 0 ∷ 0 ∷ []) (λ e. n (code broken e))) in
@@ -210,37 +210,37 @@ module _ (bs : List ℕ) (J B : ℕ) (d old new : List ℕ) (r : ℕ) (h : Check
         long full = refl
         long spent = refl
 
-    stays : Stays bs J B d old new r
+    stays : Stays bs g d old new r
     stays =
         record {
-          larger = λ x J′ B′ j l b d′ new′ r′ h′.
-              let s = p .stable (λ q. firm x fullCode (omega arith) (code full q)) (λ q. firm x spentCode (omega arith) (code spent q)) J′ B′ j l b in
-              tells-alike bs J B J′ B′ d d′ old new new′ r r′ a (s .0) p (h′ .promises (s .0) (s .1)) t (told-answer bs J′ B′ d′ old new′ r′ h′ (s .0) (s .1)) (s .2);
-          same-details = λ x J′ B′ j l b d′ new′ r′ h′.
-              let e = p .same-answer (λ q. firm x fullCode (omega arith) (code full q)) (λ q. firm x spentCode (omega arith) (code spent q)) J′ B′ j l b in
-              told-answer bs J′ B′ d′ old new′ r′ h′ a e .details ∙ sym (t .details);
+          larger = λ x g′ y d′ new′ r′ h′.
+              let s = p .stable (λ q. firm x fullCode (omega arith) (code full q)) (λ q. firm x spentCode (omega arith) (code spent q)) g′ y in
+              tells-alike bs g g′ d d′ old new new′ r r′ a (s .0) p (h′ .promises (s .0) (s .1)) t (told-answer bs g′ d′ old new′ r′ h′ (s .0) (s .1)) (s .2);
+          same-details = λ x g′ y d′ new′ r′ h′.
+              let e = p .same-answer (λ q. firm x fullCode (omega arith) (code full q)) (λ q. firm x spentCode (omega arith) (code spent q)) g′ y in
+              told-answer bs g′ d′ old new′ r′ h′ a e .details ∙ sym (t .details);
         }
       where
         firm : (r ≡ holdsCode) ⊎ (r ≡ brokenCode) → (n : ℕ) → brokenCode < n → r ≡ n → ⊥
         firm (inl x) n l e = omega (arith, x, l, e)
         firm (inr x) n l e = omega (arith, x, l, e)
 
-    answer-tells : CheckTells bs J B d old new r
+    answer-tells : CheckTells bs g d old new r
     answer-tells =
         record {
           refusing = refusing;
           verdicts = verdicts;
           details = details;
-          shows = λ e. (shown bs a, run-shown bs J B a reply (is broken e) p d old new r t);
+          shows = λ e. (shown bs a, run-shown bs g a reply (is broken e) p d old new r t);
           stays = stays;
         }
 
   -- every check that met its contract
-  pub check-tells : CheckTells bs J B d old new r
-  check-tells = by (checkOf bs J B) refl
+  pub check-tells : CheckTells bs g d old new r
+  check-tells = by (checkOf bs g) refl
     where
-      by : (x : Reply (Answer ℕ)) → checkOf bs J B ≡ x → CheckTells bs J B d old new r
-      by (refused y) e = refusal-tells bs J B d old new r y (told-refusal bs J B d old new r h y e) (why-refused bs J B y e)
+      by : (x : Reply (Answer ℕ)) → checkOf bs g ≡ x → CheckTells bs g d old new r
+      by (refused y) e = refusal-tells bs g d old new r y (told-refusal bs g d old new r h y e) (why-refused bs g y e)
       by (answered a) e = answer-tells a e
 
   -- ---- some of it in short, for the reader; nothing cites these
@@ -267,7 +267,7 @@ file-tells bs r i h =
       numbers = subst (λ (n : ℕ). n ≤ 7) (sym (h .number)) (x .number);
       no-record = λ l. h .place ∙ x .no-record (subst (λ (n : ℕ). n < 3) (h .number) l);
       judging-same = λ n w r′ i′ j. let y = judge-tells bs w r′ i′ j .file-refused (λ z. n (h .number ∙ z)) in (y .0 ∙ sym (h .number), y .1 ∙ sym (h .place));
-      checking-same = λ n J B d old new r′ c.
-          let y = check-tells bs J B d old new r′ c .refusing .file-refused (λ z. n (h .number ∙ z)) in
+      checking-same = λ n g d old new r′ c.
+          let y = check-tells bs g d old new r′ c .refusing .file-refused (λ z. n (h .number ∙ z)) in
           (y .0 ∙ sym (h .number), y .1 ∙ sym (h .place));
     }

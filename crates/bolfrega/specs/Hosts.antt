@@ -16,8 +16,8 @@ use Rattle.working_order.specs.Stopping.{Stops}
 use Rattle.working_order.specs.Journal.{absent, capped}
 use Rattle.working_order.specs.Order.{Answer, Verdict, full, spent}
 use Rattle.calls.specs.Base.{base}
-use Rattle.calls.specs.Checking.{journalLimit, checkOf}
-use Rattle.calls.specs.DemandThree.{Derivable, Counterexample}
+use Rattle.calls.specs.Checking.{Settings, journalLimit, checkOf}
+use Rattle.calls.specs.DemandThree.{Derivable, Counterexample, joinsBound, Extends}
 use Rattle.calls.specs.Judging.{wordFault}
 use Rattle.calls.specs.Replies.{answered}
 use Rattle.calls.specs.Writing.{longWord}
@@ -77,8 +77,7 @@ toldLength d = getD d 6 0
 abbrev pub toldRefused : List ℕ → ℕ
 toldRefused d = getD d 7 0
 
--- ---- checking: the number r, the details d and the buffer, old before and new after, that bolfrega_check gave for J rows and a budget of
--- B joins
+-- ---- checking: the number r, the details d and the buffer, old before and new after, that bolfrega_check gave for the settings g
 
 -- the number says whether the sheet accepts every run: it is no refusal, the rows have not run out, and the joins have not
 pub record Decided (r : ℕ) : Type 0 where
@@ -86,10 +85,10 @@ pub record Decided (r : ℕ) : Type 0 where
   pub not-full : r ≡ fullCode → ⊥
   pub not-spent : r ≡ spentCode → ⊥
 
-module _ (bs : List ℕ) (J B : ℕ) (d old new : List ℕ) (r : ℕ) where
+module _ (bs : List ℕ) (g : Settings) (d old new : List ℕ) (r : ℕ) where
   -- below 100 the call was refused: the file's refusal, or else 8 for the rows
   pub record Refusing : Type 0 where
-    pub refused-exactly : (r < firstAnswerCode) ↔ (FileRefused bs ⊎ RowsRefused J)
+    pub refused-exactly : (r < firstAnswerCode) ↔ (FileRefused bs ⊎ RowsRefused (g .rows))
     pub file-refused : FileRefused bs → (r ≡ fault bs .number) × (toldRecord d ≡ fault bs .place)
     pub file-numbers : FileRefused bs → (1 ≤ r) × (r ≤ 7)
     -- else it is the rows
@@ -102,8 +101,8 @@ module _ (bs : List ℕ) (J B : ℕ) (d old new : List ℕ) (r : ℕ) where
   -- the working order stops with this verdict, and the details tell of where it does
   pub record RunsOut (v : Verdict) : Type 0 where
     pub answer : Answer ℕ
-    pub answers : checkOf bs J B ≡ answered answer
-    pub stops : Stops (base states (automatonOf bs)) (rulesOf bs) J B v answer
+    pub answers : checkOf bs g ≡ answered answer
+    pub stops : Stops (base states (automatonOf bs)) (rulesOf bs) (g .rows) (g .budget) v answer
     pub joins-told : toldJoins d ≡ answer .joins
     pub used-told : toldUsed d ≡ answer .used
     pub pass-told : toldPass d ≡ answer .pass
@@ -116,18 +115,18 @@ module _ (bs : List ℕ) (J B : ℕ) (d old new : List ℕ) (r : ℕ) where
     pub broken-exactly : Decided r → (r ≡ brokenCode) ↔ ((w : List ℕ) × Counterexample bs w)
     -- 102 exactly where the working order runs out of rows: all are used
     pub full-exactly : (r ≡ fullCode) ↔ RunsOut full
-    pub full-used : r ≡ fullCode → toldUsed d ≡ J
+    pub full-used : r ≡ fullCode → toldUsed d ≡ g .rows
     -- 103 exactly where it runs out of joins: all of the budget are made; a budget of document 01's size is never spent
     pub spent-exactly : (r ≡ spentCode) ↔ RunsOut spent
-    pub spent-joins : r ≡ spentCode → toldJoins d ≡ B
-    pub never-spent : length (rulesOf bs) * J * J * (J + 1) ≤ B → r ≡ spentCode → ⊥
+    pub spent-joins : r ≡ spentCode → toldJoins d ≡ g .budget
+    pub never-spent : joinsBound bs g ≤ g .budget → r ≡ spentCode → ⊥
 
   -- the counts and the row
   pub record Details : Type 0 where
     pub eight : length d ≡ 8
-    pub used-bound : toldUsed d ≤ J
-    pub pass-bound : toldPass d ≤ J + 1
-    pub joins-bound : toldJoins d ≤ length (rulesOf bs) * J * J * (J + 1)
+    pub used-bound : toldUsed d ≤ g .rows
+    pub pass-bound : toldPass d ≤ g .rows + 1
+    pub joins-bound : toldJoins d ≤ joinsBound bs g
     -- an answer that is not broken has no row and shows no run; a broken one has the last row
     pub no-row : firstAnswerCode ≤ r → (r ≡ brokenCode → ⊥) → toldRow d ≡ absent
     pub no-run : (r ≡ brokenCode → ⊥) → (toldPairs d ≡ 0) × (toldLength d ≡ 0) × (toldRefused d ≡ 0)
@@ -171,11 +170,11 @@ module _ (bs : List ℕ) (J B : ℕ) (d old new : List ℕ) (r : ℕ) where
 
   -- once the number is 100 or 101, a call with more rows or a larger budget, and the same buffer, tells the same
   pub record Stays : Type 0 where
-    pub larger : (r ≡ holdsCode) ⊎ (r ≡ brokenCode) → (J′ B′ : ℕ) → J ≤ J′ → J′ ≤ journalLimit → B ≤ B′
-        → (d′ new′ : List ℕ) (r′ : ℕ) → ChecksZeros bs J′ B′ d′ old new′ r′ → TellsAlike d′ new′ r′
+    pub larger : (r ≡ holdsCode) ⊎ (r ≡ brokenCode) → (g′ : Settings) → Extends g g′
+        → (d′ new′ : List ℕ) (r′ : ℕ) → ChecksZeros bs g′ d′ old new′ r′ → TellsAlike d′ new′ r′
     -- and today the same used rows and the same row, so that all details are the same
-    pub same-details : (r ≡ holdsCode) ⊎ (r ≡ brokenCode) → (J′ B′ : ℕ) → J ≤ J′ → J′ ≤ journalLimit → B ≤ B′
-        → (d′ new′ : List ℕ) (r′ : ℕ) → ChecksZeros bs J′ B′ d′ old new′ r′ → d′ ≡ d
+    pub same-details : (r ≡ holdsCode) ⊎ (r ≡ brokenCode) → (g′ : Settings) → Extends g g′
+        → (d′ new′ : List ℕ) (r′ : ℕ) → ChecksZeros bs g′ d′ old new′ r′ → d′ ≡ d
 
   pub record CheckTells : Type 0 where
     pub refusing : Refusing
@@ -192,5 +191,5 @@ pub record FileTells (bs : List ℕ) (r i : ℕ) : Type 0 where
   pub no-record : r < 3 → i ≡ 0
   -- where it is not 0, every judging and every check of the file is refused with the same number and the same record
   pub judging-same : (r ≡ 0 → ⊥) → (w : List ℕ) (r′ i′ : ℕ) → Judges bs w r′ i′ → (r′ ≡ r) × (i′ ≡ i)
-  pub checking-same : (r ≡ 0 → ⊥) → (J B : ℕ) (d old new : List ℕ) (r′ : ℕ) → ChecksZeros bs J B d old new r′
+  pub checking-same : (r ≡ 0 → ⊥) → (g : Settings) (d old new : List ℕ) (r′ : ℕ) → ChecksZeros bs g d old new r′
       → (r′ ≡ r) × (toldRecord d ≡ i)

@@ -13,10 +13,11 @@ use Rattle.relation.specs.Representation.{value-none}
 use Rattle.plan_file.specs.Refusals.{Refusal, refuse, fault}
 use Rattle.working_order.specs.Journal.{Row}
 use Rattle.working_order.specs.Order.{Answer}
-use Rattle.calls.specs.Checking.{journalLimit, journalFault, checkOf, journalAfter}
+use Rattle.calls.specs.Checking.{Settings, journalLimit, journalFault, checkOf, journalAfter}
 use Rattle.calls.specs.Promising.{promises}
 use Rattle.calls.specs.Replies.{Reply, refused}
-use Rattle.calls.specs.Rows.{rowOf, blank}
+use Rattle.calls.specs.Rows.{rowOf, blank, settingsOf}
+use Rattle.calls.specs.declared.Options.{Options}
 use Rattle.calls.specs.declared.Row.{Row as LentRow}
 use Rattle.covers.specs.Rows.{Journal}
 use Rattle.telling.specs.Fronts.{journalOf}
@@ -61,46 +62,46 @@ none : journalFault 0 ≡ 8
 unfolding journalFault
 none = refl
 
-module _ (bs : List ℕ) (B : ℕ) where
+module _ (bs : List ℕ) (o : Options) where
   -- one refusal, for any number of rows that 8 refuses
-  refusal : (x : Refusal) × ((J : ℕ) → journalFault J ≡ 8 → checkOf bs J B ≡ refused x)
+  refusal : (x : Refusal) × ((g : Settings) → journalFault (g .rows) ≡ 8 → checkOf bs g ≡ refused x)
   unfolding checkOf
   refusal = by (fault bs .number) refl
     where
-      by : (f : ℕ) → fault bs .number ≡ f → (x : Refusal) × ((J : ℕ) → journalFault J ≡ 8 → checkOf bs J B ≡ refused x)
-      by zero e = (refuse 8 0, λ J h. rw (e, h))
-      by (suc f) e = (fault bs, λ J h. rw e)
+      by : (f : ℕ) → fault bs .number ≡ f → (x : Refusal) × ((g : Settings) → journalFault (g .rows) ≡ 8 → checkOf bs g ≡ refused x)
+      by zero e = (refuse 8 0, λ g h. rw (e, h))
+      by (suc f) e = (fault bs, λ g h. rw e)
 
   module _ (d old new : List ℕ) (r : ℕ) where
     -- what a host is given of a refusal does not depend on the rows
     any-rows : (x : Refusal) (rows rows′ : List (Row ℕ)) → Tells bs rows (refused x) d old new r → Tells bs rows′ (refused x) d old new r
     any-rows x rows rows′ t = record { code = t .code; details = t .details; buffer = t .buffer }
 
-    over-front : (J : ℕ) → ChecksOver bs (journalOf J blank) B d old new r → ChecksZeros bs J B d old new r
+    over-front : (J : ℕ) → ChecksOver bs (journalOf J blank) o d old new r → ChecksZeros bs (settingsOf J o) d old new r
     unfolding journalOf
     over-front J h = by (leb J journalLimit) refl
       where
         Over : Journal → Type 0
-        Over journal = ChecksOver bs journal B d old new r
+        Over journal = ChecksOver bs journal o d old new r
 
-        by : (b : Bool) → leb J journalLimit ≡ b → ChecksZeros bs J B d old new r
+        by : (b : Bool) → leb J journalLimit ≡ b → ChecksZeros bs (settingsOf J o) d old new r
         by true p =
             let all = ap (λ (b : Bool). take (cond b J 0) (replicate journalLimit blank)) p ∙ take-replicate blank J journalLimit (leb-true J journalLimit p) in
-            subst (λ (n : ℕ). ChecksBy bs n B (journalAfter bs (zeroRows J) B) d old new r) (length-replicate J blank)
-            (subst (λ (rows : List (Row ℕ)). ChecksBy bs (length (replicate J blank)) B (journalAfter bs rows B) d old new r) (zeros-read J) (subst Over all h))
+            subst (λ (n : ℕ). ChecksBy bs (settingsOf n o) (journalAfter bs (settingsOf n o) (zeroRows J)) d old new r) (length-replicate J blank)
+            (subst (λ (rows : List (Row ℕ)). let g = settingsOf (length (replicate J blank)) o in ChecksBy bs g (journalAfter bs g rows) d old new r) (zeros-read J) (subst Over all h))
         by false p =
             let t = subst Over (ap (λ (b : Bool). take (cond b J 0) (replicate journalLimit blank)) p) h .told in
             let x = refusal .0 in
             record {
               told =
-                  subst (λ (y : Reply (Answer ℕ)). Tells bs (journalAfter bs (zeroRows J) B) y d old new r) (sym (refusal .1 J (too-many J (leb-false J journalLimit p))))
-                  (any-rows x (journalAfter bs [] B) (journalAfter bs (zeroRows J) B)
-                  (subst (λ (y : Reply (Answer ℕ)). Tells bs (journalAfter bs [] B) y d old new r) (refusal .1 0 none) t));
-              promises = promises bs J B;
+                  subst (λ (y : Reply (Answer ℕ)). Tells bs (journalAfter bs (settingsOf J o) (zeroRows J)) y d old new r) (sym (refusal .1 (settingsOf J o) (too-many J (leb-false J journalLimit p))))
+                  (any-rows x (journalAfter bs (settingsOf 0 o) []) (journalAfter bs (settingsOf J o) (zeroRows J))
+                  (subst (λ (y : Reply (Answer ℕ)). Tells bs (journalAfter bs (settingsOf 0 o) []) y d old new r) (refusal .1 (settingsOf 0 o) none) t));
+              promises = promises bs (settingsOf J o);
             }
 
 -- the details d of a check over rows x, which are blank
-pub over-zeros : (bs : List ℕ) (J B p : ℕ) (old new : List ℕ) (x : LentRow) → x ≡ blank → (t : Told) → ChecksAlone bs J x B p old new t → (d : List ℕ) → d ≡ numbersIn t → ChecksZeros bs J B d old new (t .code)
-over-zeros bs J B p old new x e t h d q =
-    subst (λ (y : List ℕ). ChecksZeros bs J B y old new (t .code)) (sym q)
-    (over-front bs B (numbersIn t) old new (t .code) J (subst (λ (y : LentRow). ChecksAlone bs J y B p old new t) e h .over))
+pub over-zeros : (bs : List ℕ) (J : ℕ) (o : Options) (p : ℕ) (old new : List ℕ) (x : LentRow) → x ≡ blank → (t : Told) → ChecksAlone bs J x o p old new t → (d : List ℕ) → d ≡ numbersIn t → ChecksZeros bs (settingsOf J o) d old new (t .code)
+over-zeros bs J o p old new x e t h d q =
+    subst (λ (y : List ℕ). ChecksZeros bs (settingsOf J o) y old new (t .code)) (sym q)
+    (over-front bs o (numbersIn t) old new (t .code) J (subst (λ (y : LentRow). ChecksAlone bs J y o p old new t) e h .over))

@@ -2,6 +2,7 @@
 // its caller. A result below 100 is the number that refused the call; from 100 on it is an answer (the verdicts' numbers are in crate
 // telling). `include/bolfrega.h` says the same to C.
 use acceptance::Judged;
+use calls::Options;
 use calls::Row;
 use telling::Told;
 ghost use mathlib.Core.Path.{_≡_};
@@ -86,9 +87,10 @@ pub extern "C" fn bolfrega_check(
     details: &mut [u64; 8],
     buffer: &mut [u8],
 ) -> u64
-    ensures { λ r. ⌜ ChecksZeros (now (file .entry)) rows budget (now (details .exit)) (now (buffer .entry)) (now (buffer .exit)) r ⌝ }
+    ensures { λ r. ⌜ ChecksZeros (now (file .entry)) (record { rows = rows; budget = budget }) (now (details .exit)) (now (buffer .entry)) (now (buffer .exit)) r ⌝ }
 {
-    let told = standalone::checked(file, rows, Row::blank(), budget, 0, buffer);
+    let options = Options { budget };
+    let told = standalone::checked(file, rows, Row::blank(), options, 0, buffer);
     *details = details_of(told);
     told.code
 }

@@ -49,10 +49,10 @@ pub data Output : Type 0 where
 abbrev says : String → Output
 says text = printed (bytes text)
 
--- with a run buffer of the given number of bytes
+-- of a check with J rows and a budget of B joins, and a run buffer of `room` bytes
 checkedIn : ℕ → List ℕ → ℕ → ℕ → Output
 unfolding textOf brokenLines lineOne lineTwo lineThree refusedLine wordLine numbersLine separated blanked decimal writeOf bufferAfter wordOf rowFault roomFault rowsFit rowFits bodyFits pointerFits symbolLen wordBehind wordsOf wordsFrom rowWord bodyWord symbolWord pairs count checkOf orderOn journalFault faultIn lengthFaultIn faultFromIn faultAtIn faultByIn kindKnown aboveRangeIn strayByteIn risesFrom exceedsIn overLimit countIn rulesOf transitionsOf finalsOf collect check passes onePass walk consider decide added retire larger dropped answer born passCandidates bodyCandidates choices bare sole paired liveRows live liveOf capped letterRelation moves isFinal rejects compose identity table has some number subset bit
-checkedIn room bs J B = printed (textOf bs J B room)
+checkedIn room bs J B = printed (textOf bs (record { rows = J; budget = B }) room)
 
 -- with the check program's
 checked : List ℕ → ℕ → ℕ → Output
@@ -74,7 +74,7 @@ refusedBy (answered a) = refusal 0 0
 
 refusing : List ℕ → ℕ → ℕ → Output
 unfolding refusedBy checkedIn
-refusing bs J B = refusedBy (checkOf bs J B)
+refusing bs J B = refusedBy (checkOf bs (record { rows = J; budget = B }))
 
 judgedBy : Reply Judgement → Output
 judgedBy (refused r) = refusal (r .number) (r .place)

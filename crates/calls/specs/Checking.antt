@@ -4,7 +4,7 @@ use mathlib.Core.Bool.{_||_, cond}
 use mathlib.Core.List.{List, [], _∷_, _++_}
 use Prim.Native.Nat.{ℕ}
 use lib.Dec.{eqb, ltb}
-use lib.ListN.{length, drop}
+use lib.ListN.{drop}
 use Rattle.relation.specs.Relation.{states}
 use Rattle.plan_file.specs.Refusals.{Refusal, refuse, fault}
 use Rattle.plan_file.specs.Views.{rulesOf, automatonOf}
@@ -18,29 +18,35 @@ use Rattle.calls.specs.Replies.{Reply, refused, answered, reply}
 abbrev pub journalLimit : ℕ
 journalLimit = 4096
 
+-- what a check is given beside the file: the number of rows of the lent journal, and the joins that it may make
+pub record Settings : Type 0 where
+  pub rows : ℕ
+  pub budget : ℕ
+
 -- 8: the journal has no row or too many
 unfoldable pub journalFault : ℕ → ℕ
 journalFault J = cond (eqb J 0 || ltb journalLimit J) 8 0
 
--- the working order on the file, with J rows and a budget of B joins
-unfoldable pub orderOn : List ℕ → ℕ → ℕ → Answer ℕ
-orderOn bs J B = check (base states (automatonOf bs)) (rulesOf bs) J B
+-- the working order on the file
+unfoldable pub orderOn : List ℕ → Settings → Answer ℕ
+orderOn bs g = check (base states (automatonOf bs)) (rulesOf bs) (g .rows) (g .budget)
 
 -- what may refuse a check, in its order: the file's refusal, then 8
 abbrev pub checkRefusals : List ℕ → ℕ → List Refusal
 checkRefusals bs J = fault bs ∷ refuse (journalFault J) 0 ∷ []
 
 -- the first of them, and else the answer
-unfoldable pub checkOf : List ℕ → ℕ → ℕ → Reply (Answer ℕ)
-checkOf bs J B = let a = orderOn bs J B in reply (checkRefusals bs J) a
+unfoldable pub checkOf : List ℕ → Settings → Reply (Answer ℕ)
+checkOf bs g = let a = orderOn bs g in reply (checkRefusals bs (g .rows)) a
 
 -- the used rows, and then the old contents; the old contents whole on a refusal
 abbrev pub keptBy : List (Row ℕ) → Reply (Answer ℕ) → List (Row ℕ)
 keptBy old (refused r) = old
 keptBy old (answered a) = a .journal ++ drop (a .used) old
 
-unfoldable pub journalAfter : List ℕ → List (Row ℕ) → ℕ → List (Row ℕ)
-journalAfter bs old B = keptBy old (checkOf bs (length old) B)
+-- the journal after the check, which held the rows `old` before
+unfoldable pub journalAfter : List ℕ → Settings → List (Row ℕ) → List (Row ℕ)
+journalAfter bs g old = keptBy old (checkOf bs g)
 
 -- the word that a broken answer shows: the one behind its row
 unfoldable pub shown : List ℕ → Answer ℕ → List ℕ

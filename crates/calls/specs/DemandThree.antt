@@ -19,7 +19,7 @@ use Rattle.working_order.specs.Order.{Answer, holds, broken, full, spent}
 use Rattle.working_order.specs.Stopping.{Stops, Ends}
 use Rattle.working_order.specs.Fitting.{rowFits}
 use Rattle.calls.specs.Base.{base}
-use Rattle.calls.specs.Checking.{journalLimit, checkOf, journalAfter, shown}
+use Rattle.calls.specs.Checking.{Settings, journalLimit, checkOf, journalAfter, shown}
 use Rattle.calls.specs.Replies.{refused, answered}
 use Rattle.calls.specs.Writing.{longWord, rowOn, wordOf, writeOf, bufferAfter}
 
@@ -38,8 +38,8 @@ module _ (bs : List ℕ) where
 
   -- ---- the verdict and the counts
 
-  -- the answer to a check with J rows and a budget of B joins
-  pub record OneVerdict (J B : ℕ) (a : Answer ℕ) : Type 0 where
+  -- the answer to a check with the settings g
+  pub record OneVerdict (g : Settings) (a : Answer ℕ) : Type 0 where
     -- "holds" only if no derivable word, however long, is turned away
     pub holds-for-all : a .verdict ≡ holds → (w : List ℕ) → Derivable w → Accepts (automatonOf bs) w
     -- "broken" only with such a word shown
@@ -47,26 +47,30 @@ module _ (bs : List ℕ) where
     -- any verdict other than "full" and "spent" is "broken" exactly when such a word exists
     pub broken-exactly : (a .verdict ≡ full → ⊥) → (a .verdict ≡ spent → ⊥) → (a .verdict ≡ broken) ↔ ((w : List ℕ) × Counterexample w)
     -- "full" exactly where the rows run out, and "spent" where the joins do: at the candidate that Stops names
-    pub stops-full : (a .verdict ≡ full) ↔ Stops (base states (automatonOf bs)) (rulesOf bs) J B full a
-    pub stops-spent : (a .verdict ≡ spent) ↔ Stops (base states (automatonOf bs)) (rulesOf bs) J B spent a
+    pub stops-full : (a .verdict ≡ full) ↔ Stops (base states (automatonOf bs)) (rulesOf bs) (g .rows) (g .budget) full a
+    pub stops-spent : (a .verdict ≡ spent) ↔ Stops (base states (automatonOf bs)) (rulesOf bs) (g .rows) (g .budget) spent a
     -- "broken" exactly where a candidate becomes a row that breaks, and "holds" where a pass ends that has added no row
-    pub stops-broken : (a .verdict ≡ broken) ↔ Stops (base states (automatonOf bs)) (rulesOf bs) J B broken a
-    pub ends-holds : (a .verdict ≡ holds) ↔ Ends (base states (automatonOf bs)) (rulesOf bs) J B a
+    pub stops-broken : (a .verdict ≡ broken) ↔ Stops (base states (automatonOf bs)) (rulesOf bs) (g .rows) (g .budget) broken a
+    pub ends-holds : (a .verdict ≡ holds) ↔ Ends (base states (automatonOf bs)) (rulesOf bs) (g .rows) (g .budget) a
+
+  -- document 01's bound on the joins: R · J · J · (J + 1)
+  abbrev pub joinsBound : Settings → ℕ
+  joinsBound g = length (rulesOf bs) * g .rows * g .rows * (g .rows + 1)
 
   -- its counts: what the joins are stands in Stops and Ends above, and here the row and document 01's bounds
-  pub record Counts (J B : ℕ) (a : Answer ℕ) : Type 0 where
+  pub record Counts (g : Settings) (a : Answer ℕ) : Type 0 where
     -- 65,535 unless broken, and then the last used row
     pub no-row : (a .verdict ≡ broken → ⊥) → a .row ≡ absent
     pub last-row : a .verdict ≡ broken → suc (a .row) ≡ a .used
     -- "full" has used all rows, and "spent" has made all joins of the budget
-    pub all-rows : a .verdict ≡ full → a .used ≡ J
-    pub all-joins : a .verdict ≡ spent → a .joins ≡ B
+    pub all-rows : a .verdict ≡ full → a .used ≡ g .rows
+    pub all-joins : a .verdict ≡ spent → a .joins ≡ g .budget
     pub used-rows : a .used ≡ length (a .journal)
-    pub rows-bound : a .used ≤ J
-    pub pass-bound : a .pass ≤ J + 1
-    pub joins-bound : a .joins ≤ length (rulesOf bs) * J * J * (J + 1)
+    pub rows-bound : a .used ≤ g .rows
+    pub pass-bound : a .pass ≤ g .rows + 1
+    pub joins-bound : a .joins ≤ joinsBound g
     -- a budget of that size is never spent
-    pub never-spent : length (rulesOf bs) * J * J * (J + 1) ≤ B → a .verdict ≡ spent → ⊥
+    pub never-spent : joinsBound g ≤ g .budget → a .verdict ≡ spent → ⊥
 
   -- the pass of a broken answer is the least height of a derivation whose word is turned away
   pub record LeastHeight (a : Answer ℕ) : Type 0 where
@@ -110,32 +114,37 @@ module _ (bs : List ℕ) where
 
   -- ---- the word of a broken answer, written
 
-  -- writing from the journal as a check with a budget of B joins leaves it, which had these rows before, to a buffer that holds old:
-  -- the word is the shown one, and it is refused with 10 where it is too long, and in no other case
-  pub record WritesShown (B : ℕ) (a : Answer ℕ) (rows : List (Row ℕ)) (old : List ℕ) : Type 0 where
+  -- writing from the journal as the check leaves it, which had these rows before, to a buffer that holds old: the word is the shown
+  -- one, and it is refused with 10 where it is too long, and in no other case
+  pub record WritesShown (g : Settings) (a : Answer ℕ) (rows : List (Row ℕ)) (old : List ℕ) : Type 0 where
     pub length-told : length (shown bs a) < longWord → length (shown bs a) ≤ length old
-        → writeOf bs (journalAfter bs rows B) (a .used) (a .row) (length old) ≡ answered (length (shown bs a))
+        → writeOf bs (journalAfter bs g rows) (a .used) (a .row) (length old) ≡ answered (length (shown bs a))
     pub written : length (shown bs a) < longWord → length (shown bs a) ≤ length old
-        → bufferAfter bs (journalAfter bs rows B) (a .used) (a .row) old ≡ shown bs a ++ drop (length (shown bs a)) old
+        → bufferAfter bs (journalAfter bs g rows) (a .used) (a .row) old ≡ shown bs a ++ drop (length (shown bs a)) old
     pub too-long : (longWord ≤ length (shown bs a)) ⊎ (length old < length (shown bs a))
-        → writeOf bs (journalAfter bs rows B) (a .used) (a .row) (length old) ≡ refused (refuse 10 0)
+        → writeOf bs (journalAfter bs g rows) (a .used) (a .row) (length old) ≡ refused (refuse 10 0)
     pub untouched : (longWord ≤ length (shown bs a)) ⊎ (length old < length (shown bs a))
-        → bufferAfter bs (journalAfter bs rows B) (a .used) (a .row) old ≡ old
+        → bufferAfter bs (journalAfter bs g rows) (a .used) (a .row) old ≡ old
+
+-- the settings g′ give a check at least the rows and the joins of g, and no more rows than a journal may have
+pub record Extends (g g′ : Settings) : Type 0 where
+  pub more-rows : g .rows ≤ g′ .rows
+  pub within-limit : g′ .rows ≤ journalLimit
+  pub more-joins : g .budget ≤ g′ .budget
 
 -- ---- what a check that answers promises
 
--- the answer a to a check with J rows and a budget of B joins
-pub record Promises (bs : List ℕ) (J B : ℕ) (a : Answer ℕ) : Type 0 where
-  pub one-verdict : OneVerdict bs J B a
-  pub counts : Counts bs J B a
+-- the answer a to a check of the file bs with the settings g
+pub record Promises (bs : List ℕ) (g : Settings) (a : Answer ℕ) : Type 0 where
+  pub one-verdict : OneVerdict bs g a
+  pub counts : Counts bs g a
   pub least-height : LeastHeight bs a
   pub rows-mean : (i : ℕ) → i < a .used → RowMeans bs a i
   pub antichain : LiveAntichain bs a
-  -- whatever the J rows of the journal held before, and whatever the buffer holds
-  pub writes-shown : a .verdict ≡ broken → (rows : List (Row ℕ)) → length rows ≡ J → (old : List ℕ) → WritesShown bs B a rows old
+  -- whatever the rows of the journal held before, and whatever the buffer holds
+  pub writes-shown : a .verdict ≡ broken → (rows : List (Row ℕ)) → length rows ≡ g .rows → (old : List ℕ) → WritesShown bs g a rows old
   -- once the verdict is neither "full" nor "spent", a check with a longer journal or a larger budget answers with the same verdict, joins,
   -- pass and shown word
-  pub stable : (a .verdict ≡ full → ⊥) → (a .verdict ≡ spent → ⊥) → (J′ B′ : ℕ) → J ≤ J′ → J′ ≤ journalLimit → B ≤ B′
-      → (b : Answer ℕ) × (checkOf bs J′ B′ ≡ answered b) × Agrees bs a b
+  pub stable : (a .verdict ≡ full → ⊥) → (a .verdict ≡ spent → ⊥) → (g′ : Settings) → Extends g g′ → (b : Answer ℕ) × (checkOf bs g′ ≡ answered b) × Agrees bs a b
   -- and today with the same rows too: the answer is the whole of a
-  pub same-answer : (a .verdict ≡ full → ⊥) → (a .verdict ≡ spent → ⊥) → (J′ B′ : ℕ) → J ≤ J′ → J′ ≤ journalLimit → B ≤ B′ → checkOf bs J′ B′ ≡ answered a
+  pub same-answer : (a .verdict ≡ full → ⊥) → (a .verdict ≡ spent → ⊥) → (g′ : Settings) → Extends g g′ → checkOf bs g′ ≡ answered a

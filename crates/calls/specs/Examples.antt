@@ -16,6 +16,7 @@ use Rattle.working_order.specs.Behind.{symbolWord, bodyWord, rowWord, wordsFrom
 use Rattle.working_order.specs.Fitting.{pointerFits, symbolLen, bodyFits, rowFits, rowsFit}
 use Rattle.calls.specs.Replies.{Reply, refused, answered}
 use Rattle.calls.specs.Checking.{journalFault, orderOn}
+use Rattle.calls.specs.Printing.{programSettings}
 use Rattle.calls.specs.Writing.{rowFault, roomFault, wordOf, writeOf, bufferAfter}
 use Rattle.calls.specs.Cases.{entry, sheetS, planA, planB, lone}
 
@@ -42,7 +43,7 @@ stretches = (refl, refl)
 -- the journal of plan B's check
 pub journalB : List (Row ℕ)
 unfolding planB sheetS orderOn rulesOf transitionsOf finalsOf collect check passes onePass walk consider decide added retire larger dropped answer born passCandidates bodyCandidates choices bare sole paired liveRows live liveOf capped letterRelation moves isFinal rejects compose identity table has some number subset bit
-journalB = orderOn (planB sheetS) 1024 1000000 .journal
+journalB = orderOn (planB sheetS) programSettings .journal
 
 pub writeOn : List ℕ → List (Row ℕ) → ℕ → ℕ → ℕ → Reply ℕ
 unfolding writeOf wordOf rowFault roomFault journalFault faultIn lengthFaultIn faultFromIn faultAtIn faultByIn kindKnown aboveRangeIn strayByteIn risesFrom exceedsIn overLimit countIn rulesOf transitionsOf collect rowsFit rowFits bodyFits pointerFits symbolLen capped wordBehind wordsOf wordsFrom rowWord bodyWord symbolWord

@@ -183,6 +183,6 @@ unfolding wordFault
 letters = (refl, refl, refl)
 
 -- the file is tested before 8 and 11
-pub file-first : (checkOf (1 ∷ []) 0 0 ≡ refused (refuse 1 0)) × (judgeOf (1 ∷ []) (128 ∷ []) ≡ refused (refuse 1 0))
+pub file-first : (checkOf (1 ∷ []) (record { rows = 0; budget = 0 }) ≡ refused (refuse 1 0)) × (judgeOf (1 ∷ []) (128 ∷ []) ≡ refused (refuse 1 0))
 unfolding checkOf judgeOf journalFault wordFault refusalNow faultIn lengthFaultIn
 file-first = (refl, refl)

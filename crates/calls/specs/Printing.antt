@@ -11,7 +11,7 @@ use Rattle.plan_file.specs.Views.{automatonOf}
 use Rattle.working_order.specs.Journal.{Row, noRow}
 use Rattle.working_order.specs.Order.{Verdict, holds, broken, full, spent, Answer}
 use Rattle.calls.specs.Base.{base}
-use Rattle.calls.specs.Checking.{checkOf}
+use Rattle.calls.specs.Checking.{Settings, checkOf}
 use Rattle.calls.specs.Replies.{Reply, refused, answered}
 use Rattle.calls.specs.Writing.{writeOf, bufferAfter}
 
@@ -111,20 +111,17 @@ abbrev pub textBy : List ℕ → ℕ → Reply (Answer ℕ) → List ℕ
 textBy bs room (refused r) = refusedLine (r .number)
 textBy bs room (answered a) = linesBy (a .verdict) bs room a
 
--- what is printed of a check with J rows and a budget of B joins, with a run buffer of `room` bytes
-unfoldable pub textOf : List ℕ → ℕ → ℕ → ℕ → List ℕ
-textOf bs J B room = textBy bs room (checkOf bs J B)
+-- what is printed of a check with the settings g, with a run buffer of `room` bytes
+unfoldable pub textOf : List ℕ → Settings → ℕ → List ℕ
+textOf bs g room = textBy bs room (checkOf bs g)
 
 -- ---- the check program
 
-abbrev pub programRows : ℕ
-programRows = 1024
-
-abbrev pub programBudget : ℕ
-programBudget = 1000000
+abbrev pub programSettings : Settings
+programSettings = record { rows = 1024; budget = 1000000 }
 
 abbrev pub programRoom : ℕ
 programRoom = 4096
 
 unfoldable pub programText : List ℕ → List ℕ
-programText bs = textOf bs programRows programBudget programRoom
+programText bs = textOf bs programSettings programRoom

@@ -1,4 +1,4 @@
--- Rows of the lent journal and rules as the code holds them, read as the working order has them. Definitions only. Assumes nothing.
+-- Rows of the lent journal, rules and options as the code holds them, read as the definitions have them. Definitions only. Assumes nothing.
 use mathlib.Core.List.{List}
 use Prim.Native.Nat.{ℕ}
 use lib.ListN.{getD}
@@ -6,6 +6,8 @@ use Rattle.relation.specs.Representation.{value, none}
 use Rattle.language.specs.Grammar.{Rule}
 use Rattle.plan_file.specs.Views.{bodyOf}
 use Rattle.working_order.specs.Journal.{Row}
+use Rattle.calls.specs.Checking.{Settings}
+use Rattle.calls.specs.declared.Options.{Options}
 use Rattle.calls.specs.declared.Row.{Row as LentRow}
 
 abbrev pub rowOf : LentRow → Row ℕ
@@ -19,3 +21,7 @@ blank = record { head = 0; rule = 0; relation = none; left = 0; right = 0; len =
 -- four numbers: nonterminal, body length, the bytes of the two symbols
 abbrev pub entryOf : List ℕ → Rule
 entryOf xs = record { head = getD xs 0 0; body = bodyOf (getD xs 1 0) (getD xs 2 0) (getD xs 3 0) }
+
+-- the settings of a check with the options o over a journal of J rows
+abbrev pub settingsOf : ℕ → Options → Settings
+settingsOf J o = record { rows = J; budget = o .budget }

@@ -1,5 +1,5 @@
--- Demand 3, the counts, what the rows are and stability, on the bytes of a file that is not refused, for every journal length and every
--- budget. Assumes nothing.
+-- Demand 3, the counts, what the rows are and stability, on the bytes of a file that is not refused, for all settings.
+-- Assumes nothing.
 use mathlib.Core.Path.{_≡_, refl, sym, ap, _∙_, subst}
 use mathlib.Core.Bool.{true, false, true≢false}
 use mathlib.Core.List.{List}
@@ -32,8 +32,8 @@ use Rattle.working_order.specs.Counting.{Exact, ExactBy, StopsBy, check-exact, 
 use Rattle.working_order.specs.Stability.{Firm, check-mono}
 use Rattle.calls.specs.Base.{starts, base, words}
 use Rattle.calls.specs.BaseLaws.{base-laws, word-sizes, relation-derived, word-derived}
-use Rattle.calls.specs.Checking.{orderOn, shown}
-use Rattle.calls.specs.DemandThree.{Derivable, Counterexample, OneVerdict, Counts, LeastHeight, RowMeans, LiveAntichain}
+use Rattle.calls.specs.Checking.{Settings, orderOn, shown}
+use Rattle.calls.specs.DemandThree.{Derivable, Counterexample, OneVerdict, Counts, LeastHeight, RowMeans, LiveAntichain, Extends}
 use Rattle.calls.specs.JournalTruth.{rowAt, wordAt, row-true, incomparable}
 use Rattle.calls.specs.Writing.{wordOf}
 
@@ -42,7 +42,13 @@ alive : (x : ℕ) (r : Row ℕ) → r .head ≡ x → r .retired ≡ 0 → liveO
 unfolding liveOf live
 alive x r h z = and-intro (eqb (r .head) x) (eqb (r .retired) 0) (eq-eqb (r .head) x h) (eq-eqb (r .retired) 0 z)
 
-module _ (bs : List ℕ) (v : fault bs .number ≡ 0) (J B : ℕ) where
+module _ (bs : List ℕ) (v : fault bs .number ≡ 0) (g : Settings) where
+  abbrev J : ℕ
+  J = g .rows
+
+  abbrev B : ℕ
+  B = g .budget
+
   abbrev A : Automaton
   A = automatonOf bs
 
@@ -78,60 +84,60 @@ module _ (bs : List ℕ) (v : fault bs .number ≡ 0) (J B : ℕ) where
   means full a s = tt
   means spent a s = tt
 
-  meaning : (x : Verdict) → orderOn bs J B .verdict ≡ x → Means x (orderOn bs J B)
+  meaning : (x : Verdict) → orderOn bs g .verdict ≡ x → Means x (orderOn bs g)
   unfolding orderOn
   meaning x e =
-      means x (orderOn bs J B)
-      (subst (λ (y : Verdict). SaysBy (base states A) words (rulesOf bs) y (orderOn bs J B)) e (check-says (base states A) (base-laws states A) words word-sizes (rulesOf bs) J B .verdict))
+      means x (orderOn bs g)
+      (subst (λ (y : Verdict). SaysBy (base states A) words (rulesOf bs) y (orderOn bs g)) e (check-says (base states A) (base-laws states A) words word-sizes (rulesOf bs) J B .verdict))
 
-  shows : orderOn bs J B .verdict ≡ broken → Counterexample bs (shown bs (orderOn bs J B))
-  shows e = let m = meaning broken e in (language (productionsOf bs) initial (shown bs (orderOn bs J B)) .1 (orderOn bs J B .pass, m .0), m .1)
+  shows : orderOn bs g .verdict ≡ broken → Counterexample bs (shown bs (orderOn bs g))
+  shows e = let m = meaning broken e in (language (productionsOf bs) initial (shown bs (orderOn bs g)) .1 (orderOn bs g .pass, m .0), m .1)
 
   -- where a word is turned away and the verdict is firm, it is "broken"
-  found : (x : Verdict) → orderOn bs J B .verdict ≡ x → (x ≡ full → ⊥) → (x ≡ spent → ⊥) → (w : List ℕ) × Counterexample bs w → x ≡ broken
+  found : (x : Verdict) → orderOn bs g .verdict ≡ x → (x ≡ full → ⊥) → (x ≡ spent → ⊥) → (w : List ℕ) × Counterexample bs w → x ≡ broken
   found holds e f s c = absurd (c .1 .1 (meaning holds e (c .0) (c .1 .0)))
   found broken e f s c = refl
   found full e f s c = absurd (f refl)
   found spent e f s c = absurd (s refl)
 
-  pub least-height : LeastHeight bs (orderOn bs J B)
+  pub least-height : LeastHeight bs (orderOn bs g)
   least-height = record { shown-within = λ e. meaning broken e .0; none-lower = λ e. meaning broken e .2 }
 
   module _ (pos : 1 ≤ J) where
     abbrev counts : Exact (base states A) 1 (λ x y. le-refl 1) (le-refl 1) (rulesOf bs) J B pos (check (base states A) (rulesOf bs) J B)
     counts = check-exact (base states A) 1 (λ x y. le-refl 1) (le-refl 1) (rulesOf bs) J B pos
 
-    stops : (x : Verdict) → orderOn bs J B .verdict ≡ x → StopsBy (base states A) 1 (λ x y. le-refl 1) (le-refl 1) (rulesOf bs) J B pos x (orderOn bs J B)
+    stops : (x : Verdict) → orderOn bs g .verdict ≡ x → StopsBy (base states A) 1 (λ x y. le-refl 1) (le-refl 1) (rulesOf bs) J B pos x (orderOn bs g)
     unfolding orderOn
-    stops x e = subst (λ (y : Verdict). StopsBy (base states A) 1 (λ x y. le-refl 1) (le-refl 1) (rulesOf bs) J B pos y (orderOn bs J B)) e (counts .stops)
+    stops x e = subst (λ (y : Verdict). StopsBy (base states A) 1 (λ x y. le-refl 1) (le-refl 1) (rulesOf bs) J B pos y (orderOn bs g)) e (counts .stops)
 
-    so : (x : Verdict) → Stops (base states A) (rulesOf bs) J B x (orderOn bs J B) → orderOn bs J B .verdict ≡ x
+    so : (x : Verdict) → Stops (base states A) (rulesOf bs) J B x (orderOn bs g) → orderOn bs g .verdict ≡ x
     unfolding orderOn
-    so x h = stops-so (base states A) (rulesOf bs) J B x (orderOn bs J B) h
+    so x h = stops-so (base states A) (rulesOf bs) J B x (orderOn bs g) h
 
-    exact : (x : Verdict) → orderOn bs J B .verdict ≡ x → ExactBy (base states A) 1 (λ x y. le-refl 1) (le-refl 1) (rulesOf bs) J B pos x (orderOn bs J B)
+    exact : (x : Verdict) → orderOn bs g .verdict ≡ x → ExactBy (base states A) 1 (λ x y. le-refl 1) (le-refl 1) (rulesOf bs) J B pos x (orderOn bs g)
     unfolding orderOn
-    exact x e = subst (λ (y : Verdict). ExactBy (base states A) 1 (λ x y. le-refl 1) (le-refl 1) (rulesOf bs) J B pos y (orderOn bs J B)) e (counts .by-verdict)
+    exact x e = subst (λ (y : Verdict). ExactBy (base states A) 1 (λ x y. le-refl 1) (le-refl 1) (rulesOf bs) J B pos y (orderOn bs g)) e (counts .by-verdict)
 
     -- no row unless broken
-    rowless : (x : Verdict) → orderOn bs J B .verdict ≡ x → (x ≡ broken → ⊥) → orderOn bs J B .row ≡ absent
+    rowless : (x : Verdict) → orderOn bs g .verdict ≡ x → (x ≡ broken → ⊥) → orderOn bs g .row ≡ absent
     rowless holds e n = exact holds e
     rowless broken e n = absurd (n refl)
     rowless full e n = exact full e .1
     rowless spent e n = exact spent e .1
 
     -- demand 3
-    pub one-verdict : OneVerdict bs J B (orderOn bs J B)
+    pub one-verdict : OneVerdict bs g (orderOn bs g)
     unfolding orderOn
     one-verdict =
         record {
           holds-for-all = meaning holds;
           broken-shows = shows;
-          broken-exactly = λ f s. (λ e. (shown bs (orderOn bs J B), shows e), λ c. found (orderOn bs J B .verdict) refl f s c);
+          broken-exactly = λ f s. (λ e. (shown bs (orderOn bs g), shows e), λ c. found (orderOn bs g .verdict) refl f s c);
           stops-full = (stops full, so full);
           stops-spent = (stops spent, so spent);
           stops-broken = (stops broken, so broken);
-          ends-holds = (stops holds, ends-so (base states A) (rulesOf bs) J B (orderOn bs J B));
+          ends-holds = (stops holds, ends-so (base states A) (rulesOf bs) J B (orderOn bs g));
         }
 
     -- the bound as the counting has it, and as document 01 writes it
@@ -142,11 +148,11 @@ module _ (bs : List ℕ) (v : fault bs .number ≡ 0) (J B : ℕ) where
         ∙ ap (λ (x : ℕ). x * suc J) (sym (mul-assoc (length (rulesOf bs)) J J))
         ∙ ap (λ (x : ℕ). length (rulesOf bs) * J * J * x) (sym (add-one J))
 
-    pub counted : Counts bs J B (orderOn bs J B)
+    pub counted : Counts bs g (orderOn bs g)
     unfolding orderOn
     counted =
         record {
-          no-row = rowless (orderOn bs J B .verdict) refl;
+          no-row = rowless (orderOn bs g .verdict) refl;
           last-row = exact broken;
           all-rows = λ e. exact full e .0;
           all-joins = λ e. exact spent e .0;
@@ -159,18 +165,18 @@ module _ (bs : List ℕ) (v : fault bs .number ≡ 0) (J B : ℕ) where
 
     -- ---- the rows
 
-    there : (i : ℕ) → i < orderOn bs J B .used → i < length (orderOn bs J B .journal)
+    there : (i : ℕ) → i < orderOn bs g .used → i < length (orderOn bs g .journal)
     unfolding orderOn
     there i l = subst (λ (n : ℕ). i < n) (counts .used-is) l
 
-    pub rows-mean : (i : ℕ) → i < orderOn bs J B .used → RowMeans bs (orderOn bs J B) i
+    pub rows-mean : (i : ℕ) → i < orderOn bs g .used → RowMeans bs (orderOn bs g) i
     unfolding wordOf
     rows-mean i l =
-        let t = row-true bs J B i (there i l) in
-        let w = wordAt bs J B i in
+        let t = row-true bs g i (there i l) in
+        let w = wordAt bs g i in
         let within = automaton-within bs v .targets in
         record {
-          derived = language (productionsOf bs) (rowAt bs J B i .head) w .1 (rowAt bs J B i .birth, t .derived);
+          derived = language (productionsOf bs) (rowAt bs g i .head) w .1 (rowAt bs g i .birth, t .derived);
           pairs-exactly = λ p q hp hq. (
             λ h. path-of states (A .transitions) within w p q hp hq (ap (λ (e : ℕ). has states e p q) (t .relation-is) ∙ h),
             λ h. sym (ap (λ (e : ℕ). has states e p q) (t .relation-is)) ∙ of-path states (A .transitions) within w p q hp hq h,
@@ -179,18 +185,19 @@ module _ (bs : List ℕ) (v : fault bs .number ≡ 0) (J B : ℕ) where
           fits = t .fits;
         }
 
-    pub antichain : LiveAntichain bs (orderOn bs J B)
+    pub antichain : LiveAntichain bs (orderOn bs g)
     antichain i j li lj ne head-same live-i live-j sub =
-        let x = rowAt bs J B i in
-        let y = rowAt bs J B j in
-        let z = incomparable bs J B i j (there i li) (there j lj) ne (x .head) (alive (x .head) x refl live-i) (alive (x .head) y (sym head-same) live-j) in
-        true≢false (sym (has-contained states (x .effect) (y .effect) (subst (λ (e : ℕ). e < 2 ^ (states * states)) (row-true bs J B i (there i li) .relation-is) (wordRelation-lt states (A .transitions) (wordAt bs J B i))) sub) ∙ z)
+        let x = rowAt bs g i in
+        let y = rowAt bs g j in
+        let z = incomparable bs g i j (there i li) (there j lj) ne (x .head) (alive (x .head) x refl live-i) (alive (x .head) y (sym head-same) live-j) in
+        true≢false (sym (has-contained states (x .effect) (y .effect) (subst (λ (e : ℕ). e < 2 ^ (states * states)) (row-true bs g i (there i li) .relation-is) (wordRelation-lt states (A .transitions) (wordAt bs g i))) sub) ∙ z)
 
 -- once a verdict is neither "full" nor "spent", a longer journal or a larger budget leaves the whole answer as it is: verdict, joins,
 -- used rows, pass, row and the rows themselves
-pub same-answer : (bs : List ℕ) (J B J′ B′ : ℕ) → J ≤ J′ → B ≤ B′ → (orderOn bs J B .verdict ≡ full → ⊥) → (orderOn bs J B .verdict ≡ spent → ⊥) → orderOn bs J′ B′ ≡ orderOn bs J B
+pub same-answer : (bs : List ℕ) (g g′ : Settings) → Extends g g′ → (orderOn bs g .verdict ≡ full → ⊥) → (orderOn bs g .verdict ≡ spent → ⊥) → orderOn bs g′ ≡ orderOn bs g
 unfolding orderOn
-same-answer bs J B J′ B′ j b f s = check-mono (base states (automatonOf bs)) (rulesOf bs) J B J′ B′ j b (firm (orderOn bs J B .verdict) f s)
+same-answer bs g g′ x f s =
+    check-mono (base states (automatonOf bs)) (rulesOf bs) (g .rows) (g .budget) (g′ .rows) (g′ .budget) (x .more-rows) (x .more-joins) (firm (orderOn bs g .verdict) f s)
   where
     firm : (x : Verdict) → (x ≡ full → ⊥) → (x ≡ spent → ⊥) → Firm x
     firm holds f s = tt

@@ -30,7 +30,7 @@ use Rattle.working_order.specs.FittingLaws.{FitThrough, PointersFit, bodyAt, fi
 use Rattle.working_order.specs.FittingRows.{keeps-more, fits-on}
 use Rattle.working_order.specs.Order.{Answer, broken}
 use Rattle.calls.specs.Base.{base, words}
-use Rattle.calls.specs.Checking.{journalFault, orderOn, checkOf, journalAfter, shown}
+use Rattle.calls.specs.Checking.{Settings, journalFault, orderOn, checkOf, journalAfter, shown}
 use Rattle.calls.specs.DemandThree.{Counts, WritesShown}
 use Rattle.calls.specs.JournalTruth.{row-true}
 use Rattle.calls.specs.Replies.{Reply, refused, answered, unless}
@@ -146,16 +146,16 @@ room-cases w room = by (leb longWord (length w)) (ltb room (length w)) refl refl
     by false false p q = inl (rw (p, q), leb-false longWord (length w) p, ltb-false room (length w) q)
 
 -- rows are the journal before the check
-module _ (bs : List ℕ) (v : fault bs .number ≡ 0) (rows : List (Row ℕ)) (eight : journalFault (length rows) ≡ 0) (B : ℕ)
-    (counts : Counts bs (length rows) B (orderOn bs (length rows) B)) (e : orderOn bs (length rows) B .verdict ≡ broken) where
+module _ (bs : List ℕ) (v : fault bs .number ≡ 0) (g : Settings) (eight : journalFault (g .rows) ≡ 0)
+    (counts : Counts bs g (orderOn bs g)) (e : orderOn bs g .verdict ≡ broken) (rows : List (Row ℕ)) (size : length rows ≡ g .rows) where
   abbrev A : Algebra ℕ
   A = base states (automatonOf bs)
 
   abbrev a : Answer ℕ
-  a = orderOn bs (length rows) B
+  a = orderOn bs g
 
   abbrev after : List (Row ℕ)
-  after = journalAfter bs rows B
+  after = journalAfter bs g rows
 
   after-is : after ≡ a .journal ++ drop (a .used) rows
   unfolding journalAfter checkOf
@@ -164,10 +164,10 @@ module _ (bs : List ℕ) (v : fault bs .number ≡ 0) (rows : List (Row ℕ)) (e
   below : a .row < length (a .journal)
   below = omega (arith, counts .last-row e, counts .used-rows)
 
-  as-long : length after ≡ length rows
+  as-long : length after ≡ g .rows
   as-long =
       ap length after-is ∙ length-append (a .journal) (drop (a .used) rows)
-      ∙ (let z : length (a .journal) + length (drop (a .used) rows) ≡ length rows = omega (arith, counts .used-rows, counts .rows-bound, length-drop (a .used) rows) in z)
+      ∙ (let z : length (a .journal) + length (drop (a .used) rows) ≡ g .rows = omega (arith, counts .used-rows, counts .rows-bound, length-drop (a .used) rows, size) in z)
 
   -- the word behind the named row
   pub word-shown : wordOf bs after (a .row) ≡ shown bs a
@@ -182,7 +182,7 @@ module _ (bs : List ℕ) (v : fault bs .number ≡ 0) (rows : List (Row ℕ)) (e
       all-fit (A .forms) after (rulesOf bs) (a .row + 1) (λ i l.
       let here : i < length (a .journal) = omega (arith, l, below) in
       subst (λ (xs : List (Row ℕ)). rowFits (A .forms) xs (rulesOf bs) i ≡ true) (sym after-is)
-      (fits-on A (rulesOf bs) (a .journal) (a .journal ++ drop (a .used) rows) (keeps-more A (a .journal) (drop (a .used) rows)) i here (row-true bs (length rows) B i here .fits)))
+      (fits-on A (rulesOf bs) (a .journal) (a .journal ++ drop (a .used) rows) (keeps-more A (a .journal) (drop (a .used) rows)) i here (row-true bs g i here .fits)))
 
   -- 9 refuses nothing
   nine : rowFault (A .forms) (rulesOf bs) after (a .used) (a .row) ≡ 0
@@ -215,7 +215,7 @@ module _ (bs : List ℕ) (v : fault bs .number ≡ 0) (rows : List (Row ℕ)) (e
       by (inl (f, l, r)) (inl x) = absurd (omega arith)
       by (inl (f, l, r)) (inr x) = absurd (omega arith)
 
-  pub writes-shown : (old : List ℕ) → WritesShown bs B a rows old
+  pub writes-shown : (old : List ℕ) → WritesShown bs g a rows old
   unfolding bufferAfter
   writes-shown old =
       record {

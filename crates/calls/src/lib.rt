@@ -1,7 +1,7 @@
 // What each public call answers, as definitions on a file's bytes, and the theorems about them. And what the calls share in code: a row of the
-// lent journal, with its limits. Definitions in specs/: Base (the order over relations), Replies (a call answers or refuses), Checking,
+// lent journal, with its limits, and the options of a check. Definitions in specs/: Base (the order over relations), Replies (a call answers or refuses), Checking,
 // Judging, Writing (the three calls), DemandThree (what an answer promises), Codes (the numbers of the verdicts), Printing (the program's
-// text), Rows (how the code's rows and rules are read). Theorems: Promising and Truth (an answer keeps its promises), JournalTruth,
+// text), Rows (how the code's rows, rules and options are read). Theorems: Promising and Truth (an answer keeps its promises), JournalTruth,
 // JudgingTruth, WritingTruth. Computed: Cases (document 01's P table), Examples, Pins (what only a definition's text settles).
 use relation::Effect;
 ghost use mathlib.Core.Path.{_≡_};
@@ -46,6 +46,12 @@ impl Row {
             retired: 0,
         }
     }
+}
+
+// What a caller chooses for a check beside the file and the journal: `budget` is the number of joins that it may make. One struct, so that
+// one choice more changes the calls that make it or read the field, and no call between them.
+pub struct Options {
+    pub budget: u64,
 }
 
 // Returns the sum of the lengths `a` and `b`, or LONG_WORD where it is that or more.

@@ -1,5 +1,6 @@
 // One file: compares the answer of the inclusion check with the unpruned search, and with its own answers over other journals and budgets.
 use acceptance::Judged;
+use calls::Options;
 use calls::Row;
 use random_files::Trial;
 use relation::Relation;
@@ -65,7 +66,7 @@ fn looked_at(used: u64) -> usize {
 
 fn ask(file: &[u8], rows: usize, old: Row, budget: u64, probe: usize) -> Told {
     let mut buffer = [0u8; 4096];
-    standalone::checked(file, rows, old, budget, probe, &mut buffer)
+    standalone::checked(file, rows, old, Options { budget }, probe, &mut buffer)
 }
 
 fn put(journal: &mut [Numbers], i: usize, row: Numbers) {
@@ -209,7 +210,7 @@ pub struct Outcome {
 pub fn compare(file: &[u8], found: &Found, count: usize, broken: bool, trial: Trial) -> Outcome {
     let mut buffer = [0u8; 4096];
     let old = Row::blank();
-    let told = standalone::checked(file, ROWS, old, BUDGET, 0, &mut buffer);
+    let told = standalone::checked(file, ROWS, old, Options { budget: BUDGET }, 0, &mut buffer);
     let mut journal = [[0u64; 8]; KEPT];
     let n = looked_at(told.used);
     collect(file, ROWS, old, BUDGET, n, &mut journal);

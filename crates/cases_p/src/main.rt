@@ -1,5 +1,6 @@
 // The cases that document 01 marks P, as far as the library can be given rows and a budget, each as the check program prints it.
 // The stored output is what document 01 asks for; cases_judging compares the judged runs.
+use calls::Options;
 use calls::Row;
 use libc::STDOUT_FILENO;
 use relation::Relation;
@@ -163,7 +164,7 @@ const EQUAL: [u8; 16] = [1, 0, 0, 0, 0, 0, 0, 0, 1, 0, 0, 0, 0, 0, 0, 0];
 // Prints the text of a check of `file` over `rows` rows, each initialised to `old`, with a budget of `budget` joins.
 fn print(file: &[u8], rows: usize, old: Row, budget: u64) {
     let mut text = [0u8; report::TEXT];
-    let size = report::render(file, rows, old, budget, &mut text);
+    let size = report::render(file, rows, old, Options { budget }, &mut text);
     io::write_all(STDOUT_FILENO, &text[..size]);
 }
 

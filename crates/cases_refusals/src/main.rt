@@ -229,7 +229,7 @@ fn two_records() {
     changed_twice(b"3 at 0, 6 at 1 and 4 at 8", 0, 0, 4, 8, 1);
 }
 
-// The lowest number wins within a record.
+// Within a record the first test that holds wins, in the order of document 01: 3 to 7.
 fn two_numbers() {
     replaced(b"3 and 6", 5, [0, 0, 0, 0, 0, 0, 0, 0]);
     replaced(

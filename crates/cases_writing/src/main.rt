@@ -1,5 +1,6 @@
 // Run writing over journals that a check made and in which one row is damaged, case by case: one line for each, what was asked and the result.
 // The stored output is what document 01 asks for (numbers 8, 9 and 10, "a row fits if", "Writing a run").
+use calls::Options;
 use calls::Row;
 use case_files::HELD;
 use case_files::SAMPLE;
@@ -38,7 +39,8 @@ struct Asked {
 // Returns row `place` of the journal after a check of `file` over `lent` rows.
 fn row_at(file: &[u8], lent: usize, place: usize) -> Row {
     let mut run = [0u8; 8];
-    let told = standalone::checked(file, lent, Row::blank(), BUDGET, place, &mut run);
+    let options = Options { budget: BUDGET };
+    let told = standalone::checked(file, lent, Row::blank(), options, place, &mut run);
     told.shown
 }
 
@@ -134,7 +136,7 @@ fn written(file: &[u8], place: usize, row: Row, asked: Asked, buffer: &mut [u8])
         return write_damaged(
             file,
             asked.lent,
-            BUDGET,
+            Options { budget: BUDGET },
             place,
             row,
             asked.used,
@@ -145,7 +147,7 @@ fn written(file: &[u8], place: usize, row: Row, asked: Asked, buffer: &mut [u8])
     write_damaged(
         file,
         asked.lent,
-        BUDGET,
+        Options { budget: BUDGET },
         place,
         row,
         asked.used,

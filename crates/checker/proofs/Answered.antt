@@ -5,18 +5,15 @@ use mathlib.Core.List.{List, _++_, map, map-append}
 use Prim.Native.Nat.{ℕ, zero, suc}
 use native.Mathlib.Omega.{arith}
 use lib.Dec.{T}
-use lib.ListN.{length, take, drop, length-map, take-append-drop}
+use lib.ListN.{length, take, drop, take-append-drop}
 use Rattle.basics.specs.Lists.{drop-map}
-use Rattle.relation.specs.Digits.{number}
-use Rattle.relation.specs.Relation.{states}
-use Rattle.language.specs.WordRelation.{isFinal}
 use Rattle.plan_file.specs.Refusals as refusals
 use Rattle.plan_file.specs.Refusals.{byNumber, firstOf}
-use Rattle.plan_file.specs.Views.{automatonOf}
 use Rattle.working_order.specs.Order as order
 use Rattle.working_order.specs.Journal.{Row}
-use Rattle.calls.specs.Checking.{checkRefusals, orderOn, checkOf, keptBy, journalAfter}
+use Rattle.calls.specs.Checking.{Settings, checkRefusals, orderOn, checkOf, keptBy, journalAfter}
 use Rattle.calls.specs.Promising.{promises}
+use Rattle.calls.specs.declared.Options.{Options}
 use Rattle.calls.specs.ReplyLaws.{reply-first}
 use Rattle.plan_file.specs.RefusalLaws.{number-some}
 use Rattle.calls.specs.Replies.{Reply, refused, answered, unless}
@@ -26,6 +23,7 @@ use Rattle.deciding.specs.declared.State.{State}
 use Rattle.deciding.specs.declared.Terms.{Terms}
 use Rattle.verdicts.specs.Contracts as search
 use Rattle.verdicts.specs.Contracts.{orderOf}
+use Rattle.verdicts.specs.Problems.{Letters, RuleBytes, Problem, problemIn}
 use Rattle.verdicts.specs.Meanings.{answerIn, answerOf, totalsIn}
 use Rattle.verdicts.specs.Running.{Ran}
 use Rattle.verdicts.specs.declared.Answer.{Answer}
@@ -34,9 +32,9 @@ use Rattle.checker.specs.declared.Checked.{Checked}
 use Rattle.checker.specs.declared.Checked.the-variants as checked
 use Rattle.starting.specs.declared.Start.{Start}
 use Rattle.checker.specs.Answers.{checkedBy, checkedOf, usedIn}
-use Rattle.checker.specs.Contracts.{Checks}
+use Rattle.checker.specs.Contracts.{settingsOver, Checks}
 use Rattle.checker.specs.OrderLaws.{order-same}
-use Rattle.starting.specs.Starting.{Starts}
+use Rattle.starting.specs.Starting.{problemOf, Starts}
 use Rattle.requests.proofs.Refusals.{none-refused}
 
 -- ---- what an answer says of the journal
@@ -56,84 +54,87 @@ front-rest u old new e =
     ap (map rowOf) (sym (take-append-drop u new)) ∙ map-append rowOf (take u new) (drop u new)
     ∙ ap (λ (l : List (Row ℕ)). firstRows u new ++ l) (ap (map rowOf) e ∙ sym (drop-map rowOf u old))
 
-module _ (bs : List ℕ) (B : ℕ) (old : Journal) where
+module _ (bs : List ℕ) (o : Options) (old : Journal) where
+  abbrev g : Settings
+  g = settingsOver o old
+
   -- ---- the reply
 
   -- the first of what may refuse it
   abbrev refusal : refusals.Refusal
-  refusal = firstOf (checkRefusals bs (length old))
+  refusal = firstOf (checkRefusals bs (g .rows))
 
-  reply : checkOf bs (length old) B ≡ unless refusal (answered (orderOn bs (length old) B))
+  reply : checkOf bs g ≡ unless refusal (answered (orderOn bs g))
   unfolding checkOf
-  reply = reply-first (checkRefusals bs (length old)) (orderOn bs (length old) B)
+  reply = reply-first (checkRefusals bs (g .rows)) (orderOn bs g)
 
   -- whatever it is
-  checks : (given : Reply (order.Answer ℕ)) → checkOf bs (length old) B ≡ given → (new : Journal) (c : Checked) → checkedOf c new ≡ given → map rowOf new ≡ keptBy (map rowOf old) given
-      → drop (usedIn given) new ≡ drop (usedIn given) old → Checks bs B old new c
+  checks : (x : Reply (order.Answer ℕ)) → checkOf bs g ≡ x → (new : Journal) (c : Checked) → checkedOf c new ≡ x → map rowOf new ≡ keptBy (map rowOf old) x
+      → drop (usedIn x) new ≡ drop (usedIn x) old → Checks bs o old new c
   unfolding journalAfter
-  checks given e new c a j u =
+  checks x e new c a j u =
       record {
         answer = a ∙ sym e;
-        journal = j ∙ ap (keptBy (map rowOf old)) (sym e) ∙ ap (λ (n : ℕ). keptBy (map rowOf old) (checkOf bs n B)) (sym (length-map old rowOf));
+        journal = j ∙ ap (keptBy (map rowOf old)) (sym e);
         untouched = subst (λ (x : Reply (order.Answer ℕ)). drop (usedIn x) new ≡ drop (usedIn x) old) (sym e) u;
-        promises = promises bs (length old) B;
+        promises = promises bs g;
       }
 
   -- the answer, where the passes gave it
-  answers : (a : Answer) (new : Journal) → search.Checked (orderOn bs (length old) B) old new a → checkOf bs (length old) B ≡ answered (orderOn bs (length old) B) → Checks bs B old new (checked.Answered a)
+  answers : (a : Answer) (new : Journal) → search.Checked (orderOn bs g) old new a → checkOf bs g ≡ answered (orderOn bs g) → Checks bs o old new (checked.Answered a)
   answers a new x e =
       checks (answered (answerOf a new)) (e ∙ ap answered (sym (x .answer))) new (checked.Answered a) refl
       (front-rest (totalsIn a .used) old new (x .beyond) ∙ sym (ap₂ (λ (l : List (Row ℕ)) (u : ℕ). l ++ drop u (map rowOf old)) (answer-journal a new) (answer-used a new)))
       (subst (λ (u : ℕ). drop u new ≡ drop u old) (sym (answer-used a new)) (x .beyond))
 
-  module _ (letters : List ℕ) (rules : List (List ℕ)) (t t′ : List ℕ) (r : Start) (h : Starts bs (length old) B letters rules t r) (new : Journal) (last : State) (ran : Ran letters rules (r .state) old new t′ last) where
+  module _ (letters : Letters) (rules : RuleBytes) (t t′ : List ℕ) (r : Start) (h : Starts bs g letters rules t r) (new : Journal) (last : State) (ran : Ran letters rules (r .state) old new t′ last) where
     abbrev s : State
     s = r .state
 
-    abbrev finals : ℕ
-    finals = number states (isFinal (automatonOf bs))
+    abbrev P : Problem
+    P = problemOf bs letters (take (s .rules) rules)
 
     -- ---- something refused: the search did nothing
     module _ (z : r .refusal .number ≡ 0 → ⊥) where
       same : new ≡ old
       same = ran .1 .idle (subst (λ (b : Bool). T (not b)) (sym (h .refused z)) tt) .1
 
-      refuses : Checks bs B old new (checked.Refused (r .refusal))
+      refuses : Checks bs o old new (checked.Refused (r .refusal))
       refuses =
-          subst (λ (j : Journal). Checks bs B old j (checked.Refused (r .refusal))) (sym same)
+          subst (λ (j : Journal). Checks bs o old j (checked.Refused (r .refusal))) (sym same)
           (checks (refused refusal)
-          (reply ∙ number-some (refused refusal) (answered (orderOn bs (length old) B)) (refusal .number) (λ q. z (ap (λ (x : refusals.Refusal). x .number) (h .refusal) ∙ q)))
+          (reply ∙ number-some (refused refusal) (answered (orderOn bs g)) (refusal .number) (λ q. z (ap (λ (x : refusals.Refusal). x .number) (h .refusal) ∙ q)))
           old (checked.Refused (r .refusal)) (ap refused (h .refusal)) refl refl)
 
     -- ---- nothing refused
     module _ (z : r .refusal .number ≡ 0) where
       -- it ended, or it did not begin
-      ended : search.Checked (orderOf letters (take (s .rules) rules) finals (length old) B) old new (answerIn last)
+      ended : search.Checked (orderOf P (g .rows) (g .budget)) old new (answerIn last)
       ended = by (s .going) refl
         where
-          by : (b : Bool) → s .going ≡ b → search.Checked (orderOf letters (take (s .rules) rules) finals (length old) B) old new (answerIn last)
-          by true g =
-              let on : T (s .going) = subst T (sym g) tt in
+          by : (b : Bool) → s .going ≡ b → search.Checked (orderOf P (g .rows) (g .budget)) old new (answerIn last)
+          by true e =
+              let on : T (s .going) = subst T (sym e) tt in
               let stood = h .begins z .stands old refl in
-              subst (λ (x : Terms). search.Checked (orderOf letters (take (s .rules) rules) (x .finals) (length old) (x .budget)) old new (answerIn last)) (stood .goes on .begun .terms) (ran .1 .stands on .ends (ran .0))
-          by false g =
-              let off : T (not (s .going)) = subst (λ (b : Bool). T (not b)) (sym g) tt in
+              subst (λ (x : Terms). search.Checked (orderOf (problemIn x letters (take (s .rules) rules)) (g .rows) (x .budget)) old new (answerIn last)) (stood .goes on .begun .terms) (ran .1 .stands on .ends (ran .0))
+          by false e =
+              let off : T (not (s .going)) = subst (λ (b : Bool). T (not b)) (sym e) tt in
               let i = ran .1 .idle off in
-              subst₂ (λ (x : State) (j : Journal). search.Checked (orderOf letters (take (s .rules) rules) finals (length old) B) old j (answerIn x)) (sym (i .0)) (sym (i .1)) (h .begins z .stands old refl .ends off)
+              subst₂ (λ (x : State) (j : Journal). search.Checked (orderOf P (g .rows) (g .budget)) old j (answerIn x)) (sym (i .0)) (sym (i .1)) (h .begins z .stands old refl .ends off)
 
-      on-file : orderOf letters (take (s .rules) rules) finals (length old) B ≡ orderOn bs (length old) B
+      on-file : orderOf P (g .rows) (g .budget) ≡ orderOn bs g
       on-file =
-          ap (λ (l : List ℕ). orderOf l (take (s .rules) rules) finals (length old) B) (h .begins z .relations)
-          ∙ order-same bs (none-refused bs (length old) (r .refusal) (h .refusal) z .0) (take (s .rules) rules) (h .begins z .entries) (length old) B
+          ap (λ (l : Letters). orderOf (problemOf bs l (take (s .rules) rules)) (g .rows) (g .budget)) (h .begins z .relations)
+          ∙ order-same bs (none-refused bs (length old) (r .refusal) (h .refusal) z .0) (take (s .rules) rules) (h .begins z .entries) g
 
-      given : Checks bs B old new (checked.Answered (answerIn last))
-      given =
+      answered-so : Checks bs o old new (checked.Answered (answerIn last))
+      answered-so =
           answers (answerIn last) new (subst (λ (a : order.Answer ℕ). search.Checked a old new (answerIn last)) on-file ended)
-          (reply ∙ ap (λ (n : ℕ). byNumber n (refused refusal) (answered (orderOn bs (length old) B))) (sym (ap (λ (x : refusals.Refusal). x .number) (h .refusal)) ∙ z))
+          (reply ∙ ap (λ (n : ℕ). byNumber n (refused refusal) (answered (orderOn bs g))) (sym (ap (λ (x : refusals.Refusal). x .number) (h .refusal)) ∙ z))
 
-    pub checks-by : (c : Checked) → c ≡ checkedBy (r .refusal) (answerIn last) → Checks bs B old new c
-    checks-by c e = subst (Checks bs B old new) (sym e) (by (r .refusal .number) refl)
+    pub checks-by : (c : Checked) → c ≡ checkedBy (r .refusal) (answerIn last) → Checks bs o old new c
+    checks-by c e = subst (Checks bs o old new) (sym e) (by (r .refusal .number) refl)
       where
-        by : (k : ℕ) → r .refusal .number ≡ k → Checks bs B old new (byNumber k (checked.Refused (r .refusal)) (checked.Answered (answerIn last)))
-        by zero z = given z
+        by : (k : ℕ) → r .refusal .number ≡ k → Checks bs o old new (byNumber k (checked.Refused (r .refusal)) (checked.Answered (answerIn last)))
+        by zero z = answered-so z
         by (suc k) z = refuses (λ q. let y : ⊥ = omega (arith, sym z ∙ q) in y)

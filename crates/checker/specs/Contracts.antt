@@ -5,21 +5,26 @@ use Prim.Native.Nat.{ℕ}
 use lib.ListN.{length, drop}
 use Rattle.working_order.specs.Order.{Answer}
 use Rattle.calls.specs.Replies.{answered}
-use Rattle.calls.specs.Rows.{rowOf}
-use Rattle.calls.specs.Checking.{checkOf, journalAfter}
+use Rattle.calls.specs.Rows.{rowOf, settingsOf}
+use Rattle.calls.specs.Checking.{Settings, checkOf, journalAfter}
 use Rattle.calls.specs.DemandThree.{Promises}
+use Rattle.calls.specs.declared.Options.{Options}
 use Rattle.covers.specs.Rows.{Journal}
 use Rattle.checker.specs.declared.Checked.{Checked}
 use Rattle.checker.specs.Answers.{checkedOf, usedIn}
 
--- a check of the file bs with a budget of B joins, over a journal with the rows old before and new afterwards
-pub record Checks (bs : List ℕ) (B : ℕ) (old new : Journal) (r : Checked) : Type 0 where
+-- the settings of a check with the options o over a journal with the rows old
+abbrev pub settingsOver : Options → Journal → Settings
+settingsOver o old = settingsOf (length old) o
+
+-- a check of the file bs with the options o, over a journal with the rows old before and new afterwards
+pub record Checks (bs : List ℕ) (o : Options) (old new : Journal) (r : Checked) : Type 0 where
   -- the refusal, or the working order's verdict, joins, used rows, pass, row and journal
-  pub answer : checkedOf r new ≡ checkOf bs (length old) B
+  pub answer : checkedOf r new ≡ checkOf bs (settingsOver o old)
   -- the working order's rows, and then the old contents; the old contents whole on a refusal
-  pub journal : map rowOf new ≡ journalAfter bs (map rowOf old) B
+  pub journal : map rowOf new ≡ journalAfter bs (settingsOver o old) (map rowOf old)
   -- and so number by number
-  pub untouched : drop (usedIn (checkOf bs (length old) B)) new ≡ drop (usedIn (checkOf bs (length old) B)) old
+  pub untouched : drop (usedIn (checkOf bs (settingsOver o old))) new ≡ drop (usedIn (checkOf bs (settingsOver o old))) old
   -- demand 3, where the verdict comes and what the joins are, the least height, what the rows are, writing the word that is shown,
   -- and stability, of the answer
-  pub promises : (a : Answer ℕ) → checkOf bs (length old) B ≡ answered a → Promises bs (length old) B a
+  pub promises : (a : Answer ℕ) → checkOf bs (settingsOver o old) ≡ answered a → Promises bs (settingsOver o old) a

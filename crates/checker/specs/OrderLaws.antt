@@ -10,7 +10,6 @@ use borrow.Author.Tests.{eqb-true, ltb-true, ltb-false}
 use Rattle.basics.specs.Tests.{fails, and-fst, and-snd}
 use Rattle.basics.specs.Elements.{In}
 use Rattle.basics.specs.Lists.{any-of}
-use Rattle.relation.specs.Digits.{number}
 use Rattle.relation.specs.DigitLaws.{bit-number}
 use Rattle.relation.specs.Relation.{states, table}
 use Rattle.relation.specs.RelationLaws.{table-lt, has-table, has-empty, ext-has}
@@ -26,10 +25,12 @@ use Rattle.plan_file.specs.Valid.{valid-passes, collect-at, transition-range}
 use Rattle.working_order.specs.Order.{check}
 use Rattle.calls.specs.Base.{base}
 use Rattle.calls.specs.Rows.{entryOf}
-use Rattle.calls.specs.Checking.{orderOn}
+use Rattle.calls.specs.Checking.{Settings, orderOn}
 use Rattle.rows.specs.Meanings.{letterIn}
 use Rattle.verdicts.specs.Contracts.{orderOf}
+use Rattle.verdicts.specs.Problems.{RuleBytes}
 use Rattle.verdicts.specs.OnAutomaton.{order-on}
+use Rattle.starting.specs.Starting.{problemOf}
 use Rattle.tables.specs.Tables.{letterTable}
 use Rattle.tables.specs.LetterLaws.{letters-at, letters-past}
 
@@ -63,8 +64,8 @@ module _ (bs : List ℕ) (v : fault bs .number ≡ 0) where
           letters-past (transitionsOf bs) c (q refl)
           ∙ sym (letter-absent states (transitionsOf bs) c (λ t h e. let l = letter-low t h in let m = q refl in omega arith))
 
-  pub order-same : (rules : List (List ℕ)) → map entryOf rules ≡ rulesOf bs → (J B : ℕ) → orderOf (letterTable states (transitionsOf bs)) rules (number states (isFinal (automatonOf bs))) J B ≡ orderOn bs J B
+  pub order-same : (rules : RuleBytes) → map entryOf rules ≡ rulesOf bs → (g : Settings) → orderOf (problemOf bs (letterTable states (transitionsOf bs)) rules) (g .rows) (g .budget) ≡ orderOn bs g
   unfolding orderOn
-  order-same rules e J B =
-      order-on (automatonOf bs) (letterTable states (transitionsOf bs)) rules (number states (isFinal (automatonOf bs))) J B letters-all (bit-number states (isFinal (automatonOf bs)))
-      ∙ ap (λ (x : List Rule). check (base states (automatonOf bs)) x J B) e
+  order-same rules e g =
+      order-on (automatonOf bs) (problemOf bs (letterTable states (transitionsOf bs)) rules) (g .rows) (g .budget) letters-all (bit-number states (isFinal (automatonOf bs)))
+      ∙ ap (λ (x : List Rule). check (base states (automatonOf bs)) x (g .rows) (g .budget)) e

@@ -1,4 +1,5 @@
 // The inclusion check on a file. It asks nothing of its caller; a refused call does not change the journal.
+use calls::Options;
 use calls::Row;
 use deciding::State;
 use plan_file::LETTER_WORDS;
@@ -27,15 +28,16 @@ fn as_checked(told: Refusal, last: State) -> Checked
     Checked::Answered(standing::answer_of(last))
 }
 
-// Whether every word of the plan is accepted: the working order over the lent journal, with a budget of joins: proved by hand.
-pub fn check(file: &[u8], journal: &mut [Row], budget: u64) -> Checked
-    ensures { λ r. ⌜ Checks (now (file .entry)) budget (now (journal .entry)) (now (journal .exit)) r ⌝ }
+// Decides whether every word of the plan in `file` is accepted, by the working order over the lent `journal`, in which it stores the rows that it
+// uses; `options` has the budget of joins. Proved by hand.
+pub fn check(file: &[u8], journal: &mut [Row], options: Options) -> Checked
+    ensures { λ r. ⌜ Checks (now (file .entry)) options (now (journal .entry)) (now (journal .exit)) r ⌝ }
 {
     let mut letters: Letters = [0; LETTER_WORDS];
     let mut rules = [[0u8; 4]; RULE_LIMIT];
     let mut table = [65536u32; 45824];
     let rows = journal.len();
-    let start = starting::prepare(file, &mut letters, &mut rules, &mut table, rows, budget);
+    let start = starting::prepare(file, &mut letters, &mut rules, &mut table, rows, options);
     let last = search::run(journal, &mut table, &letters, &rules, start.state);
     as_checked(start.refusal, last)
 }

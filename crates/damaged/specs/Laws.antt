@@ -7,10 +7,11 @@ use lib.Seq.{take-append-seam}
 use Rattle.working_order.specs.Journal.{Row}
 use Rattle.calls.specs.Checking.{journalLimit, journalAfter}
 use Rattle.calls.specs.Rows.{rowOf}
+use Rattle.calls.specs.declared.Options.{Options}
 use Rattle.calls.specs.declared.Row.{Row as LentRow}
 use Rattle.covers.specs.Rows.{Journal}
 use Rattle.checker.specs.declared.Checked.{Checked}
-use Rattle.checker.specs.Contracts.{Checks}
+use Rattle.checker.specs.Contracts.{settingsOver, Checks}
 use Rattle.telling.specs.Fronts.{frontOf, journalOf, placeOf}
 use Rattle.writer.specs.Contracts.{Writes}
 use Rattle.writer.specs.declared.Writing.{Writing}
@@ -31,15 +32,15 @@ map-set (y ∷ ys) (suc i) x = ap (λ (zs : List (Row ℕ)). rowOf y ∷ zs) (ma
 
 -- xs: the array before the check, all x. m: the rows lent. zs: its first m rows after the check, which answered c. j: the row where x was
 -- stored. w: what writing from the first m rows answered. The other letters are those of `WritesDamaged`
-pub written-damaged : (bs : List ℕ) (n B i : ℕ) (x : LentRow) (u k : ℕ) (old new : List ℕ)
-    → (xs : Journal) → xs ≡ replicate journalLimit x → (m : ℕ) → (m ≡ frontOf n) × (m ≤ journalLimit) → (zs : Journal) → length zs ≡ m → (c : Checked) → Checks bs B (take m xs) zs c
-    → (j : ℕ) → j ≡ placeOf i → (w : Writing) → Writes bs (map rowOf (take m (set (zs ++ drop m xs) j x))) u k old new w → WritesDamaged bs n B i x u k old new w
+pub written-damaged : (bs : List ℕ) (n : ℕ) (o : Options) (i : ℕ) (x : LentRow) (u k : ℕ) (old new : List ℕ)
+    → (xs : Journal) → xs ≡ replicate journalLimit x → (m : ℕ) → (m ≡ frontOf n) × (m ≤ journalLimit) → (zs : Journal) → length zs ≡ m → (c : Checked) → Checks bs o (take m xs) zs c
+    → (j : ℕ) → j ≡ placeOf i → (w : Writing) → Writes bs (map rowOf (take m (set (zs ++ drop m xs) j x))) u k old new w → WritesDamaged bs n o i x u k old new w
 unfolding journalOf
-written-damaged bs n B i x u k old new xs e m em zs l c h j ej w v =
+written-damaged bs n o i x u k old new xs e m em zs l c h j ej w v =
     let before : take m xs ≡ journalOf n x = ap (take m) e ∙ ap (λ (t : ℕ). take t (replicate journalLimit x)) (em .0) in
     let front : take m (zs ++ drop m xs) ≡ zs = ap (λ (t : ℕ). take t (zs ++ drop m xs)) (sym l) ∙ take-append-seam zs (drop m xs) in
-    let rows : map rowOf (take m (set (zs ++ drop m xs) j x)) ≡ damagedRows bs n B i x =
+    let rows : map rowOf (take m (set (zs ++ drop m xs) j x)) ≡ damagedRows bs n o i x =
     ap (map rowOf) (take-set m (zs ++ drop m xs) j x ∙ ap (λ (ys : Journal). set ys j x) front) ∙ map-set zs j x
-    ∙ ap (λ (rs : List (Row ℕ)). set rs j (rowOf x)) (h .journal ∙ ap (λ (ys : Journal). journalAfter bs (map rowOf ys) B) before)
-    ∙ ap (λ (t : ℕ). set (journalAfter bs (map rowOf (journalOf n x)) B) t (rowOf x)) ej in
+    ∙ ap (λ (rs : List (Row ℕ)). set rs j (rowOf x)) (h .journal ∙ ap (λ (ys : Journal). journalAfter bs (settingsOver o ys) (map rowOf ys)) before)
+    ∙ ap (λ (t : ℕ). set (journalAfter bs (settingsOver o (journalOf n x)) (map rowOf (journalOf n x))) t (rowOf x)) ej in
     subst (λ (rs : List (Row ℕ)). Writes bs rs u k old new w) rows v

@@ -1,27 +1,28 @@
 // For tests only (cases_writing): a check, one row of its journal replaced, and the run behind a row written. The parameters and the answer
 // are plain values and lent bytes, so a caller needs no walk.
 use calls::JOURNAL_LIMIT;
+use calls::Options;
 use calls::Row;
 use writer::Writing;
 ghost use Rattle.damaged.specs.Contracts.{WritesDamaged};
 
-// Checks `file` over a journal of `rows` rows, each initialised to `row`, with a budget of `budget` joins; stores `row` as journal row `place`;
+// Checks `file` over a journal of `rows` rows, each initialised to `row`, with these `options`; stores `row` as journal row `place`;
 // and writes the run behind row `named` to `buffer`, with `used` rows used. The proof is a walk (proofs/write_damaged).
 pub fn write_damaged(
     file: &[u8],
     rows: usize,
-    budget: u64,
+    options: Options,
     place: usize,
     row: Row,
     used: usize,
     named: usize,
     buffer: &mut [u8],
 ) -> Writing
-    ensures { λ r. ⌜ WritesDamaged (now (file .entry)) rows budget place row used named (now (buffer .entry)) (now (buffer .exit)) r ⌝ }
+    ensures { λ r. ⌜ WritesDamaged (now (file .entry)) rows options place row used named (now (buffer .entry)) (now (buffer .exit)) r ⌝ }
 {
     let mut journal = [row; JOURNAL_LIMIT];
     let n = telling::front(rows);
-    checker::check(file, &mut journal[..n], budget);
+    checker::check(file, &mut journal[..n], options);
     let at = telling::row_number(place);
     journal[at] = row;
     writer::write(file, &journal[..n], used, named, buffer)

@@ -11,8 +11,8 @@ use borrow.Author.Tests.{lt-ltb, le-ltb, ltb-true, ltb-false}
 use Rattle.plan_file.specs.Limits.{recordLimit}
 use Rattle.plan_file.specs.Records.{recordCount}
 use Rattle.plan_file.specs.Refusals.{Refusal, refuse, orNext, faultFrom, fault, faultIn, lengthFaultIn}
-use Rattle.calls.specs.Checking.{checkOf}
-use Rattle.calls.specs.Printing.{refusedLine, textOf, programRows, programBudget, programRoom, programText}
+use Rattle.calls.specs.Checking.{Settings, checkOf}
+use Rattle.calls.specs.Printing.{refusedLine, textOf, programSettings, programRoom, programText}
 use Rattle.input.specs.Held.{most, heldOf, Handed}
 
 held-short : (n : ℕ) → n < most → heldOf n ≡ n
@@ -80,11 +80,11 @@ same-fault whole file h e =
 
 -- ---- and so printed alike
 
-long-text : (bs : List ℕ) (J B room : ℕ) → most ≤ length bs → textOf bs J B room ≡ refusedLine (fault bs .number)
+long-text : (bs : List ℕ) (g : Settings) (room : ℕ) → most ≤ length bs → textOf bs g room ≡ refusedLine (fault bs .number)
 unfolding textOf checkOf
-long-text bs J B room h = by (eqb (length bs % 8) 0) refl
+long-text bs g room h = by (eqb (length bs % 8) 0) refl
   where
-    by : (b : Bool) → eqb (length bs % 8) 0 ≡ b → textOf bs J B room ≡ refusedLine (fault bs .number)
+    by : (b : Bool) → eqb (length bs % 8) 0 ≡ b → textOf bs g room ≡ refusedLine (fault bs .number)
     by true e = rw (long-fault bs h, e)
     by false e = rw (long-fault bs h, e)
 
@@ -92,15 +92,15 @@ pub handed-text : (whole file : List ℕ) → Handed whole file → programText 
 unfolding programText
 handed-text whole file h = by (ltb (length whole) most) refl
   where
-    by : (b : Bool) → ltb (length whole) most ≡ b → textOf file programRows programBudget programRoom ≡ textOf whole programRows programBudget programRoom
+    by : (b : Bool) → ltb (length whole) most ≡ b → textOf file programSettings programRoom ≡ textOf whole programSettings programRoom
     by true e =
         let l : length whole < most = ltb-true (length whole) most e in
         let s = held-short (length whole) l in
         let c = h .count in
-        ap (λ (bs : List ℕ). textOf bs programRows programBudget programRoom)
+        ap (λ (bs : List ℕ). textOf bs programSettings programRoom)
         (sym (take-all most file (omega arith)) ∙ h .front ∙ take-all most whole (omega arith))
     by false e =
         let l = ltb-false (length whole) most e in
-        long-text file programRows programBudget programRoom (long-held (length whole) (length file) l (h .count) .0)
+        long-text file programSettings programRoom (long-held (length whole) (length file) l (h .count) .0)
         ∙ ap (λ (r : Refusal). refusedLine (r .number)) (same-fault whole file l (h .count))
-        ∙ sym (long-text whole programRows programBudget programRoom l)
+        ∙ sym (long-text whole programSettings programRoom l)

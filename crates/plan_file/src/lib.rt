@@ -35,7 +35,7 @@ pub const LETTER_WORDS: usize = TERMINALS as usize * relation::WORDS;
 
 pub type Letters = [relation::Letter; LETTER_WORDS];
 
-// A number from 1 to 7 with the record's number for 3 to 7; number 0: nothing is refused.
+// A number that document 01 lists, and for 3 to 7 the record's number, else 0. Number 0: nothing is refused.
 pub struct Refusal {
     pub number: u64,
     pub place: usize,

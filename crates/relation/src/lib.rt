@@ -58,7 +58,7 @@ impl Relation {
         }
     }
 
-    // The one pair (a, b); no pair where one of them is no state.
+    // Returns the relation of the one pair (a, b), or of no pair where `a` or `b` is no state.
     pub fn single(a: u8, b: u8) -> Relation
         ensures { λ r. ⌜ value r ≡ single states a b ⌝ }
     {
@@ -75,7 +75,7 @@ impl Relation {
         Relation { bits: bit }
     }
 
-    // The relation with the pair (a, b); the same relation where one of them is no state.
+    // Returns the relation with the pair (a, b) too; the same relation where `a` or `b` is no state.
     pub fn insert(self, a: u8, b: u8) -> Relation
         ensures { λ r. ⌜ value r ≡ insert states (value self) a b ⌝ }
     {
@@ -127,28 +127,28 @@ impl Relation {
         self.bits & other.bits == self.bits
     }
 
-    // Both have the same pairs.
+    // Tests whether both have the same pairs. Nothing calls it yet: request C-23 compares a row's effect with its run's.
     pub fn same(self, other: Relation) -> bool
         ensures { λ r. ⌜ r ≡ eqb (value self) (value other) ⌝ }
     {
         self.bits == other.bits
     }
 
-    // How many pairs there are.
+    // Counts the pairs.
     pub fn pairs(self) -> u32
         ensures { λ r. ⌜ r ≡ pairs states (value self) ⌝ }
     {
         u64::count_ones(self.bits)
     }
 
-    // A small number of the relation: equal relations have the same, and others seldom do.
+    // Returns a small number of the relation, for a table of hints: equal relations have the same, and others seldom do.
     pub fn digest(self) -> usize
         ensures { λ r. ⌜ r ≡ digest (value self) ⌝ }
     {
         (self.bits % DIGESTS) as usize
     }
 
-    // No pair (0, f) with f final; `finals` is the set of the final states.
+    // Tests whether there is no pair (0, f) with f in `finals`, the set of the final states.
     pub fn rejects(self, finals: StateSet) -> bool
         ensures { λ r. ⌜ r ≡ rejects states (bit finals) (value self) ⌝ }
     {

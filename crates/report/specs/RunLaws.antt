@@ -20,7 +20,7 @@ use Rattle.working_order.specs.Fitting.{rowsFit}
 use Rattle.working_order.specs.Order.{Answer, broken}
 use Rattle.calls.specs.Codes.{refusedBy}
 use Rattle.calls.specs.Base.{base}
-use Rattle.calls.specs.Checking.{journalLimit, checkOf, shown}
+use Rattle.calls.specs.Checking.{Settings, journalLimit, checkOf, shown}
 use Rattle.calls.specs.Printing.{numbersLine, refusedLine, lineThree}
 use Rattle.calls.specs.Promising.{size-journal, from-order, promises}
 use Rattle.calls.specs.WritingTruth.{all-fit}
@@ -81,21 +81,21 @@ module _ (bs : List ℕ) (rows : List (Row ℕ)) (used i : ℕ) (w : List ℕ) (
 
 -- ---- from the journal of the answer
 
-module _ (bs : List ℕ) (J B : ℕ) (few : J ≤ journalLimit) (a : Answer ℕ) (e : checkOf bs J B ≡ answered a) (v : a .verdict ≡ broken) where
+module _ (bs : List ℕ) (g : Settings) (few : g .rows ≤ journalLimit) (a : Answer ℕ) (e : checkOf bs g ≡ answered a) (v : a .verdict ≡ broken) where
   abbrev M : Forms ℕ
   M = base states (automatonOf bs) .forms
 
   last : suc (a .row) ≡ a .used
-  last = promises bs J B a e .counts .last-row v
+  last = promises bs g a e .counts .last-row v
 
   used-is : a .used ≡ length (a .journal)
-  used-is = promises bs J B a e .counts .used-rows
+  used-is = promises bs g a e .counts .used-rows
 
   pub row-in : a .row < length (a .journal)
   row-in = omega (arith, last, used-is)
 
   fit : rowsFit M (a .journal) (rulesOf bs) (a .row + 1) ≡ true
-  fit = all-fit M (a .journal) (rulesOf bs) (a .row + 1) (λ i l. promises bs J B a e .rows-mean i (omega (arith, last)) .fits)
+  fit = all-fit M (a .journal) (rulesOf bs) (a .row + 1) (λ i l. promises bs g a e .rows-mean i (omega (arith, last)) .fits)
 
   row-fits : rowFault M (rulesOf bs) (a .journal) (a .used) (a .row) ≡ 0
   unfolding rowFault
@@ -109,8 +109,8 @@ module _ (bs : List ℕ) (J B : ℕ) (few : J ≤ journalLimit) (a : Answer ℕ)
   unfolding writeOf
   writes-own room =
       rw (
-        from-order bs J B a e .0,
-        size-journal (length (a .journal)) (omega (arith, row-in)) (omega (arith, few, used-is, promises bs J B a e .counts .rows-bound)),
+        from-order bs g a e .0,
+        size-journal (length (a .journal)) (omega (arith, row-in)) (omega (arith, few, used-is, promises bs g a e .counts .rows-bound)),
         row-fits,
         word-own,
       )

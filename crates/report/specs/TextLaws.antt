@@ -14,12 +14,13 @@ use Rattle.plan_file.specs.Views.{automatonOf}
 use Rattle.working_order.specs.Journal.{Row, noRow, capped}
 use Rattle.working_order.specs.Order.{Answer, Verdict, holds, broken, full, spent}
 use Rattle.calls.specs.Base.{base}
-use Rattle.calls.specs.Checking.{journalLimit, journalFault, checkOf, keptBy, journalAfter, shown}
+use Rattle.calls.specs.Checking.{Settings, journalLimit, journalFault, checkOf, keptBy, journalAfter, shown}
 use Rattle.calls.specs.Printing.{verdictWord, numbersLine, wordLine, refusedLine, lineOne, lineTwo, lineThree, brokenLines, linesBy, textBy, textOf}
 use Rattle.calls.specs.Promising.{promises, broken-word, broken-writes}
 use Rattle.calls.specs.Replies.{Reply, refused, answered, unless}
-use Rattle.calls.specs.Rows.{rowOf}
+use Rattle.calls.specs.Rows.{rowOf, settingsOf}
 use Rattle.calls.specs.Writing.{wordOf, writeOf, bufferAfter}
+use Rattle.calls.specs.declared.Options.{Options}
 use Rattle.calls.specs.declared.Row.{Row as LentRow}
 use Rattle.calls.specs.Codes.{verdictCode, refusedBy}
 use Rattle.telling.specs.Fronts.{journalOf}
@@ -43,9 +44,9 @@ module _ (n : ℕ) (x : LentRow) where
   all-rows l = length-take-le n (replicate journalLimit x) (omega (arith, length-replicate journalLimit x))
 
 -- 8, for any number of rows that it refuses
-refused-rows : (bs : List ℕ) (J B : ℕ) → journalFault J ≡ 8 → checkOf bs J B ≡ unless (fault bs) (refused (refuse 8 0))
+refused-rows : (bs : List ℕ) (g : Settings) → journalFault (g .rows) ≡ 8 → checkOf bs g ≡ unless (fault bs) (refused (refuse 8 0))
 unfolding checkOf
-refused-rows bs J B e = rw e
+refused-rows bs g e = rw e
 
 too-many : (J : ℕ) → journalLimit < J → journalFault J ≡ 8
 unfolding journalFault
@@ -56,15 +57,15 @@ unfolding journalFault
 none = refl
 
 -- the check answers the same over n rows and over the rows that are lent: n, or none where a journal may not have n
-pub same-check : (bs : List ℕ) (n : ℕ) (x : LentRow) (B : ℕ) → checkOf bs (length (journalOf n x)) B ≡ checkOf bs n B
+pub same-check : (bs : List ℕ) (n : ℕ) (x : LentRow) (o : Options) → checkOf bs (settingsOf (length (journalOf n x)) o) ≡ checkOf bs (settingsOf n o)
 unfolding journalOf
-same-check bs n x B = by (leb n journalLimit) refl
+same-check bs n x o = by (leb n journalLimit) refl
   where
-    by : (b : Bool) → leb n journalLimit ≡ b → checkOf bs (length (take (cond (leb n journalLimit) n 0) (replicate journalLimit x))) B ≡ checkOf bs n B
-    by true p = ap (λ (c : Bool). checkOf bs (length (take (cond c n 0) (replicate journalLimit x))) B) p ∙ ap (λ (J : ℕ). checkOf bs J B) (all-rows n x (leb-true n journalLimit p))
+    by : (b : Bool) → leb n journalLimit ≡ b → checkOf bs (settingsOf (length (take (cond (leb n journalLimit) n 0) (replicate journalLimit x))) o) ≡ checkOf bs (settingsOf n o)
+    by true p = ap (λ (c : Bool). checkOf bs (settingsOf (length (take (cond c n 0) (replicate journalLimit x))) o)) p ∙ ap (λ (J : ℕ). checkOf bs (settingsOf J o)) (all-rows n x (leb-true n journalLimit p))
     by false p =
-        ap (λ (c : Bool). checkOf bs (length (take (cond c n 0) (replicate journalLimit x))) B) p
-        ∙ refused-rows bs 0 B none ∙ sym (refused-rows bs n B (too-many n (leb-false n journalLimit p)))
+        ap (λ (c : Bool). checkOf bs (settingsOf (length (take (cond c n 0) (replicate journalLimit x))) o)) p
+        ∙ refused-rows bs (settingsOf 0 o) none ∙ sym (refused-rows bs (settingsOf n o) (too-many n (leb-false n journalLimit p)))
 
 -- ---- a row
 
@@ -75,32 +76,32 @@ getD-any d d′ (x ∷ xs) (suc i) h = getD-any d d′ xs i (omega arith)
 
 -- ---- the lines
 
-module _ (bs : List ℕ) (n : ℕ) (x : LentRow) (B p : ℕ) (old new : List ℕ) (room : ℕ) (l : length old ≡ room) (t : Told) (h : ChecksAlone bs n x B p old new t) where
-  abbrev J : ℕ
-  J = length (journalOf n x)
+module _ (bs : List ℕ) (n : ℕ) (x : LentRow) (o : Options) (p : ℕ) (old new : List ℕ) (room : ℕ) (l : length old ≡ room) (t : Told) (h : ChecksAlone bs n x o p old new t) where
+  abbrev g : Settings
+  g = settingsOf (length (journalOf n x)) o
 
   abbrev before : List (Row ℕ)
   before = map rowOf (journalOf n x)
 
   abbrev rows : List (Row ℕ)
-  rows = journalAfter bs before B
+  rows = journalAfter bs g before
 
-  module _ (a : Answer ℕ) (e : checkOf bs J B ≡ answered a) (k : Tells bs rows (answered a) (numbersIn t) old new (t .code)) where
+  module _ (a : Answer ℕ) (e : checkOf bs g ≡ answered a) (k : Tells bs rows (answered a) (numbersIn t) old new (t .code)) where
     totals-are : (word : List ℕ) → totalsLine word t ≡ wordLine word (a .joins ∷ a .used ∷ a .pass ∷ [])
     unfolding totalsLine
     totals-are word = ap (λ (d : List ℕ). wordLine word (getD d 1 0 ∷ getD d 2 0 ∷ getD d 3 0 ∷ [])) (k .details)
 
     module _ (v : a .verdict ≡ broken) where
-      lent-check : checkOf bs (length before) B ≡ answered a
-      lent-check = ap (λ (m : ℕ). checkOf bs m B) (length-map (journalOf n x) rowOf) ∙ e
+      lent-rows : length before ≡ g .rows
+      lent-rows = length-map (journalOf n x) rowOf
 
       below : a .row < length (a .journal)
-      below = row-in bs J B (few-rows n x) a e v
+      below = row-in bs g (few-rows n x) a e v
 
       row-is : rowIn rows (a .row) ≡ getD (a .journal) (a .row) (noRow (base states (automatonOf bs) .forms))
       unfolding journalAfter
       row-is =
-          ap (λ (r : List (Row ℕ)). rowIn r (a .row)) (ap (keptBy before) lent-check)
+          ap (λ (r : List (Row ℕ)). rowIn r (a .row)) (ap (keptBy before) e)
           ∙ List·getD-append (a .journal) (drop (a .used) before) zeroRow (a .row) below
           ∙ getD-any zeroRow (noRow (base states (automatonOf bs) .forms)) (a .journal) (a .row) below
 
@@ -108,7 +109,7 @@ module _ (bs : List ℕ) (n : ℕ) (x : LentRow) (B p : ℕ) (old new : List ℕ
       unfolding shown wordOf
       length-is =
           ap (λ (r : Row ℕ). r .len) (row-is ∙ getD-any _ _ (a .journal) (a .row) below)
-          ∙ promises bs J B a e .rows-mean (a .row) (omega (arith, below, promises bs J B a e .counts .used-rows)) .length-is
+          ∙ promises bs g a e .rows-mean (a .row) (omega (arith, below, promises bs g a e .counts .used-rows)) .length-is
 
       details : numbersIn t ≡ 0 ∷ a .joins ∷ a .used ∷ a .pass ∷ a .row ∷ lastThree broken (rowIn rows (a .row)) (writeOf bs rows (a .used) (a .row) room)
       details =
@@ -128,8 +129,8 @@ module _ (bs : List ℕ) (n : ℕ) (x : LentRow) (B p : ℕ) (old new : List ℕ
       run-line =
           ap (λ (d : List ℕ). runBy (getD d 7 0) (getD d 6 0) new) details
           ∙ ap (runBy (refusedBy (writeOf bs rows (a .used) (a .row) room)) (rowIn rows (a .row) .len)) buffer
-          ∙ line-told bs rows (a .used) (a .row) (shown bs a) (broken-word bs before B a lent-check v) room (broken-writes bs before B a lent-check v room) old l (rowIn rows (a .row) .len) length-is
-          ∙ sym (shows-run bs J B (few-rows n x) a e v room)
+          ∙ line-told bs rows (a .used) (a .row) (shown bs a) (broken-word bs g a e v before lent-rows) room (broken-writes bs g a e v before lent-rows room) old l (rowIn rows (a .row) .len) length-is
+          ∙ sym (shows-run bs g (few-rows n x) a e v room)
 
       broken-text : brokenText t new ≡ lineOne broken a ++ brokenLines bs room a
       unfolding brokenText lineOne brokenLines
@@ -150,12 +151,12 @@ module _ (bs : List ℕ) (n : ℕ) (x : LentRow) (B p : ℕ) (old new : List ℕ
         let c = code broken v in
         sym (told-broken t new (λ z. omega arith) (λ z. omega arith) (λ z. omega arith) c) ∙ broken-text v
 
-  replied-text : (y : Reply (Answer ℕ)) → checkOf bs J B ≡ y → LowIn y → Tells bs rows y (numbersIn t) old new (t .code) → toldText t new ≡ textBy bs room y
+  replied-text : (y : Reply (Answer ℕ)) → checkOf bs g ≡ y → LowIn y → Tells bs rows y (numbersIn t) old new (t .code) → toldText t new ≡ textBy bs room y
   replied-text (refused r) e low k =
       let c = k .code in
       sym (told-refused t new (λ z. omega arith) (λ z. omega arith) (λ z. omega arith) (λ z. omega arith)) ∙ ap refusedLine c
   replied-text (answered a) e low k = answered-text a e k (a .verdict) refl
 
-  pub told-text : toldText t new ≡ textOf bs n B room
+  pub told-text : toldText t new ≡ textOf bs (settingsOf n o) room
   unfolding textOf
-  told-text = replied-text (checkOf bs J B) refl (check-low bs J B) (h .over .told) ∙ ap (textBy bs room) (same-check bs n x B)
+  told-text = replied-text (checkOf bs g) refl (check-low bs g) (h .over .told) ∙ ap (textBy bs room) (same-check bs n x o)

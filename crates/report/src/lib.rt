@@ -1,6 +1,8 @@
 // The answer of a check as document 01, "The check program", has it, rendered into a lent buffer.
+use calls::Options;
 use calls::Row;
 use telling::Told;
+ghost use Rattle.calls.specs.Rows.{settingsOf};
 ghost use Rattle.calls.specs.Printing.{textOf, programRoom, programText};
 ghost use Rattle.page.specs.Contracts.{Stands};
 ghost use Rattle.lines.specs.Lines.{toldText};
@@ -23,13 +25,13 @@ fn put_whole(text: &mut [u8; TEXT], told: Told, buffer: &[u8; RUN]) -> usize
     lines::put_told(text, told, buffer)
 }
 
-// Checks `file` over a journal of `rows` rows, each initialised to `old`, with a budget of `budget` joins, and stores what is to be printed
+// Checks `file` over a journal of `rows` rows, each initialised to `old`, with these `options`, and stores what is to be printed
 // at the front of `text`. Returns its length.
-pub fn render(file: &[u8], rows: usize, old: Row, budget: u64, text: &mut [u8; TEXT]) -> usize
-    ensures { λ r. ⌜ Stands (textOf (now (file .entry)) rows budget programRoom) (now (text .entry)) (now (text .exit)) r ⌝ }
+pub fn render(file: &[u8], rows: usize, old: Row, options: Options, text: &mut [u8; TEXT]) -> usize
+    ensures { λ r. ⌜ Stands (textOf (now (file .entry)) (settingsOf rows options) programRoom) (now (text .entry)) (now (text .exit)) r ⌝ }
 {
     let mut buffer = [0u8; RUN];
-    let told = standalone::checked(file, rows, old, budget, 0, &mut buffer);
+    let told = standalone::checked(file, rows, old, options, 0, &mut buffer);
     put_whole(text, told, &buffer)
 }
 
@@ -37,5 +39,5 @@ pub fn render(file: &[u8], rows: usize, old: Row, budget: u64, text: &mut [u8; T
 pub fn answer(file: &[u8], text: &mut [u8; TEXT]) -> usize
     ensures { λ r. ⌜ Stands (programText (now (file .entry))) (now (text .entry)) (now (text .exit)) r ⌝ }
 {
-    render(file, ROWS, Row::blank(), BUDGET, text)
+    render(file, ROWS, Row::blank(), Options { budget: BUDGET }, text)
 }

@@ -33,9 +33,11 @@ use denote.Triple.Statement.{Contract}
 use Rattle.lent.proofs.CallPlain.{asks-plain}
 use Rattle.lent.proofs.CallStep.{Called}
 use Rattle.lent.proofs.LocalArrays.{from-start}
+use Rattle.lent.proofs.PlainData.{Row as RowOf, val, Means, makes}
+use Rattle.calls.specs.declared.Options.{Options}
 use Rattle.calls.specs.declared.Row.{Row}
 use Rattle.calls.specs.Checking.{journalLimit}
-use Rattle.calls.proofs.Types.{rowBytes}
+use Rattle.calls.proofs.Types.{rowBytes, options}
 use Rattle.calls.proofs.Row as T
 use Rattle.calls.proofs.Row.Laws as T′
 use Rattle.checker.proofs.check as checks
@@ -77,20 +79,20 @@ module _ {M : Type 1} (𝓤 : URA M) (H : Heap 𝓤) (A : Atoms 𝓤) (W : Given
     abbrev File : Item 𝓤
     File = ‵ (ShrSlice (named 0) κ u8 .own s (v ∷ []))
 
-    -- ---- the check, with a budget of x joins
-    module _ (x : ℕ) (gx : x < 2 ^ 64) where
+    -- ---- the check, with the options x
+    module _ (x : Options) (gx : Means options x) where
       abbrev pub Checks : Contract 𝓤
       Checks = Called 𝓤 H A checks.ended (checks.clauses 𝓤 H A mem run)
 
       abbrev pub to-checks : Checks .Ghost
-      to-checks = (((κ, (ν ∷ [], tt)), (q, (fullShare, tt)), tt, (s, (from-start T.the-row l δ ys, (x, tt))), (v ∷ [], (sliceVal (l, 0) n ∷ [], (vint w64 x ∷ [], tt)))), tt)
+      to-checks = (((κ, (ν ∷ [], tt)), (q, (fullShare, tt)), tt, (s, (from-start T.the-row l δ ys, (x, tt))), (v ∷ [], (sliceVal (l, 0) n ∷ [], (val options x ∷ [], tt)))), tt)
 
       abbrev pub For-checks : List (Item 𝓤)
       For-checks = ‵ (flft κ q) ∷ File ∷ tok ν ∷ ‵ (MutSlice (named 0) (ν ∷ []) T.the-row .own (from-start T.the-row l δ ys) (sliceVal (l, 0) n ∷ [])) ∷ []
 
       pub asks-checks : ent 𝓤 (⋆ 𝓤 H A For-checks) (Checks .pre to-checks)
       asks-checks =
-          qed W For-checks ∵ nothing ! $ owned ! u64 (Is u64) (uint-makes 𝓤 H A W w64) x _ (refl, gx) $ fjoin ! $ move ! (4 ∷ 0 ∷ []) $ fjoin ! $ move ! (2 ∷ 0 ∷ []) $ fjoin ! $
+          qed W For-checks ∵ nothing ! $ owned ! (RowOf options) (Is (RowOf options)) (makes options 𝓤 H A) x _ gx $ fjoin ! $ move ! (4 ∷ 0 ∷ []) $ fjoin ! $ move ! (2 ∷ 0 ∷ []) $ fjoin ! $
           nothing ! $ move ! (3 ∷ 0 ∷ []) $ join ! $ move ! (2 ∷ 0 ∷ []) $ join ! $ join ! $ nothing ! $ move ! (1 ∷ 0 ∷ []) $ done !
 
       -- the rows come back as zs

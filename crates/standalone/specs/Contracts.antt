@@ -5,12 +5,14 @@ use Prim.Native.Nat.{ℕ}
 use lib.ListN.{length}
 use Rattle.working_order.specs.Journal.{Row}
 use Rattle.working_order.specs.Order.{Answer}
-use Rattle.calls.specs.Checking.{checkOf, journalAfter}
+use Rattle.calls.specs.Checking.{Settings, checkOf, journalAfter}
 use Rattle.calls.specs.DemandThree.{Promises}
 use Rattle.calls.specs.Replies.{Reply, answered}
 use Rattle.calls.specs.Rows.{rowOf}
+use Rattle.calls.specs.declared.Options.{Options}
 use Rattle.calls.specs.declared.Row.{Row as LentRow}
 use Rattle.covers.specs.Rows.{Journal}
+use Rattle.checker.specs.Contracts.{settingsOver}
 use Rattle.calls.specs.Codes.{codeBy}
 use Rattle.telling.specs.Fronts.{journalOf, restOf, placeOf}
 use Rattle.standalone.specs.Told.{answerCode, rowIn, detailsOf, shownOf}
@@ -24,19 +26,19 @@ pub record Tells (bs : List ℕ) (rows : List (Row ℕ)) (x : Reply (Answer ℕ)
   -- the run and then the old bytes, where one is written; else the old bytes whole
   pub buffer : new ≡ shownOf bs rows old x
 
--- a check with J rows and a budget of B joins, told so
-pub record ChecksBy (bs : List ℕ) (J B : ℕ) (rows : List (Row ℕ)) (d old new : List ℕ) (r : ℕ) : Type 0 where
-  pub told : Tells bs rows (checkOf bs J B) d old new r
+-- a check with the settings g, told so
+pub record ChecksBy (bs : List ℕ) (g : Settings) (rows : List (Row ℕ)) (d old new : List ℕ) (r : ℕ) : Type 0 where
+  pub told : Tells bs rows (checkOf bs g) d old new r
   -- demand 3, where the verdict comes and what the joins are, the least height, what the rows are, writing the word that is shown,
   -- and stability, of the answer
-  pub promises : (a : Answer ℕ) → checkOf bs J B ≡ answered a → Promises bs J B a
+  pub promises : (a : Answer ℕ) → checkOf bs g ≡ answered a → Promises bs g a
 
--- over a journal
-abbrev pub ChecksOver : List ℕ → Journal → ℕ → List ℕ → List ℕ → List ℕ → ℕ → Type 0
-ChecksOver bs journal B d old new r = ChecksBy bs (length journal) B (journalAfter bs (map rowOf journal) B) d old new r
+-- with the options o over a journal
+abbrev pub ChecksOver : List ℕ → Journal → Options → List ℕ → List ℕ → List ℕ → ℕ → Type 0
+ChecksOver bs journal o d old new r = ChecksBy bs (settingsOver o journal) (journalAfter bs (settingsOver o journal) (map rowOf journal)) d old new r
 
--- a check with n rows, each x before, and a budget of B joins, of which the row at p is asked for
-pub record ChecksAlone (bs : List ℕ) (n : ℕ) (x : LentRow) (B p : ℕ) (old new : List ℕ) (r : Told) : Type 0 where
-  pub over : ChecksOver bs (journalOf n x) B (numbersIn r) old new (r .code)
+-- a check with n rows, each x before, and the options o, of which the row at p is asked for
+pub record ChecksAlone (bs : List ℕ) (n : ℕ) (x : LentRow) (o : Options) (p : ℕ) (old new : List ℕ) (r : Told) : Type 0 where
+  pub over : ChecksOver bs (journalOf n x) o (numbersIn r) old new (r .code)
   -- row p: of the journal after the check, and of the rows after it
-  pub shows : rowOf (r .shown) ≡ rowIn (journalAfter bs (map rowOf (journalOf n x)) B ++ map rowOf (restOf n x)) (placeOf p)
+  pub shows : rowOf (r .shown) ≡ rowIn (journalAfter bs (settingsOver o (journalOf n x)) (map rowOf (journalOf n x)) ++ map rowOf (restOf n x)) (placeOf p)

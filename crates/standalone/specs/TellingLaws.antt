@@ -17,11 +17,12 @@ use Rattle.working_order.specs.Truth.{SaysBy, check-says}
 use Rattle.calls.specs.Codes.{refusedBy}
 use Rattle.calls.specs.Base.{base, words}
 use Rattle.calls.specs.BaseLaws.{base-laws, word-sizes}
-use Rattle.calls.specs.Checking.{journalLimit, journalFault, orderOn, checkOf, journalAfter}
+use Rattle.calls.specs.Checking.{Settings, journalLimit, journalFault, orderOn, checkOf, journalAfter}
 use Rattle.calls.specs.Promising.{from-order}
 use Rattle.calls.specs.Replies.{Reply, refused, answered}
 use Rattle.calls.specs.Rows.{rowOf, blank}
 use Rattle.calls.specs.Writing.{rowFault, wordOf, writeOf, writtenBy, bufferAfter}
+use Rattle.calls.specs.declared.Options.{Options}
 use Rattle.calls.specs.declared.Row.{Row as LentRow}
 use Rattle.covers.specs.Rows.{Journal}
 use Rattle.verdicts.specs.Meanings.{verdictOf}
@@ -33,7 +34,7 @@ use Rattle.checker.specs.declared.Checked.the-variants as checked
 use Rattle.writer.specs.declared.Writing.{Writing}
 use Rattle.checker.specs.Answers.{checkedOf}
 use Rattle.writer.specs.Answers.{writingOf}
-use Rattle.checker.specs.Contracts.{Checks}
+use Rattle.checker.specs.Contracts.{settingsOver, Checks}
 use Rattle.writer.specs.Contracts.{Writes}
 use Rattle.telling.specs.Fronts.{frontOf, journalOf, restOf, placeOf, nameIn}
 use Rattle.telling.specs.Telling.{toldBy, numbersIn}
@@ -45,13 +46,13 @@ use Rattle.telling.specs.declared.Told.{Told}
 -- ---- the row of a broken answer
 
 -- it is one of those used, of which the journal has no fewer
-broken-used : (bs : List ℕ) (J B : ℕ) (a : Answer ℕ) → checkOf bs J B ≡ answered a → a .verdict ≡ broken → a .row < a .used
+broken-used : (bs : List ℕ) (g : Settings) (a : Answer ℕ) → checkOf bs g ≡ answered a → a .verdict ≡ broken → a .row < a .used
 unfolding orderOn
-broken-used bs J B a e v =
-    let order = from-order bs J B a e .2 in
+broken-used bs g a e v =
+    let order = from-order bs g a e .2 in
     let A = base states (automatonOf bs) in
-    let says = check-says A (base-laws states (automatonOf bs)) words word-sizes (rulesOf bs) J B .verdict in
-    let s = subst (λ (x : Verdict). SaysBy A words (rulesOf bs) x (orderOn bs J B)) (ap (λ (x : Answer ℕ). x .verdict) (sym order) ∙ v) says in
+    let says = check-says A (base-laws states (automatonOf bs)) words word-sizes (rulesOf bs) (g .rows) (g .budget) .verdict in
+    let s = subst (λ (x : Verdict). SaysBy A words (rulesOf bs) x (orderOn bs g)) (ap (λ (x : Answer ℕ). x .verdict) (sym order) ∙ v) says in
     subst (λ (x : Answer ℕ). x .row < x .used) (sym order) (s .2)
 
 -- a row below the limit is shown itself
@@ -100,7 +101,7 @@ unbroken-shows-none unbroken.Spent x y = refl
 
 -- ---- the whole reply
 
-module _ (bs : List ℕ) (B : ℕ) (before after rest : Journal) (few : length before ≤ journalLimit) (as-many : length after ≡ length before) (old new : List ℕ) (w : Writing) (y : LentRow) where
+module _ (bs : List ℕ) (o : Options) (before after rest : Journal) (few : length before ≤ journalLimit) (as-many : length after ≡ length before) (old new : List ℕ) (w : Writing) (y : LentRow) where
   -- the row that is named, and the bytes that the writing is given
   abbrev name : Checked → Named
   name c = nameIn c (length bs)
@@ -110,7 +111,7 @@ module _ (bs : List ℕ) (B : ℕ) (before after rest : Journal) (few : length b
   tale c = toldBy c (getD (after ++ rest) (placeOf (name c .row)) blank) y (refusedBy (writingOf w))
 
   -- over the journal as it stands then
-  tells : (c : Checked) → Checks bs B before after c → Writes (take (name c .bytes) bs) (map rowOf after) (name c .used) (name c .row) old new w
+  tells : (c : Checked) → Checks bs o before after c → Writes (take (name c .bytes) bs) (map rowOf after) (name c .used) (name c .row) old new w
       → Tells bs (map rowOf after) (checkedOf c after) (numbersIn (tale c)) old new (tale c .code)
   tells (checked.Refused r) h v = record { code = refl; details = refl; buffer = v .buffer ∙ unwritten [] (map rowOf after) old }
   tells (checked.Answered (answer.Ended x n)) h v =
@@ -121,7 +122,7 @@ module _ (bs : List ℕ) (B : ℕ) (before after rest : Journal) (few : length b
       }
   tells (checked.Answered (answer.Broken i n)) h u =
       let v = subst (λ (xs : List ℕ). Writes xs (map rowOf after) (n .used) i old new w) (take-length bs) u in
-      let lt = broken-used bs (length before) B _ (sym (h .answer)) refl in
+      let lt = broken-used bs (settingsOver o before) _ (sym (h .answer)) refl in
       let le = h .promises _ (sym (h .answer)) .counts .rows-bound in
       let low : i < length after = omega (arith, lt, le, as-many) in
       let here = ap (λ (k : ℕ). rowOf (getD (after ++ rest) k blank)) (place-low i (omega (arith, low, as-many, few))) ∙ row-front after rest i low in
@@ -134,12 +135,12 @@ module _ (bs : List ℕ) (B : ℕ) (before after rest : Journal) (few : length b
       }
 
   -- of the check
-  tells-check : (c : Checked) → Checks bs B before after c → Writes (take (name c .bytes) bs) (map rowOf after) (name c .used) (name c .row) old new w
-      → ChecksOver bs before B (numbersIn (tale c)) old new (tale c .code)
+  tells-check : (c : Checked) → Checks bs o before after c → Writes (take (name c .bytes) bs) (map rowOf after) (name c .used) (name c .row) old new w
+      → ChecksOver bs before o (numbersIn (tale c)) old new (tale c .code)
   tells-check c h v =
       record {
         told =
-            subst (λ (z : Reply (Answer ℕ)). Tells bs (journalAfter bs (map rowOf before) B) z (numbersIn (tale c)) old new (tale c .code)) (h .answer)
+            subst (λ (z : Reply (Answer ℕ)). Tells bs (journalAfter bs (settingsOver o before) (map rowOf before)) z (numbersIn (tale c)) old new (tale c .code)) (h .answer)
             (subst (λ (rows : List (Row ℕ)). Tells bs rows (checkedOf c after) (numbersIn (tale c)) old new (tale c .code)) (h .journal) (tells c h v));
         promises = h .promises;
       }
@@ -152,13 +153,13 @@ shown-told (checked.Answered (answer.Broken i n)) x y f = refl
 
 -- ---- as the code has it all in hand
 
-module _ (bs : List ℕ) (n : ℕ) (old : LentRow) (B p : ℕ) (before after : List ℕ) where
+module _ (bs : List ℕ) (n : ℕ) (old : LentRow) (o : Options) (p : ℕ) (before after : List ℕ) where
   -- xs: the array before the check. m: the rows lent. zs: its first m rows after it. c: what the check answered. d: what is to be written,
   -- and i: the row to show. k: the row asked for. w: what writing answered. r: the result
   pub tells-alone : (xs : Journal) → xs ≡ replicate journalLimit old → (m : ℕ) → (m ≡ frontOf n) × (m ≤ journalLimit) → length (take m xs) ≡ m
-      → (zs : Journal) → length zs ≡ m → length (zs ++ drop m xs) ≡ journalLimit → (c : Checked) → Checks bs B (take m xs) zs c
+      → (zs : Journal) → length zs ≡ m → length (zs ++ drop m xs) ≡ journalLimit → (c : Checked) → Checks bs o (take m xs) zs c
       → (d : Named) → d ≡ nameIn c (length bs) → (i : ℕ) → i ≡ placeOf (d .row) → (k : ℕ) → (k ≡ placeOf p) × (k < journalLimit) → (w : Writing) → Writes (take (d .bytes) bs) (map rowOf zs) (d .used) (d .row) before after w
-      → (r : Told) → r ≡ toldBy c (getD (zs ++ drop m xs) i blank) (getD (zs ++ drop m xs) k blank) (refusedBy (writingOf w)) → ChecksAlone bs n old B p before after r
+      → (r : Told) → r ≡ toldBy c (getD (zs ++ drop m xs) i blank) (getD (zs ++ drop m xs) k blank) (refusedBy (writingOf w)) → ChecksAlone bs n old o p before after r
   unfolding journalOf restOf
   tells-alone xs e m em lent zs back all c h d ed i ei k ek w v r er =
       let front : take m xs ≡ journalOf n old = ap (λ (j : Journal). take m j) e ∙ ap (λ (u : ℕ). take u (replicate journalLimit old)) (em .0) in
@@ -168,16 +169,16 @@ module _ (bs : List ℕ) (n : ℕ) (old : LentRow) (B p : ℕ) (before after : L
       let f = refusedBy (writingOf w) in
       let same : toldBy c (getD (zs ++ drop m xs) (placeOf (nameIn c (length bs) .row)) blank) y f ≡ r =
       ap (λ (u : ℕ). toldBy c (getD (zs ++ drop m xs) u blank) y f) (sym (ei ∙ ap (λ (z : Named). placeOf (z .row)) ed)) ∙ sym er in
-      let t = tells-check bs B (take m xs) zs (drop m xs) (omega (arith, lent, em .1)) (back ∙ sym lent) before after w y c h v′ in
+      let t = tells-check bs o (take m xs) zs (drop m xs) (omega (arith, lent, em .1)) (back ∙ sym lent) before after w y c h v′ in
       record {
         over =
-            subst (λ (j : Journal). ChecksOver bs j B (numbersIn r) before after (r .code)) front
-            (subst (λ (z : Told). ChecksOver bs (take m xs) B (numbersIn z) before after (z .code)) same t);
+            subst (λ (j : Journal). ChecksOver bs j o (numbersIn r) before after (r .code)) front
+            (subst (λ (z : Told). ChecksOver bs (take m xs) o (numbersIn z) before after (z .code)) same t);
         shows =
             ap (λ (z : Told). rowOf (z .shown)) er ∙ ap rowOf (shown-told c (getD (zs ++ drop m xs) i blank) y f)
             ∙ row-read zs (drop m xs) k (omega (arith, ek .1, all))
             ∙ ap (λ (rows : List (Row ℕ)). rowIn (rows ++ map rowOf (drop m xs)) k) (h .journal)
-            ∙ ap (λ (j : Journal). rowIn (journalAfter bs (map rowOf j) B ++ map rowOf (drop m xs)) k) front
-            ∙ ap (λ (j : Journal). rowIn (journalAfter bs (map rowOf (journalOf n old)) B ++ map rowOf j) k) rest
-            ∙ ap (rowIn (journalAfter bs (map rowOf (journalOf n old)) B ++ map rowOf (restOf n old))) (ek .0);
+            ∙ ap (λ (j : Journal). rowIn (journalAfter bs (settingsOver o j) (map rowOf j) ++ map rowOf (drop m xs)) k) front
+            ∙ ap (λ (j : Journal). rowIn (journalAfter bs (settingsOver o (journalOf n old)) (map rowOf (journalOf n old)) ++ map rowOf j) k) rest
+            ∙ ap (rowIn (journalAfter bs (settingsOver o (journalOf n old)) (map rowOf (journalOf n old)) ++ map rowOf (restOf n old))) (ek .0);
       }

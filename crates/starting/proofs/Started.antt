@@ -17,7 +17,7 @@ use Rattle.plan_file.specs.RefusalLaws.{not-held}
 use Rattle.plan_file.specs.Views.{rulesOf, transitionsOf, automatonOf}
 use Rattle.plan_file.specs.Answers.{refusalOf}
 use Rattle.plan_file.specs.declared.Refusal.{Refusal}
-use Rattle.calls.specs.Checking.{journalLimit, journalFault, checkRefusals}
+use Rattle.calls.specs.Checking.{Settings, journalLimit, journalFault, checkRefusals}
 use Rattle.calls.specs.Rows.{entryOf, blank}
 use Rattle.rows.specs.Base.{Row}
 use Rattle.places.specs.Lists.{end}
@@ -28,6 +28,7 @@ use Rattle.covers.specs.Rows.{Journal}
 use Rattle.deciding.specs.declared.State.{State}
 use Rattle.deciding.specs.declared.Terms.{Terms}
 use Rattle.verdicts.specs.Passes.{pass-first}
+use Rattle.verdicts.specs.Problems.{Letters, RuleBytes, Problem, problemIn}
 use Rattle.verdicts.specs.Running.{Stands, Running, MayOpen, Opens, Onward}
 use Rattle.verdicts.specs.States.{opening}
 use Rattle.verdicts.specs.declared.Reached.{Reached}
@@ -36,7 +37,7 @@ use Rattle.tables.specs.LetterLaws.{letters-length}
 use Rattle.requests.specs.RuleLaws.{rules-fit, rules-in}
 use Rattle.requests.proofs.Refusals.{none-refused}
 use Rattle.starting.specs.declared.Start.{Start}
-use Rattle.starting.specs.Starting.{waiting, Starts}
+use Rattle.starting.specs.Starting.{waiting, problemOf, Starts}
 
 -- a journal that 8 does not refuse
 journal-size : (J : ℕ) → journalFault J ≡ 0 → (0 < J) × (J ≤ journalLimit)
@@ -46,64 +47,72 @@ journal-size J e =
     let some : J ≡ 0 → ⊥ = eqb-false J 0 (o .0) in
     (omega arith, ltb-false journalLimit J (o .1))
 
-module _ (bs : List ℕ) (J : ℕ) where
-  module _ (B : ℕ) where
-    -- ---- at the ends
-    pub starts-refused : (letters : List ℕ) (rules : List (List ℕ)) (t : List ℕ) (r : Refusal) → refusalOf r ≡ firstOf (checkRefusals bs J) → (r .number ≡ 0 → ⊥) → (s : State) → s ≡ waiting J 0 B 0 → Starts bs J B letters rules t (record { refusal = r; state = s })
-    starts-refused letters rules t r e z s w = record { refusal = e; refused = λ _. ap (λ (x : State). x .going) w; begins = λ q. absurd (z q) }
+module _ (bs : List ℕ) (g : Settings) where
+  abbrev J : ℕ
+  J = g .rows
 
-    pub may-open : (finals : ℕ) (before rules : List (List ℕ)) (n : ℕ) → RuleTable bs before rules n → (t : List ℕ) → t ≡ replicate tableCells end → (w : State) → w ≡ waiting J n B finals → MayOpen rules n (w .counts) t
-    may-open finals before rules n en t et w ew =
-        subst (λ (x : State). MayOpen rules n (x .counts) t) (sym ew) (record { table = ap length et ∙ length-replicate tableCells end; count = rules-fit bs before rules n en; used = omega arith })
+  abbrev B : ℕ
+  B = g .budget
 
-    module _ (letters : List ℕ) (el : letters ≡ letterTable states (transitionsOf bs)) (finals : ℕ) (ef : finals ≡ number states (isFinal (automatonOf bs))) (before rules : List (List ℕ)) (n : ℕ) (en : RuleTable bs before rules n) (t t′ : List ℕ)
-        (et : t ≡ replicate tableCells end) (w : State) (ew : w ≡ waiting J n B finals) (x : Reached) (o : Opens rules t n (w .terms) (w .counts) t′ x) (s : State) (es : s ≡ opening w (w .terms) x) (r : Refusal) (e : refusalOf r ≡ firstOf (checkRefusals bs J)) (z : r .number ≡ 0) where
-      quiet : (fault bs .number ≡ 0) × (journalFault J ≡ 0)
-      quiet = none-refused bs J r e z
+  -- ---- at the ends
+  pub starts-refused : (letters : Letters) (rules : RuleBytes) (t : List ℕ) (r : Refusal) → refusalOf r ≡ firstOf (checkRefusals bs J) → (r .number ≡ 0 → ⊥) → (s : State) → s ≡ waiting g 0 0 → Starts bs g letters rules t (record { refusal = r; state = s })
+  starts-refused letters rules t r e z s w = record { refusal = e; refused = λ _. ap (λ (x : State). x .going) w; begins = λ q. absurd (z q) }
 
-      opened : (j : Journal) → length j ≡ J → Onward letters (take n rules) finals B j (record { used = 0; joins = 0; added = 0 }) s j t′
-      opened j l =
-          let k = journal-size J (quiet .1) in
-          subst (λ (y : State). Onward letters (take n rules) finals B j (record { used = 0; joins = 0; added = 0 }) y j t′) (sym (es ∙ ap (λ (y : State). opening y (y .terms) x) ew))
-          (subst (λ (y : State). Opens rules t n (y .terms) (y .counts) t′ x) ew o letters finals B j j 1 0 (waiting J n B finals) refl (record { all = omega (arith, ap length el, letters-length states (transitionsOf bs)); some = omega (arith, l, k .0); limit = omega (arith, l, k .1) }) (sym l) (pass-first letters (take n rules) finals B j) refl (omega arith) (λ q. absurd (omega (arith, q)))
-          (subst (λ (rows : List Row). Covering rows t) (sym (rows-none j)) (subst (Covering []) (sym et) covering-none)))
+  pub may-open : (finals : ℕ) (before rules : RuleBytes) (n : ℕ) → RuleTable bs before rules n → (t : List ℕ) → t ≡ replicate tableCells end → (w : State) → w ≡ waiting g n finals → MayOpen rules n (w .counts) t
+  may-open finals before rules n en t et w ew =
+      subst (λ (x : State). MayOpen rules n (x .counts) t) (sym ew) (record { table = ap length et ∙ length-replicate tableCells end; count = rules-fit bs before rules n en; used = omega arith })
 
-      fit : n ≤ length rules
-      fit = rules-fit bs before rules n en
+  module _ (letters : Letters) (el : letters ≡ letterTable states (transitionsOf bs)) (finals : ℕ) (ef : finals ≡ number states (isFinal (automatonOf bs))) (before rules : RuleBytes) (n : ℕ) (en : RuleTable bs before rules n) (t t′ : List ℕ)
+      (et : t ≡ replicate tableCells end) (w : State) (ew : w ≡ waiting g n finals) (x : Reached) (o : Opens rules t n (w .terms) (w .counts) t′ x) (s : State) (es : s ≡ opening w (w .terms) x) (r : Refusal) (e : refusalOf r ≡ firstOf (checkRefusals bs J)) (z : r .number ≡ 0) where
+    abbrev P : Problem
+    P = problemIn (waiting g n finals .terms) letters (take n rules)
 
-      count : n ≡ s .rules
-      count = sym (opened (replicate J blank) (length-replicate J blank) .stands .count ∙ length-take-le n rules fit)
+    quiet : (fault bs .number ≡ 0) × (journalFault J ≡ 0)
+    quiet = none-refused bs J r e z
 
-      pub starts : Starts bs J B letters rules t′ (record { refusal = r; state = s })
-      starts = record {
-        refusal = e;
-        refused = λ q. absurd (q z);
-        begins = λ _. record {
-          relations = el;
-          whole = subst (λ (k : ℕ). k ≤ length rules) count fit;
-          entries = subst (λ (k : ℕ). map entryOf (take k rules) ≡ rulesOf bs) count (rules-in bs (quiet .0) before rules n en);
-          stands = λ j l. subst (λ (k : ℕ). Stands letters (take k rules) (number states (isFinal (automatonOf bs))) B j s j t′) count (subst (λ (f : ℕ). Stands letters (take n rules) f B j s j t′) ef (opened j l .stands));
-        };
-      }
+    opened : (j : Journal) → length j ≡ J → Onward P B j (record { used = 0; joins = 0; added = 0 }) s j t′
+    opened j l =
+        let k = journal-size J (quiet .1) in
+        subst (λ (y : State). Onward P B j (record { used = 0; joins = 0; added = 0 }) y j t′) (sym (es ∙ ap (λ (y : State). opening y (y .terms) x) ew))
+        (subst (λ (y : State). Opens rules t n (y .terms) (y .counts) t′ x) ew o P B j j 1 0 (waiting g n finals) refl (record { all = omega (arith, ap length el, letters-length states (transitionsOf bs)); some = omega (arith, l, k .0); limit = omega (arith, l, k .1) }) (sym l) (pass-first P B j) refl (omega arith) (λ q. absurd (omega (arith, q)))
+        (subst (λ (rows : List Row). Covering rows t) (sym (rows-none j)) (subst (Covering []) (sym et) covering-none)))
 
-    -- ---- then the search may run, over every journal of J rows
-    module _ (letters : List ℕ) (rules : List (List ℕ)) (t : List ℕ) (r : Start) (h : Starts bs J B letters rules t r) (j : Journal) (l : length j ≡ J) where
-      abbrev s : State
-      s = r .state
+    fit : n ≤ length rules
+    fit = rules-fit bs before rules n en
 
-      pub may-run : Running letters rules s j s j t
-      may-run = by (r .refusal .number) refl
-        where
-          by : (k : ℕ) → r .refusal .number ≡ k → Running letters rules s j s j t
-          by zero z =
-              let b = h .begins z in
-              let k = journal-size J (none-refused bs J (r .refusal) (h .refusal) z .1) in
-              record {
-                idle = λ _. (refl, refl);
-                sized = λ _. record { all = omega (arith, ap length (b .relations), letters-length states (transitionsOf bs)); some = omega (arith, l, k .0); limit = omega (arith, l, k .1) };
-                whole = λ _. b .whole;
-                stands = λ g. subst (λ (x : Terms). Stands letters (take (s .rules) rules) (x .finals) (x .budget) j s j t) (sym (b .stands j l .goes g .begun .terms)) (b .stands j l);
-              }
-          by (suc k) z =
-              let none : T (s .going) → ⊥ = λ g. subst T (h .refused (λ q. let y : ⊥ = omega (arith, sym z ∙ q) in y)) g in
-              record { idle = λ _. (refl, refl); sized = λ g. absurd (none g); whole = λ g. absurd (none g); stands = λ g. absurd (none g) }
+    count : n ≡ s .rules
+    count = sym (opened (replicate J blank) (length-replicate J blank) .stands .count ∙ length-take-le n rules fit)
+
+    pub starts : Starts bs g letters rules t′ (record { refusal = r; state = s })
+    starts = record {
+      refusal = e;
+      refused = λ q. absurd (q z);
+      begins = λ _. record {
+        relations = el;
+        whole = subst (λ (k : ℕ). k ≤ length rules) count fit;
+        entries = subst (λ (k : ℕ). map entryOf (take k rules) ≡ rulesOf bs) count (rules-in bs (quiet .0) before rules n en);
+        stands = λ j l. subst (λ (k : ℕ). Stands (problemOf bs letters (take k rules)) B j s j t′) count (subst (λ (f : ℕ). Stands (problemIn (waiting g n f .terms) letters (take n rules)) B j s j t′) ef (opened j l .stands));
+      };
+    }
+
+  -- ---- then the search may run, over every journal of J rows
+  module _ (letters : Letters) (rules : RuleBytes) (t : List ℕ) (r : Start) (h : Starts bs g letters rules t r) (j : Journal) (l : length j ≡ J) where
+    abbrev s : State
+    s = r .state
+
+    pub may-run : Running letters rules s j s j t
+    may-run = by (r .refusal .number) refl
+      where
+        by : (k : ℕ) → r .refusal .number ≡ k → Running letters rules s j s j t
+        by zero z =
+            let b = h .begins z in
+            let k = journal-size J (none-refused bs J (r .refusal) (h .refusal) z .1) in
+            record {
+              idle = λ _. (refl, refl);
+              sized = λ _. record { all = omega (arith, ap length (b .relations), letters-length states (transitionsOf bs)); some = omega (arith, l, k .0); limit = omega (arith, l, k .1) };
+              whole = λ _. b .whole;
+              stands = λ g. subst (λ (x : Terms). Stands (problemIn x letters (take (s .rules) rules)) (x .budget) j s j t) (sym (b .stands j l .goes g .begun .terms)) (b .stands j l);
+            }
+        by (suc k) z =
+            let none : T (s .going) → ⊥ = λ g. subst T (h .refused (λ q. let y : ⊥ = omega (arith, sym z ∙ q) in y)) g in
+            record { idle = λ _. (refl, refl); sized = λ g. absurd (none g); whole = λ g. absurd (none g); stands = λ g. absurd (none g) }

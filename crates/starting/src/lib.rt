@@ -1,4 +1,5 @@
 // Where a check starts: what refuses it, and else the file's tables and the first pass.
+use calls::Options;
 use deciding::Counts;
 use deciding::Place;
 use deciding::State;
@@ -9,6 +10,7 @@ use plan_file::Refusal;
 use relation::StateSet;
 ghost use mathlib.Core.Path.{_≡_};
 ghost use lib.ListN.{replicate};
+ghost use Rattle.calls.specs.Rows.{settingsOf};
 ghost use Rattle.places.specs.Lists.{end};
 ghost use Rattle.covers.specs.Covers.{tableCells};
 ghost use Rattle.starting.specs.Starting.{waiting, Starts};
@@ -19,16 +21,16 @@ pub struct Start {
     pub state: State,
 }
 
-// Before the first pass, on so many rules.
-fn wait(rows: usize, rules: usize, budget: u64, finals: StateSet) -> State
-    ensures { λ r. ⌜ r ≡ waiting rows rules budget finals ⌝ }
+// The state before the first pass, over a journal of `rows` rows and `rules` rules, where `finals` is the set of final states.
+fn wait(rows: usize, rules: usize, options: Options, finals: StateSet) -> State
+    ensures { λ r. ⌜ r ≡ waiting (settingsOf rows options) rules finals ⌝ }
 {
     State {
         going: false,
         left: 0,
         right: 0,
         terms: Terms {
-            budget,
+            budget: options.budget,
             finals,
             pass: 1,
             start: 0,
@@ -47,29 +49,30 @@ fn wait(rows: usize, rules: usize, budget: u64, finals: StateSet) -> State
     }
 }
 
-// Fills in the tables and begins the first pass, where nothing refuses.
+// Where nothing refuses the check of `file` over a journal of `rows` rows, stores the relation of each terminal in `letters` and the rules in
+// `rules`, and begins the first pass, for which it sets up `table`. Returns the refusal and the state then.
 pub fn prepare(
     file: &[u8],
     letters: &mut Letters,
     rules: &mut [[u8; 4]; RULE_LIMIT],
     table: &mut [u32],
     rows: usize,
-    budget: u64,
+    options: Options,
 ) -> Start
     requires { ⌜ now table ≡ replicate tableCells end ⌝ }
-    ensures { λ r. ⌜ Starts (now (file .entry)) rows budget (now (letters .exit)) (now (rules .exit)) (now (table .exit)) r ⌝ }
+    ensures { λ r. ⌜ Starts (now (file .entry)) (settingsOf rows options) (now (letters .exit)) (now (rules .exit)) (now (table .exit)) r ⌝ }
 {
     let fault = requests::refusal_for(file, rows);
     if fault.number != 0 {
         return Start {
             refusal: fault,
-            state: wait(rows, 0, budget, 0),
+            state: wait(rows, 0, options, 0),
         };
     }
     tables::letter_relations(file, letters);
     let finals = tables::final_states(file);
     let n = tables::rule_table(file, rules);
-    let before = wait(rows, n, budget, finals);
+    let before = wait(rows, n, options, finals);
     let terms = before.terms;
     let at = passes::open_pass(&rules[..], table, n, terms, before.counts);
     Start {

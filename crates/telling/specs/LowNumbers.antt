@@ -14,7 +14,7 @@ use Rattle.basics.specs.Elements.{any}
 use Rattle.plan_file.specs.Limits.{recordLimit, terminals}
 use Rattle.plan_file.specs.Records.{recordCount, ruleKind, transitionKind, countOf}
 use Rattle.plan_file.specs.Refusals.{Refusal, refuse, orNext, firstHolding, recordTests, faultAt, faultFrom, fault, byNumber, faultAtIn, faultByIn, faultFromIn, faultIn, lengthFaultIn, lengthFault}
-use Rattle.calls.specs.Checking.{journalLimit, journalFault, checkRefusals, checkOf}
+use Rattle.calls.specs.Checking.{Settings, journalLimit, journalFault, checkRefusals, checkOf}
 use Rattle.calls.specs.Judging.{wordLimit, wordFault, judgeRefusals, judgeOf}
 use Rattle.calls.specs.Replies.{Reply, refused, answered, unless, reply}
 use Rattle.calls.specs.Codes.{firstAnswerCode}
@@ -133,9 +133,9 @@ reply-low : {A : Type 0} (xs : List Refusal) (a : A) → AllLow xs → LowIn (re
 reply-low [] a l = tt
 reply-low (x ∷ xs) a l = unless-low x (reply xs a) (l .0) (reply-low xs a (l .1))
 
-pub check-low : (bs : List ℕ) (J B : ℕ) → LowIn (checkOf bs J B)
+pub check-low : (bs : List ℕ) (g : Settings) → LowIn (checkOf bs g)
 unfolding checkOf journalFault
-check-low bs J B = reply-low (checkRefusals bs J) _ (fault-low bs, (number-low (eqb J 0 || ltb journalLimit J) 8 (omega arith), tt))
+check-low bs g = reply-low (checkRefusals bs (g .rows)) _ (fault-low bs, (number-low (eqb (g .rows) 0 || ltb journalLimit (g .rows)) 8 (omega arith), tt))
 
 pub judge-low : (bs w : List ℕ) → LowIn (judgeOf bs w)
 unfolding judgeOf wordFault

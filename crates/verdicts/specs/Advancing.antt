@@ -37,8 +37,9 @@ use Rattle.deciding.specs.declared.Terms.{Terms}
 use Rattle.verdicts.specs.Contracts.{Answers, Checked}
 use Rattle.verdicts.specs.Deciding.{answers-dropped, answers-full, answers-new}
 use Rattle.verdicts.specs.Meanings.{progressOf, countsIn, withJoin, withRow, bornBy, fullBy, decidedBy, decidedIn, totalsOf, answerTo, codeOf, answerAt, answerIn}
-use Rattle.verdicts.specs.Running.{target, Goes, Stands, Running, fateFor, Considered, MayAdvance, Notes, GoesOn, GoesOnOver, Onward, candidatesLeft}
-use Rattle.verdicts.specs.RunLaws.{counted, started, stands-on, goes-on, sized, used-fits, limit}
+use Rattle.verdicts.specs.Problems.{Letters, RuleBytes, Problem, breakingIn, termsOf}
+use Rattle.verdicts.specs.Running.{problemAt, target, Goes, Stands, Running, fateFor, Considered, MayAdvance, Notes, GoesOn, GoesOnOver, Onward, candidatesLeft}
+use Rattle.verdicts.specs.RunLaws.{started, stands-on, goes-on, sized, used-fits, limit}
 use Rattle.verdicts.specs.RunningLaws.{stops}
 use Rattle.verdicts.specs.States.{stoppedIn}
 use Rattle.verdicts.specs.Passing.{InPass, pass-stopped, pass-going}
@@ -68,11 +69,14 @@ stop-ends : (p : Stop) → Ends (outcome.Stopped p)
 stop-ends (stop.Ended v w) = λ j K. refl
 stop-ends (stop.Broken i w) = λ j K. refl
 
-module _ {letters : List ℕ} {rules : List (List ℕ)} {start : State} {j₀ : Journal} {s : State} {c : Candidate} {f : Fate} {l : CoverCursor} {j : Journal} {t : List ℕ} (x : Considered letters rules start j₀ s c f l j t) where
+module _ {letters : Letters} {rules : RuleBytes} {start : State} {j₀ : Journal} {s : State} {c : Candidate} {f : Fate} {l : CoverCursor} {j : Journal} {t : List ℕ} (x : Considered letters rules start j₀ s c f l j t) where
+  abbrev P : Problem
+  P = problemAt letters rules start
+
   abbrev u : ℕ
   u = s .counts .used
 
-  go : Goes letters (counted (x .running) (x .going)) (start .terms .finals) (start .terms .budget) j₀ s (x .before) (x .table)
+  go : Goes P (start .terms .budget) j₀ s (x .before) (x .table)
   go = goes-on (x .running) (x .going)
 
   room : u ≤ length (x .before)
@@ -142,7 +146,7 @@ module _ {letters : List ℕ} {rules : List (List ℕ)} {start : State} {j₀ : 
       none : (v : Bool) → l .covers ≡ v → dropped contained (candidateOf c) (firstRows u (x .before)) ≡ v
       none v e = sym (finds .found) ∙ e
 
-      by-room : (b : Bool) → eqb u (s .rows) ≡ b → l .covers ≡ false → Ending (s .terms .pass) (candidateOf c) u l (x .before) (x .table) j t → Right (fullBy b (order.breaking (s .terms .finals) (candidateOf c)) (withJoin (s .counts)))
+      by-room : (b : Bool) → eqb u (s .rows) ≡ b → l .covers ≡ false → Ending (s .terms .pass) (candidateOf c) u l (x .before) (x .table) j t → Right (fullBy b (breakingIn (s .terms) (candidateOf c)) (withJoin (s .counts)))
       by-room true e f (inl z) = kept _ (z .1) (z .2) refl (answers-full (s .terms) (candidateOf c) (s .counts) (x .before) room hb not-spent (none false f) (eqb-true u (s .rows) e ∙ rows-are))
       by-room true e f (inr z) = absurd (omega (arith, z .0 .room, eqb-true u (s .rows) e, rows-are))
       by-room false e f (inl z) = absurd (idle (z .0))
@@ -151,15 +155,15 @@ module _ {letters : List ℕ} {rules : List (List ℕ)} {start : State} {j₀ : 
           idle (inl h) = true≢false (sym h ∙ f)
           idle (inr h) = eqb-false u (s .rows) e (h ∙ sym rows-are)
       by-room false e f (inr z) = (
-        answers-new (s .terms) (candidateOf c) (s .counts) (x .before) room hb not-spent (none false f) (λ h. omega (arith, h, z .0 .room)) j (z .1 .stored) (order.breaking (s .terms .finals) (candidateOf c)) refl,
-        new (order.breaking (s .terms .finals) (candidateOf c)),
+        answers-new (s .terms) (candidateOf c) (s .counts) (x .before) room hb not-spent (none false f) (λ h. omega (arith, h, z .0 .room)) j (z .1 .stored) (breakingIn (s .terms) (candidateOf c)) refl,
+        new (breakingIn (s .terms) (candidateOf c)),
       )
         where
           new : (b : Bool) → Covering (firstRows (countsIn (bornBy b u (withRow (withJoin (s .counts)))) .used) j) t
           new true = z .1 .covering
           new false = z .1 .covering
 
-      by : (b : Bool) → l .covers ≡ b → Ending (s .terms .pass) (candidateOf c) u l (x .before) (x .table) j t → Right (decidedBy b (eqb u (s .rows)) (order.breaking (s .terms .finals) (candidateOf c)) (withJoin (s .counts)))
+      by : (b : Bool) → l .covers ≡ b → Ending (s .terms .pass) (candidateOf c) u l (x .before) (x .table) j t → Right (decidedBy b (eqb u (s .rows)) (breakingIn (s .terms) (candidateOf c)) (withJoin (s .counts)))
       by true e (inl z) = kept _ (z .1) (z .2) refl (answers-dropped (s .terms) (candidateOf c) (s .counts) (x .before) room hb not-spent (none true e))
       by true e (inr z) = absurd (true≢false (sym e ∙ z .0 .none))
       by false e z = by-room (eqb u (s .rows)) refl e z
@@ -169,21 +173,21 @@ module _ {letters : List ℕ} {rules : List (List ℕ)} {start : State} {j₀ : 
   row-there : (p i : ℕ) → i ≡ positionRow p u → rowOf (amongFirst (getD (x .before) i blank) p u) ≡ rowIn (firstRows u (x .before)) p
   row-there p i e = among-row (x .before) u p (getD (x .before) i blank) room (λ h. ap (λ (n : ℕ). getD (x .before) n blank) (e ∙ position-row p u h))
 
-  rule-there : ruleAt rules (s .place .rule) ≡ ruleAt (counted (x .running) (x .going)) (s .place .rule)
+  rule-there : ruleAt rules (s .place .rule) ≡ ruleAt (P .rules) (s .place .rule)
   rule-there = ap entryOf (sym (getD-take (start .rules) rules (s .place .rule) [] (omega (arith, go .here, length-take (start .rules) rules))))
 
-  formed-there : candidateOf c ≡ formedBy letters (ruleAt (counted (x .running) (x .going)) (s .place .rule)) (s .place) (rowIn (firstRows u (x .before)) (s .place .left)) (rowIn (firstRows u (x .before)) (s .place .right))
+  formed-there : candidateOf c ≡ formedBy letters (ruleAt (P .rules) (s .place .rule)) (s .place) (rowIn (firstRows u (x .before)) (s .place .left)) (rowIn (firstRows u (x .before)) (s .place .right))
   formed-there =
       x .formed
       ∙ ap (λ (r : Rule). formedBy letters r (s .place) (rowOf (amongFirst (getD (x .before) (s .left) blank) (s .place .left) u)) (rowOf (amongFirst (getD (x .before) (s .right) blank) (s .place .right) u))) rule-there
-      ∙ ap₂ (formedBy letters (ruleAt (counted (x .running) (x .going)) (s .place .rule)) (s .place)) (row-there (s .place .left) (s .left) (go .left)) (row-there (s .place .right) (s .right) (go .right))
+      ∙ ap₂ (formedBy letters (ruleAt (P .rules) (s .place .rule)) (s .place)) (row-there (s .place .left) (s .left) (go .left)) (row-there (s .place .right) (s .right) (go .right))
 
   -- ---- it stops the search
 
-  stopped-right : (o : Outcome) → Ends o → Right o → Answers (start .terms .budget) (passIn (record { budget = start .terms .budget; finals = start .terms .finals; pass = go .begun .pass; start = go .first .used; before = go .begun .before }) letters (counted (x .running) (x .going)) (go .first) (go .journal)) (go .first) (go .journal) j o
+  stopped-right : (o : Outcome) → Ends o → Right o → Answers (start .terms .budget) (passIn (termsOf P (start .terms .budget) (go .begun .pass) (go .first .used) (go .begun .before)) P (go .first) (go .journal)) (go .first) (go .journal) j o
   stopped-right o e a =
-      subst (λ (b : Terms). Answers (b .budget) (passIn b letters (counted (x .running) (x .going)) (go .first) (go .journal)) (go .first) (go .journal) j o) (go .begun .terms)
-      (pass-stopped (s .terms) letters (listsIn (x .table)) (counted (x .running) (x .going)) (go .first) (go .journal) (go .listed) (go .in-pass) (go .here) formed-there (x .settled .size) (a .0) e)
+      subst (λ (b : Terms). Answers (b .budget) (passIn b P (go .first) (go .journal)) (go .first) (go .journal) j o) (go .begun .terms)
+      (pass-stopped (s .terms) P (listsIn (x .table)) (go .first) (go .journal) (go .listed) (go .in-pass) (go .here) formed-there (x .settled .size) (a .0) e)
 
   pass-is : s .terms .pass ≡ go .begun .pass
   pass-is = ap (λ (b : Terms). b .pass) (go .begun .terms)
@@ -191,14 +195,14 @@ module _ {letters : List ℕ} {rules : List (List ℕ)} {start : State} {j₀ : 
   size-first : length j ≡ length (go .journal)
   size-first = x .settled .size ∙ go .in-pass .left .same
 
-  pub stopped-checked : (p : Stop) → Right (outcome.Stopped p) → Checked (target letters (counted (x .running) (x .going)) (start .terms .finals) (start .terms .budget) j₀) j₀ j (answerIn (stoppedIn s p))
+  pub stopped-checked : (p : Stop) → Right (outcome.Stopped p) → Checked (target P (start .terms .budget) j₀) j₀ j (answerIn (stoppedIn s p))
   stopped-checked p a =
-      subst (Checked (target letters (counted (x .running) (x .going)) (start .terms .finals) (start .terms .budget) j₀) j₀ j) (ap (λ (k : ℕ). answerTo k p) (sym pass-is) ∙ sym (stopped-answer s p))
-      (stops letters (counted (x .running) (x .going)) (start .terms .finals) (start .terms .budget) j₀ s (stands-on (x .running) (x .going) .rows) (stands-on (x .running) (x .going) .count) (go .begun .at-pass) (go .begun .before) size-first (outcome.Stopped p) (stopped-right (outcome.Stopped p) (stop-ends p) a) refl)
+      subst (Checked (target P (start .terms .budget) j₀) j₀ j) (ap (λ (k : ℕ). answerTo k p) (sym pass-is) ∙ sym (stopped-answer s p))
+      (stops P (start .terms .budget) j₀ s (stands-on (x .running) (x .going) .rows) (stands-on (x .running) (x .going) .count) (go .begun .at-pass) (go .begun .before) size-first (outcome.Stopped p) (stopped-right (outcome.Stopped p) (stop-ends p) a) refl)
 
   -- ---- the search stands on
 
-  resumes : {r : State} {t′ : List ℕ} → Stands letters (counted (x .running) (x .going)) (start .terms .finals) (start .terms .budget) j₀ r j t′ → Running letters rules start j₀ r j t′
+  resumes : {r : State} {t′ : List ℕ} → Stands P (start .terms .budget) j₀ r j t′ → Running letters rules start j₀ r j t′
   resumes st = record { idle = λ z. absurd (both (start .going) (started (x .running) (x .going)) z); sized = x .running .sized; whole = x .running .whole; stands = λ _. st }
     where
       both : (b : Bool) → T b → T (not b) → ⊥
@@ -219,7 +223,7 @@ module _ {letters : List ℕ} {rules : List (List ℕ)} {start : State} {j₀ : 
       rows-of (stop.Ended v w) = stands-on (x .running) (x .going) .rows
       rows-of (stop.Broken i w) = stands-on (x .running) (x .going) .rows
 
-      count-of : (p : Stop) → stoppedIn s p .rules ≡ length (counted (x .running) (x .going))
+      count-of : (p : Stop) → stoppedIn s p .rules ≡ length (P .rules)
       count-of (stop.Ended v w) = stands-on (x .running) (x .going) .count
       count-of (stop.Broken i w) = stands-on (x .running) (x .going) .count
 
@@ -234,7 +238,7 @@ module _ {letters : List ℕ} {rules : List (List ℕ)} {start : State} {j₀ : 
   -- ---- and goes on
 
   joins-more : countsIn became .joins ≡ s .counts .joins + 1
-  joins-more = by (l .covers) (eqb u (s .rows)) (order.breaking (s .terms .finals) (candidateOf c))
+  joins-more = by (l .covers) (eqb u (s .rows)) (breakingIn (s .terms) (candidateOf c))
     where
       by : (d f b : Bool) → countsIn (decidedBy d f b (withJoin (s .counts))) .joins ≡ s .counts .joins + 1
       by true f b = refl
@@ -247,17 +251,16 @@ module _ {letters : List ℕ} {rules : List (List ℕ)} {start : State} {j₀ : 
 
   pub going-running : (tn : List ℕ) → Notes t tn → {w : Counts} → outcome.Going w ≡ became → {t′ : List ℕ} {r : State} → GoesOn rules tn s w t′ r → Running letters rules start j₀ r j t′ × (candidatesLeft r < candidatesLeft s)
   going-running tn nt {w} e {t′} {r} g =
-      let rs = counted (x .running) (x .going) in
       let a = decided-right in
       let lists : listsIn tn ≡ listsIn (x .table) = nt .lists ∙ x .settled .lists in
       let n : countsIn became .used ≤ rowCells = omega (arith, a .0 .room, limit (x .running) (x .going)) in
       let cov : Covering (firstRows (countsIn became .used) j) tn = nt .covering (firstRows (countsIn became .used) j) (omega (arith, n, rows-length (countsIn became .used) j (omega (arith, a .0 .room, x .settled .size)))) (a .1) in
-      let on : Onward letters rs (start .terms .finals) (start .terms .budget) j₀ w r j t′ =
-      subst (λ (k : ℕ). GoesOnOver (take k rules) tn s w t′ r) rules-same g letters (start .terms .finals) (start .terms .budget) j₀ (go .first) (go .journal) j (sized (x .running) (x .going)) (stands-on (x .running) (x .going) .rows) (go .here) (go .begun)
+      let on : Onward P (start .terms .budget) j₀ w r j t′ =
+      subst (λ (k : ℕ). GoesOnOver (take k rules) tn s w t′ r) rules-same g P (start .terms .budget) j₀ (go .first) (go .journal) j (sized (x .running) (x .going)) (stands-on (x .running) (x .going) .rows) (go .here) (go .begun)
       (subst (λ (q : List ℕ). Listed (firstRows (go .first .used) (go .journal)) q) (sym lists) (go .listed))
       (λ q f.
-      subst (λ (z : List ℕ). InPass (s .terms) letters z rs (go .first) (go .journal) tn w j q) (sym lists)
-      (pass-going (s .terms) letters (listsIn (x .table)) rs (go .first) (go .journal) (go .listed) (go .in-pass) (go .here) formed-there (x .settled .size) (a .0) (sym e) cov (subst (λ (z : List ℕ). places.Follows z rs (s .place) q) lists f)))
+      subst (λ (z : List ℕ). InPass (s .terms) P z (go .first) (go .journal) tn w j q) (sym lists)
+      (pass-going (s .terms) P (listsIn (x .table)) (go .first) (go .journal) (go .listed) (go .in-pass) (go .here) formed-there (x .settled .size) (a .0) (sym e) cov (subst (λ (z : List ℕ). places.Follows z (P .rules) (s .place) q) lists f)))
       in
       let m : w .joins ≡ s .counts .joins + 1 = ap (λ (o : Outcome). countsIn o .joins) e ∙ joins-more in (
         resumes (on .stands),

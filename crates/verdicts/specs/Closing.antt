@@ -9,7 +9,6 @@ use borrow.Author.Tests.{eqb-true, eqb-false, eq-eqb}
 use Rattle.basics.specs.Tests.{iff-equal}
 use Rattle.working_order.specs.Journal.{absent}
 use Rattle.working_order.specs.Order.{Verdict, holds, broken, answer as answerWith, closeBy, close}
-use Rattle.calls.specs.Base.{starts}
 use Rattle.rows.specs.Base as order
 use Rattle.covers.specs.Rows.{Journal, firstRows}
 use Rattle.verdicts.specs.Meanings.{progressOf, verdictOf, outcomeOf, countsIn, totalsOf, answerBy, answerOf, totalsIn, answerTo}
@@ -50,7 +49,7 @@ added-none : (n u m : ℕ) → n ≡ u + m → eqb m 0 ≡ eqb n u
 added-none n u m e = iff-equal (eqb m 0) (eqb n u) (λ p. eq-eqb n u (omega (arith, e, eqb-true m 0 p))) (λ p. eq-eqb m 0 (omega (arith, e, eqb-true n u p)))
 
 -- pass k began with u rows
-module _ (u k : ℕ) (j : Journal) (N : order.Progress → order.Answer) where
+module _ (starts : ℕ → Bool) (u k : ℕ) (j : Journal) (N : order.Progress → order.Answer) where
   answer-given : (v : Verdict) (i : ℕ) (w : Counts) → w .used ≤ length j → answerBy v i (totalsOf w k) j ≡ answerWith v k i (progressOf w j)
   unfolding answerWith
   answer-given v i w h = ap (λ (n : ℕ). record { verdict = v; joins = w .joins; used = n; pass = k; row = i; journal = firstRows (w .used) j }) (sym (rows-length (w .used) j h))

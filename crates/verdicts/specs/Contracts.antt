@@ -1,17 +1,16 @@
 -- What a candidate, a pass and the whole search ask and ensure, each in one record. Definitions only. Assumes nothing.
 use mathlib.Core.Path.{_≡_}
-use mathlib.Core.List.{List, map}
+use mathlib.Core.List.{List}
 use Prim.Native.Nat.{ℕ, _+_, _≤_, _<_}
 use lib.ListN.{length}
 use Rattle.working_order.specs.Order.{check}
 use Rattle.calls.specs.Checking.{journalLimit}
-use Rattle.calls.specs.Rows.{entryOf}
 use Rattle.rows.specs.Base as order
-use Rattle.rows.specs.Meanings.{baseOf}
 use Rattle.covers.specs.Covers.{Covering}
 use Rattle.covers.specs.Rows.{Journal, firstRows, KeptBeyond}
 use Rattle.deciding.specs.declared.Counts.{Counts}
 use Rattle.deciding.specs.declared.Terms.{Terms}
+use Rattle.verdicts.specs.Problems.{Problem, algebraOf, rulesIn}
 use Rattle.verdicts.specs.Meanings.{outcomeOf, countsIn, answerOf, totalsIn}
 use Rattle.verdicts.specs.declared.Answer.{Answer}
 use Rattle.verdicts.specs.declared.Outcome.{Outcome}
@@ -40,6 +39,6 @@ pub record Checked (given : order.Answer) (old new : Journal) (r : Answer) : Typ
   pub beyond : KeptBeyond (totalsIn r .used) old new
   pub room : totalsIn r .used ≤ length old
 
--- the working order on the letters' relations, the rules and the mask of final states, with J rows and a budget of B joins
-unfoldable pub orderOf : List ℕ → List (List ℕ) → ℕ → ℕ → ℕ → order.Answer
-orderOf letters rules finals J B = check (baseOf letters finals) (map entryOf rules) J B
+-- the working order on a problem, with J rows and a budget of B joins
+unfoldable pub orderOf : Problem → ℕ → ℕ → order.Answer
+orderOf P J B = check (algebraOf P) (rulesIn P) J B

@@ -11,9 +11,10 @@ use borrow.Author.Tests.{eq-eqb, ne-eqb}
 use Rattle.relation.specs.Relation.{contained}
 use Rattle.working_order.specs.Journal.{absent}
 use Rattle.working_order.specs.Order.{broken, full, going, stopped, dropped, added, decide, consider}
-use Rattle.rows.specs.Base.{Row, Candidate, Progress, Outcome, breaking}
+use Rattle.rows.specs.Base.{Row, Candidate, Progress, Outcome}
 use Rattle.covers.specs.Rows.{Journal, firstRows, Stored}
 use Rattle.verdicts.specs.Meanings.{progressOf, withJoin, withRow, bornBy}
+use Rattle.verdicts.specs.Problems.{breakingIn}
 use Rattle.verdicts.specs.Walks.{considerIn}
 use Rattle.verdicts.specs.Contracts.{Answers}
 use Rattle.covers.specs.RowLaws.{rows-length}
@@ -30,7 +31,7 @@ module _ (t : Terms) (c : Candidate) (w : Counts) (j : Journal) (hu : w .used �
   abbrev given : Outcome
   given = considerIn t (length j) c (progressOf w j)
 
-  decided : (s d f b : Bool) → eqb (w .joins) (t .budget) ≡ s → dropped contained c rs ≡ d → eqb (length rs) (length j) ≡ f → breaking (t .finals) c ≡ b
+  decided : (s d f b : Bool) → eqb (w .joins) (t .budget) ≡ s → dropped contained c rs ≡ d → eqb (length rs) (length j) ≡ f → breakingIn t c ≡ b
       → given ≡ decide contained s d f b (t .pass) c (progressOf w j)
   unfolding consider
   decided s d f b p q r x = cc
@@ -80,14 +81,14 @@ module _ (t : Terms) (c : Candidate) (w : Counts) (j : Journal) (hu : w .used �
           }
 
       module _ (e : w .used ≡ length j → ⊥) (new : Journal) (s : Stored (w .used + 1) (added contained (t .pass) c rs) j new) where
-        fresh : (b : Bool) → breaking (t .finals) c ≡ b → given ≡ decide contained false false false b (t .pass) c (progressOf w j)
+        fresh : (b : Bool) → breakingIn t c ≡ b → given ≡ decide contained false false false b (t .pass) c (progressOf w j)
         fresh b x =
             decided false false false b (ne-eqb (w .joins) (t .budget) p) q (ne-eqb (length rs) (length j) (λ h. e (sym (rows-length (w .used) j hu) ∙ h))) x
 
         grown : _≡_ {A = Progress} (record { rows = firstRows (w .used + 1) new; joins = w .joins + 1 }) (record { rows = added contained (t .pass) c rs; joins = suc (w .joins) })
         grown = ap {B = Progress} (λ (l : List Row). record { rows = l; joins = w .joins + 1 }) (s .front) ∙ one-more (added contained (t .pass) c rs)
 
-        pub answers-new : (b : Bool) → breaking (t .finals) c ≡ b → Answers (t .budget) given w j new (bornBy b (w .used) (withRow (withJoin w)))
+        pub answers-new : (b : Bool) → breakingIn t c ≡ b → Answers (t .budget) given w j new (bornBy b (w .used) (withRow (withJoin w)))
         unfolding decide
         answers-new true x =
             record { answer = ap₂ (stopped broken) (sym (rows-length (w .used) j hu)) grown ∙ sym (fresh true x); beyond = s .beyond; grows = omega arith; adds = omega arith; room = omega arith; paid = omega arith }

@@ -1,3 +1,5 @@
+pub mod Problems
+pub mod ProblemLaws
 pub mod Meanings
 pub mod States
 pub mod Walks

@@ -2,7 +2,6 @@
 -- Assumes nothing.
 use mathlib.Core.Path.{_≡_, ap, ap₂, fun-ext}
 use mathlib.Core.Bool.{Bool, not, _&&_}
-use mathlib.Core.List.{List, map}
 use Prim.Native.Nat.{ℕ, _<_}
 use Rattle.relation.specs.DigitLaws.{some-same}
 use Rattle.relation.specs.Digits.{bit}
@@ -12,16 +11,16 @@ use Rattle.language.specs.Automaton.{Automaton}
 use Rattle.language.specs.WordRelation.{letterRelation, isFinal}
 use Rattle.working_order.specs.Order.{check}
 use Rattle.calls.specs.Base.{baseBy, base}
-use Rattle.calls.specs.Rows.{entryOf}
 use Rattle.rows.specs.Meanings.{letterIn}
 use Rattle.verdicts.specs.Contracts.{orderOf}
+use Rattle.verdicts.specs.Problems.{Problem, rulesIn}
 
-pub order-on : (A : Automaton) (letters : List ℕ) (rules : List (List ℕ)) (finals J B : ℕ) → ((c : ℕ) → value (letterIn letters c) ≡ letterRelation states (A .transitions) c)
-    → ((f : ℕ) → f < states → bit finals f ≡ isFinal A f) → orderOf letters rules finals J B ≡ check (base states A) (map entryOf rules) J B
+pub order-on : (A : Automaton) (P : Problem) (J B : ℕ) → ((c : ℕ) → value (letterIn (P .letters) c) ≡ letterRelation states (A .transitions) c)
+    → ((f : ℕ) → f < states → bit (P .finals) f ≡ isFinal A f) → orderOf P J B ≡ check (base states A) (rulesIn P) J B
 unfolding orderOf rejects
-order-on A letters rules finals J B h k =
-    ap₂ (λ (letter : ℕ → ℕ) (reject : ℕ → Bool). check (baseBy states letter reject) (map entryOf rules) J B) (fun-ext h)
+order-on A P J B h k =
+    ap₂ (λ (letter : ℕ → ℕ) (reject : ℕ → Bool). check (baseBy states letter reject) (rulesIn P) J B) (fun-ext h)
     (fun-ext
     (λ e.
     ap not
-    (some-same states (λ f. bit finals f && has states e 0 f) (λ f. isFinal A f && has states e 0 f) (λ f l. ap (λ (b : Bool). b && has states e 0 f) (k f l)))))
+    (some-same states (λ f. bit (P .finals) f && has states e 0 f) (λ f. isFinal A f && has states e 0 f) (λ f l. ap (λ (b : Bool). b && has states e 0 f) (k f l)))))

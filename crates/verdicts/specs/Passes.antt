@@ -1,26 +1,20 @@
 -- One turn of the check: what is left after a pass. Assumes nothing.
 use mathlib.Core.Path.{_≡_, refl, sym, ap, ap₂, _∙_, subst, subst₂}
-use mathlib.Core.List.{List, [], map}
+use mathlib.Core.List.{[]}
 use Prim.Native.Nat.{ℕ, suc, _+_, _-_, _≤_, _<_}
 use native.Mathlib.Numerals.{add-one}
 use native.Mathlib.Omega.{arith}
 use lib.Arith.{lt-of-le-ne}
 use lib.ListN.{length}
 use Rattle.basics.specs.Lists.{drop-later-same}
-use Rattle.relation.specs.Digits.{bit}
-use Rattle.relation.specs.Relation.{states}
-use Rattle.relation.specs.Representation.{value}
-use Rattle.working_order.specs.Candidates.{passCandidates}
 use Rattle.working_order.specs.Order.{close, passLimit, onePass, passes, check}
 use Rattle.working_order.specs.Repeating.{Repeats, repeated-dropped}
-use Rattle.calls.specs.Base.{starts}
-use Rattle.calls.specs.BaseLaws.{base-by-laws}
 use Rattle.calls.specs.Checking.{journalLimit}
-use Rattle.calls.specs.Rows.{entryOf}
 use Rattle.rows.specs.Base as order
 use Rattle.covers.specs.Rows.{Journal, firstRows, KeptBeyond}
-use Rattle.rows.specs.Meanings.{letterIn, formsOf, baseOf}
 use Rattle.verdicts.specs.Meanings.{progressOf, countsIn, inNextPass, totalsIn}
+use Rattle.verdicts.specs.Problems.{Problem, algebraOf, rulesIn, termsOf}
+use Rattle.verdicts.specs.ProblemLaws.{problem-laws}
 use Rattle.verdicts.specs.Walks.{walkIn, candidatesIn, passIn, Known}
 use Rattle.verdicts.specs.Contracts.{Answers, Checked, orderOf}
 use Rattle.covers.specs.RowLaws.{rows-length}
@@ -31,10 +25,10 @@ use Rattle.verdicts.specs.declared.Outcome.the-variants as outcome
 use Rattle.verdicts.specs.declared.Outcome.{Outcome}
 use Rattle.deciding.specs.declared.Terms.{Terms}
 
-module _ (letters : List ℕ) (rules : List (List ℕ)) (finals B : ℕ) where
+module _ (P : Problem) (B : ℕ) where
   -- passes from one on, where f bounds their number
   abbrev rest : ℕ → ℕ → ℕ → order.Progress → order.Answer
-  rest J = passes (baseOf letters finals) (map entryOf rules) J B
+  rest J = passes (algebraOf P) (rulesIn P) J B
 
   -- pass k is to begin at w over the journal j
   pub record AtPass (target : order.Answer) (j₀ : Journal) (w : Counts) (j : Journal) (k : ℕ) : Type 0 where
@@ -49,7 +43,7 @@ module _ (letters : List ℕ) (rules : List (List ℕ)) (finals B : ℕ) where
     -- none of its rows is added yet
     pub none-added : w .added ≡ 0
 
-  pub pass-first : (j : Journal) → AtPass (orderOf letters rules finals (length j) B) j (record { used = 0; joins = 0; added = 0 }) j 1
+  pub pass-first : (j : Journal) → AtPass (orderOf P (length j) B) j (record { used = 0; joins = 0; added = 0 }) j 1
   unfolding orderOf check firstRows
   pass-first j =
       record {
@@ -63,30 +57,30 @@ module _ (letters : List ℕ) (rules : List (List ℕ)) (finals B : ℕ) where
         none-added = refl;
       }
 
-module _ {letters : List ℕ} {rules : List (List ℕ)} {finals B : ℕ} {target : order.Answer} {j₀ : Journal} {w : Counts} {j : Journal} {k : ℕ} (a : AtPass letters rules finals B target j₀ w j k) where
+module _ {P : Problem} {B : ℕ} {target : order.Answer} {j₀ : Journal} {w : Counts} {j : Journal} {k : ℕ} (a : AtPass P B target j₀ w j k) where
   abbrev terms : Terms
-  terms = record { budget = B; finals = finals; pass = k; start = w .used; before = 0 }
+  terms = termsOf P B k (w .used) 0
 
   abbrev res : order.Outcome
-  res = passIn terms letters rules w j
+  res = passIn terms P w j
 
   hu : w .used ≤ length j
   hu = subst (λ (n : ℕ). w .used ≤ n) (sym (a .same)) (a .room)
 
-  pass-eq : res ≡ onePass (baseOf letters finals) (map entryOf rules) (length j₀) B k (progressOf w j)
+  pass-eq : res ≡ onePass (algebraOf P) (rulesIn P) (length j₀) B k (progressOf w j)
   unfolding onePass
-  pass-eq = ap (λ (n : ℕ). walkIn terms n (passCandidates (formsOf letters) (firstRows (w .used) j) 0 (map entryOf rules)) (progressOf w j)) (a .same)
+  pass-eq = ap (λ (n : ℕ). walkIn terms n (candidatesIn P (firstRows (w .used) j)) (progressOf w j)) (a .same)
 
   module _ {j′ : Journal} (s : length j′ ≡ length j) {r : Outcome} (x : Answers B res w j j′ r) where
     N : order.Progress → order.Answer
-    N = rest letters rules finals B (length j₀) (suc (length j₀) - k) (suc k)
+    N = rest P B (length j₀) (suc (length j₀) - k) (suc k)
 
     turned : endAnswer (endOf k r) j′ N ≡ target
     unfolding passes N
     turned =
-        close-end (w .used) k j′ N r (subst (λ (n : ℕ). countsIn r .used ≤ n) (sym s) (x .room)) (omega (arith, x .adds, a .none-added))
-        ∙ ap₂ (λ (u : ℕ) (y : order.Outcome). close starts k u N y) (sym (rows-length (w .used) j hu)) (x .answer ∙ pass-eq)
-        ∙ ap (λ (f : ℕ). rest letters rules finals B (length j₀) f k (progressOf w j)) (let e : suc (suc (length j₀) - k) ≡ suc (suc (length j₀)) - k = omega (arith, a .count, a .room) in e)
+        close-end (algebraOf P .starts) (w .used) k j′ N r (subst (λ (n : ℕ). countsIn r .used ≤ n) (sym s) (x .room)) (omega (arith, x .adds, a .none-added))
+        ∙ ap₂ (λ (u : ℕ) (y : order.Outcome). close (algebraOf P .starts) k u N y) (sym (rows-length (w .used) j hu)) (x .answer ∙ pass-eq)
+        ∙ ap (λ (f : ℕ). rest P B (length j₀) f k (progressOf w j)) (let e : suc (suc (length j₀) - k) ≡ suc (suc (length j₀)) - k = omega (arith, a .count, a .room) in e)
         ∙ a .left
 
     kept : KeptBeyond (countsIn r .used) j₀ j′
@@ -114,12 +108,12 @@ module _ {letters : List ℕ} {rules : List (List ℕ)} {finals B : ℕ} {target
       pub pass-room : w′ .used ≤ length j₀
       pass-room = subst (λ (n : ℕ). w′ .used ≤ n) (a .same) (xg .room)
 
-      pub pass-again : AtPass letters rules finals B target j₀ (inNextPass w′) j′ (k + 1)
+      pub pass-again : AtPass P B target j₀ (inNextPass w′) j′ (k + 1)
       unfolding N
       pass-again =
           record {
             left =
-                ap₂ (λ (f m : ℕ). rest letters rules finals B (length j₀) f m (progressOf w′ j′)) (let p : suc (suc (length j₀)) - (k + 1) ≡ suc (length j₀) - k = omega arith in p) (add-one k)
+                ap₂ (λ (f m : ℕ). rest P B (length j₀) f m (progressOf w′ j′)) (let p : suc (suc (length j₀)) - (k + 1) ≡ suc (length j₀) - k = omega arith in p) (add-one k)
                 ∙ ap (λ (z : PassEnd). endAnswer z j′ N) (sym e) ∙ turned;
             same = s ∙ a .same;
             beyond = xg .beyond ∙ drop-later-same (w .used) (w′ .used) j j₀ (xg .grows) (a .beyond);
@@ -131,7 +125,7 @@ module _ {letters : List ℕ} {rules : List (List ℕ)} {finals B : ℕ} {target
           }
 
       -- what this pass formed is known in the next
-      pub pass-known : length j₀ ≤ journalLimit → Known (w .used) (candidatesIn letters rules (firstRows (w′ .used) j′)) (firstRows (w′ .used) j′)
+      pub pass-known : length j₀ ≤ journalLimit → Known (w .used) (candidatesIn P (firstRows (w′ .used) j′)) (firstRows (w′ .used) j′)
       pass-known few z c m h =
-          repeated-dropped (baseOf letters finals) (base-by-laws states (λ d. value (letterIn letters d)) (bit finals)) (map entryOf rules) (length j) B k (progressOf w j) (progressOf w′ j′)
+          repeated-dropped (algebraOf P) (problem-laws P) (rulesIn P) (length j) B k (progressOf w j) (progressOf w′ j′)
           (omega (arith, rows-length (w′ .used) j′ (omega (arith, pass-room, s, a .same)), pass-room, few)) (sym (xg .answer)) c m (subst (λ (n : ℕ). Repeats n c) (sym (rows-length (w .used) j hu)) h)

@@ -14,20 +14,16 @@ use Rattle.basics.specs.Elements.{In}
 use Rattle.basics.specs.Lists.{getD-map}
 use Rattle.basics.specs.Tests.{and-fst, and-snd}
 use Rattle.language.specs.Grammar.{Symbol, terminal, nonterminal, Body, empty, one, two, Rule}
-use Rattle.relation.specs.Digits.{bit}
-use Rattle.relation.specs.Relation.{states, contained}
-use Rattle.relation.specs.Representation.{value}
+use Rattle.relation.specs.Relation.{contained}
 use Rattle.working_order.specs.Candidates.{sole, paired, bare}
 use Rattle.working_order.specs.Coverage.{dropped-added}
 use Rattle.working_order.specs.Journal.{absent}
 use Rattle.working_order.specs.Order.{Verdict, going, andThen, dropped, walk, retire, born, added}
 use Rattle.working_order.specs.Repeating.{PointsBelow, Repeats, pass-points}
 use Rattle.working_order.specs.Walking.{Post, step-post}
-use Rattle.calls.specs.BaseLaws.{base-by-laws}
 use Rattle.calls.specs.Checking.{journalLimit}
-use Rattle.calls.specs.Rows.{rowOf, blank, entryOf}
+use Rattle.calls.specs.Rows.{rowOf, blank}
 use Rattle.rows.specs.Base as order
-use Rattle.rows.specs.Meanings.{letterIn, baseOf}
 use Rattle.rows.specs.Forming.{Part, none, some, rowChoice, symbolChoice, leftPart, rightPart, partChoice, combined, formedBy, ruleAt}
 use Rattle.deciding.specs.declared.Place.{Place}
 use Rattle.places.specs.Lists.{rowIn, Listed}
@@ -36,6 +32,8 @@ use Rattle.covers.specs.Covers.{Covering}
 use Rattle.covers.specs.Rows.{Journal, firstRows}
 use Rattle.covers.specs.RowLaws.{rows-length, rows-at}
 use Rattle.verdicts.specs.Meanings.{progressOf, countsIn, withJoin}
+use Rattle.verdicts.specs.Problems.{Letters, Problem, algebraOf, rulesIn, problemIn}
+use Rattle.verdicts.specs.ProblemLaws.{problem-laws}
 use Rattle.verdicts.specs.Walks.{considerIn, walkIn, candidatesIn, isBefore, repeatsAt, Known}
 use Rattle.verdicts.specs.Contracts.{Ready, Answers}
 use Rattle.verdicts.specs.Deciding.{answers-dropped}
@@ -67,7 +65,7 @@ consider-goes : (t : Terms) (J : ℕ) (P : order.Progress → Type 0) (c : order
     → P (record { rows = s .rows; joins = suc (s .joins) }) → P (record { rows = added contained (t .pass) c (s .rows); joins = suc (s .joins) }) → P s′
 consider-goes t J P c s s′ e p q =
     subst (Post P R) (sym e)
-    (step-post (baseOf [] (t .finals)) J (t .budget) (t .pass) P R c s (λ e₁. tt) (λ e₁ e₂. p) (λ e₁ e₂ e₃. tt) (λ e₁ e₂ e₃ e₄. tt) (λ e₁ e₂ e₃ e₄. q))
+    (step-post (algebraOf (problemIn t [] [])) J (t .budget) (t .pass) P R c s (λ e₁. tt) (λ e₁ e₂. p) (λ e₁ e₂ e₃. tt) (λ e₁ e₂ e₃ e₄. tt) (λ e₁ e₂ e₃ e₄. q))
   where
     R : Verdict → ℕ → order.Progress → Type 0
     R v i u = Unit
@@ -83,13 +81,13 @@ module _ (A : List order.Row) (u : ℕ) (j : Journal) (room : u ≤ length j) (f
       λ rows h. List·getD-eq-default rows (rowOf blank) (omega (arith, h, few, e)) in
       ap (rowChoice i) (none (firstRows u j) (omega (arith, rows-length u j room)) ∙ sym (none A (omega (arith, kept .0, rows-length u j room))))
 
-  symbol-same : (letters : List ℕ) (s : Symbol) (i : ℕ) → PointsBelow (length A) (symbolChoice letters s i (rowIn A i) .pointer)
+  symbol-same : (letters : Letters) (s : Symbol) (i : ℕ) → PointsBelow (length A) (symbolChoice letters s i (rowIn A i) .pointer)
       → symbolChoice letters s i (rowIn (firstRows u j) i) ≡ symbolChoice letters s i (rowIn A i)
   symbol-same letters (terminal c) i h = refl
   symbol-same letters (nonterminal x) i h = row-same i h
 
   -- a candidate of rows of A is formed from the used rows as it is from A
-  formed-same : (letters : List ℕ) (x : Rule) (p : Place) → Repeats (length A) (formedBy letters x p (rowIn A (p .left)) (rowIn A (p .right)))
+  formed-same : (letters : Letters) (x : Rule) (p : Place) → Repeats (length A) (formedBy letters x p (rowIn A (p .left)) (rowIn A (p .right)))
       → formedBy letters x p (rowIn (firstRows u j) (p .left)) (rowIn (firstRows u j) (p .right)) ≡ formedBy letters x p (rowIn A (p .left)) (rowIn A (p .right))
   unfolding bare sole paired
   formed-same letters x p = by (x .body)
@@ -110,12 +108,12 @@ before-below n i e = by (ltb i n) refl e
     by true l h = inl (ltb-true i n l)
     by false l h = inr (eqb-true i absent h)
 
-part-below : (letters : List ℕ) (p : Part) (n i : ℕ) (r : order.Row) → PointsBelow n i → PointsBelow n (partChoice letters p i r .pointer)
+part-below : (letters : Letters) (p : Part) (n i : ℕ) (r : order.Row) → PointsBelow n i → PointsBelow n (partChoice letters p i r .pointer)
 part-below letters none n i r h = inr refl
 part-below letters (some (terminal c)) n i r h = inr refl
 part-below letters (some (nonterminal x)) n i r h = h
 
-formed-repeats : (n : ℕ) (letters : List ℕ) (x : Rule) (p : Place) (l r : order.Row) → repeatsAt n p ≡ true → (0 < n) × Repeats n (formedBy letters x p l r)
+formed-repeats : (n : ℕ) (letters : Letters) (x : Rule) (p : Place) (l r : order.Row) → repeatsAt n p ≡ true → (0 < n) × Repeats n (formedBy letters x p l r)
 unfolding bare sole paired
 formed-repeats n letters x p l r e =
     let both = and-snd (ltb 0 n) (isBefore n (p .left) && isBefore n (p .right)) e in
@@ -128,13 +126,13 @@ formed-repeats n letters x p l r e =
 
 -- ---- the loop
 
-module _ (t : Terms) (letters lists : List ℕ) (rules : List (List ℕ)) (w₀ : Counts) (j₀ : Journal) where
+module _ (t : Terms) (P : Problem) (lists : List ℕ) (w₀ : Counts) (j₀ : Journal) where
   -- the rows that the pass begins with
   abbrev first : List order.Row
   first = firstRows (w₀ .used) j₀
 
   abbrev whole : order.Outcome
-  whole = walkIn t (length j₀) (onward letters first lists rules 0) (progressOf w₀ j₀)
+  whole = walkIn t (length j₀) (onward (P .letters) first lists (P .rules) 0) (progressOf w₀ j₀)
 
   -- the invariant
   pub record InPass (covers : List ℕ) (w : Counts) (j : Journal) (p : Place) : Type 0 where
@@ -143,39 +141,39 @@ module _ (t : Terms) (letters lists : List ℕ) (rules : List (List ℕ)) (w₀ 
     -- each points to rows that the pass began with, or to none
     pub points : (c : order.Candidate) → In c candidates → Repeats (length first) c
     pub limit : length j₀ ≤ journalLimit
-    pub stands : Stands letters first lists rules p candidates
+    pub stands : Stands (P .letters) first lists (P .rules) p candidates
     pub left : Remaining (t .budget) whole (walkIn t (length j₀) candidates (progressOf w j)) w₀ j₀ w j
     pub kept : Kept first (firstRows (w .used) j)
     pub covering : Covering (firstRows (w .used) j) covers
 
   module _ (listed : Listed first lists) where
-    pub pass-start : (covers : List ℕ) (p : Place) → Ready t w₀ j₀ covers → Known (t .before) (candidatesIn letters rules first) first → Opens lists rules 0 p → InPass covers w₀ j₀ p
+    pub pass-start : (covers : List ℕ) (p : Place) → Ready t w₀ j₀ covers → Known (t .before) (candidatesIn P first) first → Opens lists (P .rules) 0 p → InPass covers w₀ j₀ p
     pass-start covers p r k o =
         record {
-          candidates = onward letters first lists rules 0;
+          candidates = onward (P .letters) first lists (P .rules) 0;
           known = k;
-          points = pass-points (baseOf letters (t .finals)) first (map entryOf rules) 0;
+          points = pass-points (algebraOf P) first (rulesIn P) 0;
           limit = r .limit;
-          stands = o letters first listed;
+          stands = o (P .letters) first listed;
           left = remaining-start (r .room) (r .paid);
           kept = (le-refl (length first), λ i l. refl);
           covering = r .covering;
         }
 
     module _ {covers : List ℕ} {w : Counts} {j : Journal} {p : Place} (g : InPass covers w j p) where
-      pub pass-end : length rules ≤ p .rule → Answers (t .budget) whole w₀ j₀ j (Going w)
+      pub pass-end : length (P .rules) ≤ p .rule → Answers (t .budget) whole w₀ j₀ j (Going w)
       unfolding walk
       pass-end h = by (g .candidates) (g .stands) (g .left)
         where
-          by : (cs : List order.Candidate) → Stands letters first lists rules p cs → Remaining (t .budget) whole (walkIn t (length j₀) cs (progressOf w j)) w₀ j₀ w j → Answers (t .budget) whole w₀ j₀ j (Going w)
+          by : (cs : List order.Candidate) → Stands (P .letters) first lists (P .rules) p cs → Remaining (t .budget) whole (walkIn t (length j₀) cs (progressOf w j)) w₀ j₀ w j → Answers (t .budget) whole w₀ j₀ j (Going w)
           by [] s l = remaining-none l
           by (c ∷ cs) s l = absurd (omega (arith, h, s .0))
 
       -- the candidate is formed from the used rows
-      module _ (h : p .rule < length rules) {c : order.Candidate} (e : c ≡ formedBy letters (ruleAt rules (p .rule)) p (rowIn (firstRows (w .used) j) (p .left)) (rowIn (firstRows (w .used) j) (p .right))) where
+      module _ (h : p .rule < length (P .rules)) {c : order.Candidate} (e : c ≡ formedBy (P .letters) (ruleAt (P .rules) (p .rule)) p (rowIn (firstRows (w .used) j) (p .left)) (rowIn (firstRows (w .used) j) (p .right))) where
         -- the candidate is the first that is left
         abbrev Next : order.Candidate → List order.Candidate → Type 0
-        Next d ds = (d ≡ c) × ((q : Place) → Follows lists rules p q → Stands letters first lists rules q ds)
+        Next d ds = (d ≡ c) × ((q : Place) → Follows lists (P .rules) p q → Stands (P .letters) first lists (P .rules) q ds)
             × Remaining (t .budget) whole (walkIn t (length j₀) (d ∷ ds) (progressOf w j)) w₀ j₀ w j
             × Known (t .before) (d ∷ ds) (firstRows (w .used) j)
             × ((f : order.Candidate) → In f (d ∷ ds) → Repeats (length first) f)
@@ -186,16 +184,16 @@ module _ (t : Terms) (letters lists : List ℕ) (rules : List (List ℕ)) (w₀ 
         next : (d : order.Candidate) × (ds : List order.Candidate) × Next d ds
         next = by (g .candidates) (g .stands) (g .left) (g .known) (g .points)
           where
-            by : (cs : List order.Candidate) → Stands letters first lists rules p cs → Remaining (t .budget) whole (walkIn t (length j₀) cs (progressOf w j)) w₀ j₀ w j → Known (t .before) cs (firstRows (w .used) j) → ((f : order.Candidate) → In f cs → Repeats (length first) f) → (d : order.Candidate) × (ds : List order.Candidate) × Next d ds
+            by : (cs : List order.Candidate) → Stands (P .letters) first lists (P .rules) p cs → Remaining (t .budget) whole (walkIn t (length j₀) cs (progressOf w j)) w₀ j₀ w j → Known (t .before) cs (firstRows (w .used) j) → ((f : order.Candidate) → In f cs → Repeats (length first) f) → (d : order.Candidate) × (ds : List order.Candidate) × Next d ds
             by [] z l k m = absurd (z h)
             by (d ∷ ds) z l k m = (
               d,
               ds,
               (
                 z .1
-                    ∙ sym (formed-same first (w .used) j (omega (arith, g .left .room, g .left .same)) few (g .kept) letters (ruleAt rules (p .rule)) p (subst (Repeats (length first)) (z .1) (m d (inl refl))))
+                    ∙ sym (formed-same first (w .used) j (omega (arith, g .left .room, g .left .same)) few (g .kept) (P .letters) (ruleAt (P .rules) (p .rule)) p (subst (Repeats (length first)) (z .1) (m d (inl refl))))
                     ∙ sym e,
-                λ q f. f letters first listed d ds z,
+                λ q f. f (P .letters) first listed d ds z,
                 l,
                 k,
                 m,
@@ -221,12 +219,12 @@ module _ (t : Terms) (letters lists : List ℕ) (rules : List (List ℕ)) (w₀ 
           gone : {w′ : Counts} → r ≡ Going w′ → Answers (t .budget) (considerIn t (length j) c (progressOf w j)) w j j′ (Going w′)
           gone z = subst (λ (o : Outcome). Answers (t .budget) (considerIn t (length j) c (progressOf w j)) w j j′ o) z a
 
-          pub pass-going : {w′ : Counts} → r ≡ Going w′ → {covers′ : List ℕ} → Covering (firstRows (countsIn r .used) j′) covers′ → {q : Place} → Follows lists rules p q → InPass covers′ w′ j′ q
+          pub pass-going : {w′ : Counts} → r ≡ Going w′ → {covers′ : List ℕ} → Covering (firstRows (countsIn r .used) j′) covers′ → {q : Place} → Follows lists (P .rules) p q → InPass covers′ w′ j′ q
           pass-going {w′} z {covers′} v {q} f =
               let x = gone z in
               record {
                 candidates = next .1;
-                known = consider-goes t (length j) (λ u. Known (t .before) (next .1) (u .rows)) c (progressOf w j) (progressOf w′ j′) (x .answer) others (λ z d m e. dropped-added (baseOf [] (t .finals)) (base-by-laws states (λ d. value (letterIn [] d)) (bit (t .finals))) (t .pass) c d (firstRows (w .used) j) (others z d m e));
+                known = consider-goes t (length j) (λ u. Known (t .before) (next .1) (u .rows)) c (progressOf w j) (progressOf w′ j′) (x .answer) others (λ z d m e. dropped-added (algebraOf P) (problem-laws P) (t .pass) c d (firstRows (w .used) j) (others z d m e));
                 points = λ d m. next .2 .4 d (inr m);
                 limit = g .limit;
                 stands = next .2 .1 q f;
@@ -236,10 +234,10 @@ module _ (t : Terms) (letters lists : List ℕ) (rules : List (List ℕ)) (w₀ 
               }
 
       -- a candidate that the pass before formed is one join, and nothing else
-      pub pass-over : p .rule < length rules → w .joins < t .budget → repeatsAt (t .before) p ≡ true → {q : Place} → Follows lists rules p q
+      pub pass-over : p .rule < length (P .rules) → w .joins < t .budget → repeatsAt (t .before) p ≡ true → {q : Place} → Follows lists (P .rules) p q
           → InPass covers (withJoin w) j q
       pass-over h paid e {q} f =
-          let c : order.Candidate = formedBy letters (ruleAt rules (p .rule)) p (rowIn (firstRows (w .used) j) (p .left)) (rowIn (firstRows (w .used) j) (p .right)) in
+          let c : order.Candidate = formedBy (P .letters) (ruleAt (P .rules) (p .rule)) p (rowIn (firstRows (w .used) j) (p .left)) (rowIn (firstRows (w .used) j) (p .right)) in
           let room : w .used ≤ length j = omega (arith, g .left .room, g .left .same) in
-          let z = formed-repeats (t .before) letters (ruleAt rules (p .rule)) p (rowIn (firstRows (w .used) j) (p .left)) (rowIn (firstRows (w .used) j) (p .right)) e in
+          let z = formed-repeats (t .before) (P .letters) (ruleAt (P .rules) (p .rule)) p (rowIn (firstRows (w .used) j) (p .left)) (rowIn (firstRows (w .used) j) (p .right)) e in
           pass-going h {c = c} refl refl (answers-dropped t c w j room (g .left .paid) (λ y. omega (arith, y, paid)) (there h {c = c} refl (z .0) (z .1))) refl (g .covering) f

@@ -18,6 +18,7 @@ use Rattle.covers.specs.Covers.{listsIn}
 use Rattle.deciding.specs.Budgets.{isSpent}
 use Rattle.deciding.specs.declared.Terms.{Terms}
 use Rattle.verdicts.specs.Passing.{pass-over}
+use Rattle.verdicts.specs.Problems.{RuleBytes, Problem, withRules}
 use Rattle.verdicts.specs.Running.{passesAt, Counted, PassesRights, PassesOver}
 use Rattle.verdicts.specs.Walks.{isBefore, repeatsAt}
 use Rattle.verdicts.specs.declared.Reached.{Reached}
@@ -54,15 +55,15 @@ module _ (b : Terms) (n : ℕ) (x : Reached) (e : passesAt b n x ≡ true) where
 
 module _ (t : List ℕ) (b : Terms) (x : Reached) where
   pub rights-none : PassesRights t b x x
-  rights-none = record { counted = counted-refl x; done = λ letters rules first j₁ j h e l k d. d }
+  rights-none = record { counted = counted-refl x; done = λ P first j₁ j h e l k d. d }
 
   pub rights-next : (n i m : ℕ) → PassesRights t b x (withRight x n i) → m ≡ afterIn (listsIn t) i → m < b .before → n < b .budget → PassesRights t b x (withRight x (n + 1) m)
   rights-next n i m v em hm hn =
       record {
         counted = counted-trans (v .counted) (record { joins = omega arith; used = refl; added = refl });
-        done = λ letters rules first j₁ j h e l k d q f.
-            pass-over b letters (listsIn t) rules first j₁ k
-            (v .done letters rules first j₁ j h e l k d (withRight x n m .place) (follows-right (listsIn t) rules (withRight x n i .place) m em (λ z. omega (arith, z, hm, l))))
+        done = λ P first j₁ j h e l k d q f.
+            pass-over b P (listsIn t) first j₁ k
+            (v .done P first j₁ j h e l k d (withRight x n m .place) (follows-right (listsIn t) (P .rules) (withRight x n i .place) m em (λ z. omega (arith, z, hm, l))))
             h hn (again e) f;
       }
     where
@@ -76,12 +77,12 @@ module _ (t : List ℕ) (b : Terms) (x : Reached) where
 
 -- ---- from place to place
 
-module _ (rules : List (List ℕ)) (t : List ℕ) (b : Terms) where
+module _ (rules : RuleBytes) (t : List ℕ) (b : Terms) where
   pub over-none : (x : Reached) → PassesOver rules t b x x
-  over-none x = record { counted = counted-refl x; stands = λ letters first j₁ j l k g. g }
+  over-none x = record { counted = counted-refl x; stands = λ P first j₁ j l k g. g }
 
   pub over-more : {x y z : Reached} → PassesOver rules t b x y → PassesOver rules t b y z → PassesOver rules t b x z
-  over-more u v = record { counted = counted-trans (u .counted) (v .counted); stands = λ letters first j₁ j l k g. v .stands letters first j₁ j l k (u .stands letters first j₁ j l k g) }
+  over-more u v = record { counted = counted-trans (u .counted) (v .counted); stands = λ P first j₁ j l k g. v .stands P first j₁ j l k (u .stands P first j₁ j l k g) }
 
   -- the candidate of the place, and then the rights after it
   pub over-left : (x r : Reached) (q : Place) → passesAt b (length rules) x ≡ true → PassesRights t b (withRight x (x .counts .joins + 1) (x .place .right)) r → Follows (listsIn t) rules (r .place) q
@@ -92,7 +93,7 @@ module _ (rules : List (List ℕ)) (t : List ℕ) (b : Terms) where
       let again = passes-again b (length rules) x e in (
         record {
           counted = record { joins = omega (arith, v .counted .joins); used = v .counted .used; added = v .counted .added };
-          stands = λ letters first j₁ j l k g. v .done letters rules first j₁ j here again l k (λ p z. pass-over b letters (listsIn t) rules first j₁ k g here paid again z) q f;
+          stands = λ P first j₁ j l k g. v .done (withRules P rules) first j₁ j here again l k (λ p z. pass-over b (withRules P rules) (listsIn t) first j₁ k g here paid again z) q f;
         },
         omega (arith, v .counted .joins),
       )

@@ -15,12 +15,13 @@ use Rattle.deciding.specs.declared.Fate.{Fate}
 use Rattle.deciding.specs.declared.State.{State}
 use Rattle.search_cover.specs.SeekLaws.{seek-finds}
 use Rattle.search_cover.specs.declared.CoverCursor.{CoverCursor}
-use Rattle.verdicts.specs.Running.{Sized, Goes, Stands, Running, MayFind, Found, fateFor, MaySettle}
+use Rattle.verdicts.specs.Problems.{Letters, RuleBytes, Problem}
+use Rattle.verdicts.specs.Running.{problemAt, Sized, Goes, Stands, Running, MayFind, Found, fateFor, MaySettle}
 
-module _ {letters : List ℕ} {rules : List (List ℕ)} {start : State} {j₀ : Journal} {s : State} {j : Journal} {t : List ℕ} (r : Running letters rules start j₀ s j t) (g : T (s .going)) where
-  -- the rules that are checked
-  abbrev pub counted : List (List ℕ)
-  counted = take (start .rules) rules
+module _ {letters : Letters} {rules : RuleBytes} {start : State} {j₀ : Journal} {s : State} {j : Journal} {t : List ℕ} (r : Running letters rules start j₀ s j t) (g : T (s .going)) where
+  -- what it works on
+  abbrev pub works-on : Problem
+  works-on = problemAt letters rules start
 
   pub started : T (start .going)
   started = by (start .going) refl
@@ -29,13 +30,13 @@ module _ {letters : List ℕ} {rules : List (List ℕ)} {start : State} {j₀ : 
       by true e = tt
       by false e = subst T (ap (λ (x : State). x .going) (r .idle (subst (λ (b : Bool). T (not b)) (sym e) tt) .0) ∙ e) g
 
-  pub stands-on : Stands letters counted (start .terms .finals) (start .terms .budget) j₀ s j t
+  pub stands-on : Stands works-on (start .terms .budget) j₀ s j t
   stands-on = r .stands started
 
-  pub goes-on : Goes letters counted (start .terms .finals) (start .terms .budget) j₀ s j t
+  pub goes-on : Goes works-on (start .terms .budget) j₀ s j t
   goes-on = stands-on .goes g
 
-  pub sized : Sized letters counted (start .terms .finals) (start .terms .budget) j₀
+  pub sized : Sized works-on (start .terms .budget) j₀
   sized = r .sized started
 
   pub used-fits : s .counts .used ≤ length j

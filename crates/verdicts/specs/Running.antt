@@ -29,6 +29,7 @@ use Rattle.verdicts.specs.Contracts.{Answers, Checked, orderOf}
 use Rattle.verdicts.specs.Meanings.{answerIn}
 use Rattle.verdicts.specs.Passes.{AtPass}
 use Rattle.verdicts.specs.Passing.{InPass}
+use Rattle.verdicts.specs.Problems.{Letters, RuleBytes, Problem, withRules, problemIn, termsOf, breakingIn}
 use Rattle.verdicts.specs.States.{opening}
 use Rattle.verdicts.specs.Walks.{candidatesIn, passIn, repeatsAt, Known}
 use Rattle.verdicts.specs.declared.Outcome.the-variants.{Going}
@@ -36,14 +37,14 @@ use Rattle.verdicts.specs.declared.Reached.{Reached}
 
 -- ---- where the search stands
 
--- on these letters, rules and final states, with a budget of B joins, over the journal j₀
-module _ (letters : List ℕ) (rules : List (List ℕ)) (finals B : ℕ) (j₀ : Journal) where
+-- on the problem P, with a budget of B joins, over the journal j₀
+module _ (P : Problem) (B : ℕ) (j₀ : Journal) where
   -- what it is to give
   abbrev pub target : order.Answer
-  target = orderOf letters rules finals (length j₀) B
+  target = orderOf P (length j₀) B
 
   pub record Sized : Type 0 where
-    pub all : 128 ≤ length letters
+    pub all : 128 ≤ length (P .letters)
     pub some : 0 < length j₀
     pub limit : length j₀ ≤ rowCells
 
@@ -51,10 +52,10 @@ module _ (letters : List ℕ) (rules : List (List ℕ)) (finals B : ℕ) (j₀ :
   pub record Begun (s : State) (w : Counts) (j : Journal) : Type 0 where
     pub pass : ℕ
     pub before : ℕ
-    pub at-pass : AtPass letters rules finals B target j₀ w j pass
+    pub at-pass : AtPass P B target j₀ w j pass
     pub fits : before ≤ rowCells
-    pub known : Known before (candidatesIn letters rules (firstRows (w .used) j)) (firstRows (w .used) j)
-    pub terms : s .terms ≡ record { budget = B; finals = finals; pass = pass; start = w .used; before = before }
+    pub known : Known before (candidatesIn P (firstRows (w .used) j)) (firstRows (w .used) j)
+    pub terms : s .terms ≡ termsOf P B pass (w .used) before
 
   -- at a place of the pass
   pub record Goes (s : State) (j : Journal) (t : List ℕ) : Type 0 where
@@ -62,8 +63,8 @@ module _ (letters : List ℕ) (rules : List (List ℕ)) (finals B : ℕ) (j₀ :
     pub journal : Journal
     pub begun : Begun s first journal
     pub listed : Listed (firstRows (first .used) journal) (listsIn t)
-    pub in-pass : InPass (s .terms) letters (listsIn t) rules first journal t (s .counts) j (s .place)
-    pub here : s .place .rule < length rules
+    pub in-pass : InPass (s .terms) P (listsIn t) first journal t (s .counts) j (s .place)
+    pub here : s .place .rule < length (P .rules)
     pub left : s .left ≡ positionRow (s .place .left) (s .counts .used)
     pub right : s .right ≡ positionRow (s .place .right) (s .counts .used)
     pub unspent : s .counts .joins < B
@@ -72,19 +73,23 @@ module _ (letters : List ℕ) (rules : List (List ℕ)) (finals B : ℕ) (j₀ :
   pub record Stands (s : State) (j : Journal) (t : List ℕ) : Type 0 where
     pub size : length j ≡ length j₀
     pub rows : s .rows ≡ length j₀
-    pub count : s .rules ≡ length rules
+    pub count : s .rules ≡ length (P .rules)
     pub goes : T (s .going) → Goes s j t
     pub ends : T (not (s .going)) → Checked target j₀ j (answerIn s)
 
+-- the problem of a search that begins in start, from its tables
+abbrev pub problemAt : Letters → RuleBytes → State → Problem
+problemAt letters rules start = problemIn (start .terms) letters (take (start .rules) rules)
+
 -- the search that began in start, over the journal j₀, stands in s, over j and t
-pub record Running (letters : List ℕ) (rules : List (List ℕ)) (start : State) (j₀ : Journal) (s : State) (j : Journal) (t : List ℕ) : Type 0 where
+pub record Running (letters : Letters) (rules : RuleBytes) (start : State) (j₀ : Journal) (s : State) (j : Journal) (t : List ℕ) : Type 0 where
   -- one that does not go on at all leaves all as it is
   pub idle : T (not (start .going)) → (s ≡ start) × (j ≡ j₀)
-  pub sized : T (start .going) → Sized letters (take (start .rules) rules) (start .terms .finals) (start .terms .budget) j₀
+  pub sized : T (start .going) → Sized (problemAt letters rules start) (start .terms .budget) j₀
   pub whole : T (start .going) → start .rules ≤ length rules
-  pub stands : T (start .going) → Stands letters (take (start .rules) rules) (start .terms .finals) (start .terms .budget) j₀ s j t
+  pub stands : T (start .going) → Stands (problemAt letters rules start) (start .terms .budget) j₀ s j t
 
-abbrev pub Ran : List ℕ → List (List ℕ) → State → Journal → Journal → List ℕ → State → Type 0
+abbrev pub Ran : Letters → RuleBytes → State → Journal → Journal → List ℕ → State → Type 0
 Ran letters rules start j₀ j t r = T (not (r .going)) × Running letters rules start j₀ r j t
 
 -- ---- a candidate
@@ -97,7 +102,7 @@ Found s c j t l = Seeking (candidateOf c) (firstRows (s .counts .used) j) (s .co
 
 -- what becomes of the candidate c, where a row covers it or not
 abbrev pub fateFor : State → Candidate → Bool → Fate
-fateFor s c covered = fateIn s (c .head) covered (order.breaking (s .terms .finals) (candidateOf c))
+fateFor s c covered = fateIn s (c .head) covered (breakingIn (s .terms) (candidateOf c))
 
 pub record MaySettle (s : State) (c : Candidate) (f : Fate) (l : CoverCursor) (j : Journal) (t : List ℕ) : Type 0 where
   pub fate : f ≡ fateFor s c (l .covers)
@@ -109,7 +114,7 @@ pub record MaySettle (s : State) (c : Candidate) (f : Fate) (l : CoverCursor) (j
   pub finds : Finds (candidateOf c) (firstRows (s .counts .used) j) (s .counts .used) t l
 
 -- the candidate of the place has been formed, looked for and settled
-pub record Considered (letters : List ℕ) (rules : List (List ℕ)) (start : State) (j₀ : Journal) (s : State) (c : Candidate) (f : Fate) (l : CoverCursor) (j : Journal) (t : List ℕ) : Type 0 where
+pub record Considered (letters : Letters) (rules : RuleBytes) (start : State) (j₀ : Journal) (s : State) (c : Candidate) (f : Fate) (l : CoverCursor) (j : Journal) (t : List ℕ) : Type 0 where
   pub before : Journal
   pub table : List ℕ
   pub running : Running letters rules start j₀ s before table
@@ -144,16 +149,16 @@ pub record MayDecide (s : State) : Type 0 where
   pub joins : s .counts .joins < s .terms .budget
   pub added : s .counts .added ≤ s .counts .used
 
-pub record MayOpen (rules : List (List ℕ)) (n : ℕ) (w : Counts) (t : List ℕ) : Type 0 where
+pub record MayOpen (rules : RuleBytes) (n : ℕ) (w : Counts) (t : List ℕ) : Type 0 where
   pub table : length t ≡ tableCells
   pub count : n ≤ length rules
   pub used : w .used ≤ rowCells
 
-pub record MayGoOn (rules : List (List ℕ)) (s : State) (w : Counts) (t : List ℕ) : Type 0 where
+pub record MayGoOn (rules : RuleBytes) (s : State) (w : Counts) (t : List ℕ) : Type 0 where
   pub opens : MayOpen rules (s .rules) w t
   pub pass : s .terms .pass ≤ 65535
 
-pub record MayAdvance (rules : List (List ℕ)) (s : State) (f : Fate) (l : CoverCursor) (t : List ℕ) : Type 0 where
+pub record MayAdvance (rules : RuleBytes) (s : State) (f : Fate) (l : CoverCursor) (t : List ℕ) : Type 0 where
   pub full : f .full ≡ fullIn s
   pub note : MayNote s l t
   pub decide : MayDecide s
@@ -163,16 +168,16 @@ pub record MayAdvance (rules : List (List ℕ)) (s : State) (f : Fate) (l : Cove
   pub limit : s .rows ≤ rowCells
 
 -- what every step between candidates keeps: the invariant `Stands`, at least the joins of `w`, the same budget
-pub record Onward (letters : List ℕ) (rules : List (List ℕ)) (finals B : ℕ) (j₀ : Journal) (w : Counts) (r : State) (j : Journal) (t : List ℕ) : Type 0 where
-  pub stands : Stands letters rules finals B j₀ r j t
+pub record Onward (P : Problem) (B : ℕ) (j₀ : Journal) (w : Counts) (r : State) (j : Journal) (t : List ℕ) : Type 0 where
+  pub stands : Stands P B j₀ r j t
   pub joins : w .joins ≤ r .counts .joins
   pub budget : r .terms .budget ≡ B
 
 -- ---- over what the pass before formed
 
 -- the candidate of p is done, with the counts w: the pass goes on at the place after it
-abbrev pub DoneAt : Terms → List ℕ → List (List ℕ) → List ℕ → Counts → Journal → Journal → Reached → Type 0
-DoneAt b letters rules t first j₁ j x = (q : Place) → places.Follows (listsIn t) rules (x .place) q → InPass b letters (listsIn t) rules first j₁ t (x .counts) j q
+abbrev pub DoneAt : Terms → Problem → List ℕ → Counts → Journal → Journal → Reached → Type 0
+DoneAt b P t first j₁ j x = (q : Place) → places.Follows (listsIn t) (P .rules) (x .place) q → InPass b P (listsIn t) first j₁ t (x .counts) j q
 
 -- the candidate may be passed over
 abbrev pub passesAt : Terms → ℕ → Reached → Bool
@@ -187,49 +192,49 @@ pub record Counted (x r : Reached) : Type 0 where
 -- if the candidate of x has been handled, then so have all up to that of r, which has the same rule and left row
 pub record PassesRights (t : List ℕ) (b : Terms) (x r : Reached) : Type 0 where
   pub counted : Counted x r
-  pub done : (letters : List ℕ) (rules : List (List ℕ)) (first : Counts) (j₁ j : Journal) → x .place .rule < length rules → repeatsAt (b .before) (x .place) ≡ true
-      → b .before ≤ rowCells → Listed (firstRows (first .used) j₁) (listsIn t) → DoneAt b letters rules t first j₁ j x → DoneAt b letters rules t first j₁ j r
+  pub done : (P : Problem) (first : Counts) (j₁ j : Journal) → x .place .rule < length (P .rules) → repeatsAt (b .before) (x .place) ≡ true
+      → b .before ≤ rowCells → Listed (firstRows (first .used) j₁) (listsIn t) → DoneAt b P t first j₁ j x → DoneAt b P t first j₁ j r
 
 -- from a place to a place
-pub record PassesOver (rules : List (List ℕ)) (t : List ℕ) (b : Terms) (x r : Reached) : Type 0 where
+pub record PassesOver (rules : RuleBytes) (t : List ℕ) (b : Terms) (x r : Reached) : Type 0 where
   pub counted : Counted x r
-  pub stands : (letters : List ℕ) (first : Counts) (j₁ j : Journal) → b .before ≤ rowCells → Listed (firstRows (first .used) j₁) (listsIn t)
-      → InPass b letters (listsIn t) rules first j₁ t (x .counts) j (x .place) → InPass b letters (listsIn t) rules first j₁ t (r .counts) j (r .place)
+  pub stands : (P : Problem) (first : Counts) (j₁ j : Journal) → b .before ≤ rowCells → Listed (firstRows (first .used) j₁) (listsIn t)
+      → InPass b (withRules P rules) (listsIn t) first j₁ t (x .counts) j (x .place) → InPass b (withRules P rules) (listsIn t) first j₁ t (r .counts) j (r .place)
 
 -- ---- the steps between candidates
 
 -- a pass over the first n rules begins at w, and comes to x: a search that opens there stands on
-abbrev pub Opens : List (List ℕ) → List ℕ → ℕ → Terms → Counts → List ℕ → Reached → Type 0
+abbrev pub Opens : RuleBytes → List ℕ → ℕ → Terms → Counts → List ℕ → Reached → Type 0
 Opens rules t n b w t′ x =
-    (letters : List ℕ) (finals B : ℕ) (j₀ j : Journal) (k m : ℕ) (s : State) → s .rules ≡ n → Sized letters (take n rules) finals B j₀ → s .rows ≡ length j₀
-    → AtPass letters (take n rules) finals B (target letters (take n rules) finals B j₀) j₀ w j k → b ≡ record { budget = B; finals = finals; pass = k; start = w .used; before = m }
-    → m ≤ rowCells → Known m (candidatesIn letters (take n rules) (firstRows (w .used) j)) (firstRows (w .used) j) → Covering (firstRows (w .used) j) t → Onward letters (take n rules) finals B j₀ w (opening s b x) j t′
+    (P : Problem) (B : ℕ) (j₀ j : Journal) (k m : ℕ) (s : State) → let Q = withRules P (take n rules) in s .rules ≡ n → Sized Q B j₀ → s .rows ≡ length j₀
+    → AtPass Q B (target Q B j₀) j₀ w j k → b ≡ termsOf P B k (w .used) m
+    → m ≤ rowCells → Known m (candidatesIn Q (firstRows (w .used) j)) (firstRows (w .used) j) → Covering (firstRows (w .used) j) t → Onward Q B j₀ w (opening s b x) j t′
 
 -- the pass in which s stands is over, with the counts w
-abbrev pub Closes : List (List ℕ) → List ℕ → State → Counts → List ℕ → State → Type 0
+abbrev pub Closes : RuleBytes → List ℕ → State → Counts → List ℕ → State → Type 0
 Closes rules t s w t′ r =
-    (letters : List ℕ) (finals B : ℕ) (j₀ : Journal) (first : Counts) (j₁ j : Journal) → Sized letters (take (s .rules) rules) finals B j₀ → s .rows ≡ length j₀
-    → Begun letters (take (s .rules) rules) finals B j₀ s first j₁ → length j ≡ length j₁ → Answers B (passIn (s .terms) letters (take (s .rules) rules) first j₁) first j₁ j (Going w)
-    → Covering (firstRows (w .used) j) t → Onward letters (take (s .rules) rules) finals B j₀ w r j t′
+    (P : Problem) (B : ℕ) (j₀ : Journal) (first : Counts) (j₁ j : Journal) → let Q = withRules P (take (s .rules) rules) in Sized Q B j₀ → s .rows ≡ length j₀
+    → Begun Q B j₀ s first j₁ → length j ≡ length j₁ → Answers B (passIn (s .terms) Q first j₁) first j₁ j (Going w)
+    → Covering (firstRows (w .used) j) t → Onward Q B j₀ w r j t′
 
 -- the pass in which s stands has come to a place
-abbrev pub GoesFrom : List (List ℕ) → List ℕ → State → Reached → List ℕ → State → Type 0
+abbrev pub GoesFrom : RuleBytes → List ℕ → State → Reached → List ℕ → State → Type 0
 GoesFrom rules t s x t′ r =
-    (letters : List ℕ) (finals B : ℕ) (j₀ : Journal) (first : Counts) (j₁ j : Journal) → Sized letters (take (s .rules) rules) finals B j₀ → s .rows ≡ length j₀ → Begun letters (take (s .rules) rules) finals B j₀ s first j₁
-    → Listed (firstRows (first .used) j₁) (listsIn t) → InPass (s .terms) letters (listsIn t) (take (s .rules) rules) first j₁ t (x .counts) j (x .place)
-    → Onward letters (take (s .rules) rules) finals B j₀ (x .counts) r j t′
+    (P : Problem) (B : ℕ) (j₀ : Journal) (first : Counts) (j₁ j : Journal) → let Q = withRules P (take (s .rules) rules) in Sized Q B j₀ → s .rows ≡ length j₀ → Begun Q B j₀ s first j₁
+    → Listed (firstRows (first .used) j₁) (listsIn t) → InPass (s .terms) Q (listsIn t) first j₁ t (x .counts) j (x .place)
+    → Onward Q B j₀ (x .counts) r j t′
 
 -- the candidate at which s stands is done, with the counts w
-abbrev pub GoesOnOver : List (List ℕ) → List ℕ → State → Counts → List ℕ → State → Type 0
+abbrev pub GoesOnOver : RuleBytes → List ℕ → State → Counts → List ℕ → State → Type 0
 GoesOnOver rules t s w t′ r =
-    (letters : List ℕ) (finals B : ℕ) (j₀ : Journal) (first : Counts) (j₁ j : Journal) → Sized letters rules finals B j₀ → s .rows ≡ length j₀ → s .place .rule < length rules → Begun letters rules finals B j₀ s first j₁
-    → Listed (firstRows (first .used) j₁) (listsIn t) → DoneAt (s .terms) letters rules t first j₁ j (record { counts = w; place = s .place })
-    → Onward letters rules finals B j₀ w r j t′
+    (P : Problem) (B : ℕ) (j₀ : Journal) (first : Counts) (j₁ j : Journal) → let Q = withRules P rules in Sized Q B j₀ → s .rows ≡ length j₀ → s .place .rule < length rules → Begun Q B j₀ s first j₁
+    → Listed (firstRows (first .used) j₁) (listsIn t) → DoneAt (s .terms) Q t first j₁ j (record { counts = w; place = s .place })
+    → Onward Q B j₀ w r j t′
 
-abbrev pub GoesOn : List (List ℕ) → List ℕ → State → Counts → List ℕ → State → Type 0
+abbrev pub GoesOn : RuleBytes → List ℕ → State → Counts → List ℕ → State → Type 0
 GoesOn rules t s w t′ r = GoesOnOver (take (s .rules) rules) t s w t′ r
 
 -- a candidate more
-abbrev pub Advances : List (List ℕ) → List ℕ → State → Fate → CoverCursor → List ℕ → State → Type 0
+abbrev pub Advances : RuleBytes → List ℕ → State → Fate → CoverCursor → List ℕ → State → Type 0
 Advances rules t s f l t′ r =
-    (letters : List ℕ) (start : State) (j₀ j : Journal) (c : Candidate) → Considered letters rules start j₀ s c f l j t → Running letters rules start j₀ r j t′ × (candidatesLeft r < candidatesLeft s)
+    (letters : Letters) (start : State) (j₀ j : Journal) (c : Candidate) → Considered letters rules start j₀ s c f l j t → Running letters rules start j₀ r j t′ × (candidatesLeft r < candidatesLeft s)

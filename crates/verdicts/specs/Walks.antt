@@ -2,7 +2,7 @@
 -- Definitions only. Assumes nothing.
 use mathlib.Core.Path.{_≡_}
 use mathlib.Core.Bool.{Bool, true, _&&_, _||_}
-use mathlib.Core.List.{List, map}
+use mathlib.Core.List.{List, []}
 use Prim.Native.Nat.{ℕ, _<_}
 use lib.Dec.{eqb, ltb}
 use lib.ListN.{length}
@@ -12,28 +12,26 @@ use Rattle.working_order.specs.Candidates.{passCandidates}
 use Rattle.working_order.specs.Journal.{absent}
 use Rattle.working_order.specs.Order.{dropped, consider, walk}
 use Rattle.working_order.specs.Repeating.{Repeats}
-use Rattle.calls.specs.Base.{breaksBy}
-use Rattle.calls.specs.Rows.{entryOf}
-use Rattle.rows.specs.Base.{Row, Candidate, Progress, Outcome, rejecting}
-use Rattle.rows.specs.Meanings.{formsOf}
+use Rattle.rows.specs.Base.{Row, Candidate, Progress, Outcome}
 use Rattle.deciding.specs.declared.Place.{Place}
 use Rattle.covers.specs.Rows.{Journal, firstRows}
 use Rattle.deciding.specs.declared.Counts.{Counts}
 use Rattle.deciding.specs.declared.Terms.{Terms}
 use Rattle.verdicts.specs.Meanings.{progressOf}
+use Rattle.verdicts.specs.Problems.{Problem, algebraOf, rulesIn, problemIn}
 
 abbrev pub considerIn : Terms → ℕ → Candidate → Progress → Outcome
-considerIn t J = consider contained (breaksBy (rejecting (t .finals))) J (t .budget) (t .pass)
+considerIn t J = consider contained (algebraOf (problemIn t [] []) .breaks) J (t .budget) (t .pass)
 
 abbrev pub walkIn : Terms → ℕ → List Candidate → Progress → Outcome
-walkIn t J = walk contained (breaksBy (rejecting (t .finals))) J (t .budget) (t .pass)
+walkIn t J = walk contained (algebraOf (problemIn t [] []) .breaks) J (t .budget) (t .pass)
 
-abbrev pub candidatesIn : List ℕ → List (List ℕ) → List Row → List Candidate
-candidatesIn letters rules rows = passCandidates (formsOf letters) rows 0 (map entryOf rules)
+abbrev pub candidatesIn : Problem → List Row → List Candidate
+candidatesIn P rows = passCandidates (algebraOf P .forms) rows 0 (rulesIn P)
 
 -- the whole pass that begins at w over the journal j
-abbrev pub passIn : Terms → List ℕ → List (List ℕ) → Counts → Journal → Outcome
-passIn t letters rules w j = walkIn t (length j) (candidatesIn letters rules (firstRows (w .used) j)) (progressOf w j)
+abbrev pub passIn : Terms → Problem → Counts → Journal → Outcome
+passIn t P w j = walkIn t (length j) (candidatesIn P (firstRows (w .used) j)) (progressOf w j)
 
 -- ---- what the pass before formed
 

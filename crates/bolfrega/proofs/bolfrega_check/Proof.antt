@@ -9,7 +9,7 @@ returns c =
     let a = c .before .before .before .before .before .before .before .before .args in
     let told = c .before .before .before .checked in
     let zero = c .before .before .before .before .before .blank in
-    over-zeros (a .file .now) (a .rows) (a .budget) 0 (a .buffer .now) _ (zero .result) (zero .ensures) (told .result) (told .ensures) (c .details-of .result) (c .details-of .ensures)
+    over-zeros (a .file .now) (a .rows) (record { budget = a .budget }) 0 (a .buffer .now) _ (zero .result) (zero .ensures) (told .result) (told .ensures) (c .details-of .result) (c .details-of .ensures)
 
 pub bolfrega-check-spec : {M : Type 1} → statement M
 bolfrega-check-spec =

@@ -44,12 +44,14 @@ use Rattle.lent.proofs.Functions.{Callee, callee, Function, Knows, Walk, walked
 use Rattle.lent.proofs.Locals.{its, field-of, sets}
 use Rattle.lent.proofs.LocalArrays.{lifts, lays, uses, from-start, big-lit, array-made, array-gone, lends-whole, whole-back, lends-array, array-back, shares-array, array-unshared}
 use Rattle.lent.proofs.Opening.{Arguments, entering}
-use Rattle.lent.proofs.Parameters.{Param, shared, handed, number, dropped, stays, typed-all}
+use Rattle.lent.proofs.Parameters.{Param, shared, handed, datum, dropped, stays, typed-all}
+use Rattle.lent.proofs.PlainData.{Row as RowOf, val, Means, makes}
 use Rattle.plan_file.specs.declared.Refusal.{Refusal}
 use Rattle.plan_file.proofs.Refusal as F
 use Rattle.plan_file.proofs.Refusal.Laws as F′
+use Rattle.calls.specs.declared.Options.{Options}
 use Rattle.calls.specs.declared.Row.{Row}
-use Rattle.calls.proofs.Types.{RowType, Entry}
+use Rattle.calls.proofs.Types.{RowType, options, Entry}
 use Rattle.deciding.specs.declared.State.{State}
 use Rattle.deciding.proofs.State as S
 use Rattle.deciding.proofs.State.Laws as S′
@@ -63,7 +65,7 @@ use Rattle.search.proofs.run.Met as running-thm
 use Rattle.checker.specs.declared.Checked.{Checked}
 use Rattle.starting.specs.declared.Start.{Start}
 use Rattle.checker.specs.Answers.{checkedBy}
-use Rattle.checker.specs.Contracts.{Checks}
+use Rattle.checker.specs.Contracts.{settingsOver, Checks}
 use Rattle.starting.specs.Starting.{Starts}
 use Rattle.checker.proofs.Answered.{checks-by}
 use Rattle.starting.proofs.Started.{may-run}
@@ -84,7 +86,7 @@ use Rattle.checker.proofs.check.Statement as stated
 use Rattle.checker.proofs.check.Code as code
 
 abbrev ps : List (Param 2)
-ps = dropped (shared 0 tt (plain (λ _. u8))) (λ κs x f. refl) ∷ handed 1 tt (plain (λ _. RowType)) ∷ dropped (number w64) (λ κs x f. refl) ∷ []
+ps = dropped (shared 0 tt (plain (λ _. u8))) (λ κs x f. refl) ∷ handed 1 tt (plain (λ _. RowType)) ∷ dropped (datum options (λ x f. refl)) (λ κs x f. refl) ∷ []
 
 abbrev callees : List Callee
 callees =
@@ -98,7 +100,7 @@ abbrev checkedVal : Checked → Val
 checkedVal c = EL.val Ck.the-type Ck′.the-laws c
 
 module _ {M : Type 1} (𝓤 : URA M) (H : Heap 𝓤) (A : Atoms 𝓤) (W : Given 𝓤 H A) (mem : Memory → SProp 𝓤) (run : Routine → Fun 𝓤) (κ κ′ : Lft) (q q′ : Share)
-    (s : RefT (List ℕ)) (j : RefT (List Row)) (x : ℕ) (gs : Room u8 (length (now s))) (gj : Room RowType (length (now j))) (gx : x < 2 ^ 64) where
+    (s : RefT (List ℕ)) (j : RefT (List Row)) (x : Options) (gs : Room u8 (length (now s))) (gj : Room RowType (length (now j))) (gx : Means options x) where
   abbrev Prepares : Contract 𝓤
   Prepares = Called 𝓤 H A prepare.ended (prepare.clauses 𝓤 H A mem run)
 
@@ -109,7 +111,7 @@ module _ {M : Type 1} (𝓤 : URA M) (H : Heap 𝓤) (A : Atoms 𝓤) (W : Given
   a = (s, (j, (x, tt)))
 
   abbrev at : Vals f.signature (κ, (κ′, tt))
-  at = (slice-vals s, (slice-vals j, (vint w64 x ∷ [], tt)))
+  at = (slice-vals s, (slice-vals j, (val options x ∷ [], tt)))
 
   abbrev Post : Val → SProp 𝓤
   Post = walkOf 𝓤 H A f.ended (stays ps) (f.clauses 𝓤 H A mem run) .post (((κ, (κ′, tt)), (q, (q′, tt)), tt, a, at), tt)
@@ -145,7 +147,7 @@ module _ {M : Type 1} (𝓤 : URA M) (H : Heap 𝓤) (A : Atoms 𝓤) (W : Given
     table = from-start u32 b₃ δ₃ ts
 
     abbrev Table : Item 𝓤
-    Table = ‵ (MutSlice (named 0) (ν₃ ∷ []) u32 .own table (sliceVal (b₃, 0) 45824 ∷ []))
+    Table = ‵ (MutSlice (named 0) (ν₃ ∷ []) u32 .own table (sliceVal (b₃, 0) tableCells ∷ []))
 
     -- `prepare` is lent all three
     abbrev to-prepare : Prepares .Ghost
@@ -155,7 +157,7 @@ module _ {M : Type 1} (𝓤 : URA M) (H : Heap 𝓤) (A : Atoms 𝓤) (W : Given
         (q, (fullShare, (fullShare, (fullShare, tt)))),
         tt,
         (s, (letters, (rules, (table, (length (now j), (x, tt)))))),
-        (slice-vals s, (vptr b₁ 0 ∷ [], (vptr b₂ 0 ∷ [], (sliceVal (b₃, 0) 45824 ∷ [], (vint w64 (length (now j)) ∷ [], (vint w64 x ∷ [], tt)))))),
+        (slice-vals s, (vptr b₁ 0 ∷ [], (vptr b₂ 0 ∷ [], (sliceVal (b₃, 0) tableCells ∷ [], (vint w64 (length (now j)) ∷ [], (val options x ∷ [], tt)))))),
       ),
       tt,
     )
@@ -166,7 +168,7 @@ module _ {M : Type 1} (𝓤 : URA M) (H : Heap 𝓤) (A : Atoms 𝓤) (W : Given
     asks-prepare : ts ≡ replicate tableCells end → ent 𝓤 (⋆ 𝓤 H A For-prepare) (Prepares .pre to-prepare)
     asks-prepare e =
         qed W For-prepare ∵ says ! e $ nothing ! $ move ! (3 ∷ 0 ∷ []) $ join ! $ move ! (4 ∷ 0 ∷ []) $ join ! $ move ! (5 ∷ 0 ∷ []) $ join ! $ move ! (1 ∷ 0 ∷ []) $ join ! $ frame ! $
-        nothing ! $ owned ! u64 (Is u64) (uint-makes 𝓤 H A W w64) x _ (refl, gx) $ fjoin ! $ owned ! usize (Is usize) (uint-makes 𝓤 H A W w64) (length (now j)) _ (refl, gj .0) $ fjoin ! $
+        nothing ! $ owned ! (RowOf options) (Is (RowOf options)) (makes options 𝓤 H A) x _ gx $ fjoin ! $ owned ! usize (Is usize) (uint-makes 𝓤 H A W w64) (length (now j)) _ (refl, gj .0) $ fjoin ! $
         move ! (2 ∷ 0 ∷ []) $ fjoin ! $ move ! (2 ∷ 0 ∷ []) $ fjoin ! $ move ! (2 ∷ 0 ∷ []) $ fjoin ! $ move ! (1 ∷ 0 ∷ []) $ fjoin ! $ done !
 
     abbrev From-prepare : List ℕ → List (List ℕ) → List ℕ → Item 𝓤
@@ -191,7 +193,7 @@ module _ {M : Type 1} (𝓤 : URA M) (H : Heap 𝓤) (A : Atoms 𝓤) (W : Given
           (q′, (fullShare, (fullShare, (fullShare, tt)))),
           tt,
           (j, (table, (letters, (rules, (st, tt))))),
-          (slice-vals j, (sliceVal (b₃, 0) 45824 ∷ [], (sliceVal (b₁, 0) 128 ∷ [], (sliceVal (b₂, 0) 256 ∷ [], (S′.lowered st ∷ [], tt))))),
+          (slice-vals j, (sliceVal (b₃, 0) tableCells ∷ [], (sliceVal (b₁, 0) 128 ∷ [], (sliceVal (b₂, 0) 256 ∷ [], (S′.lowered st ∷ [], tt))))),
         ),
         tt,
       )
@@ -232,11 +234,11 @@ module _ {M : Type 1} (𝓤 : URA M) (H : Heap 𝓤) (A : Atoms 𝓤) (W : Given
     state-is : Is S.the-row (b .state) (S′.lowered (b .state) ∷ [])
     state-is = LL.owed B.the-type B′.the-laws b _ b-is .1 .0
 
-  module _ (𝓣 : Tables 𝓤 H) (known : Knows 𝓤 H A mem run 𝓣 callees) (wt : Arguments (code.function .locals) (sliceVal (s .ptr) (length (now s)) ∷ sliceVal (j .ptr) (length (now j)) ∷ vint w64 x ∷ [])) where
-    from-entry : ent 𝓤 (onEntry 𝓤 H A f.signature (κ, (κ′, tt)) (q, (q′, tt)) a at) (WpFn 𝓤 H (𝓣 .C) (𝓣 .Λ) code.function (sliceVal (s .ptr) (length (now s)) ∷ sliceVal (j .ptr) (length (now j)) ∷ vint w64 x ∷ []) Post)
+  module _ (𝓣 : Tables 𝓤 H) (known : Knows 𝓤 H A mem run 𝓣 callees) (wt : Arguments (code.function .locals) (sliceVal (s .ptr) (length (now s)) ∷ sliceVal (j .ptr) (length (now j)) ∷ val options x ∷ [])) where
+    from-entry : ent 𝓤 (onEntry 𝓤 H A f.signature (κ, (κ′, tt)) (q, (q′, tt)) a at) (WpFn 𝓤 H (𝓣 .C) (𝓣 .Λ) code.function (sliceVal (s .ptr) (length (now s)) ∷ sliceVal (j .ptr) (length (now j)) ∷ val options x ∷ []) Post)
     from-entry =
         let fm = fmOf 𝓤 H (W .laws) 𝓣 in
-        qed W ((‵ (flft κ q) ⊛ ‵ (flft κ′ q′) ⊛ ‵ ftrue) ∷ ‵ (owns (ShrSlice (named 0) κ u8 ∷ MutSlice (named 1) κ′ RowType ∷ u64 ∷ []) a at) ∷ []) ∵
+        qed W ((‵ (flft κ q) ⊛ ‵ (flft κ′ q′) ⊛ ‵ ftrue) ∷ ‵ (owns (ShrSlice (named 0) κ u8 ∷ MutSlice (named 1) κ′ RowType ∷ RowOf options ∷ []) a at) ∷ []) ∵
         split ! $ move ! (1 ∷ []) $ split ! $ move ! (3 ∷ []) $ fsplit ! $ move ! (1 ∷ []) $ fsplit ! $ keep ! (5 ∷ 3 ∷ 2 ∷ 0 ∷ []) $
         entering ! (𝓣 .C) (𝓣 .Λ) code.function _ wt (λ bs.
         let l₄ = bs .1 .1 .1 .1 .0 in
@@ -253,15 +255,15 @@ module _ {M : Type 1} (𝓤 : URA M) (H : Heap 𝓤) (A : Atoms 𝓤) (W : Given
         sets ! (addr ! (from ! (stop !))) (init ! 18 refl (tt, tt)) $
         sets ! (agg ! (and-then ! (its ! 18 refl) (and-then ! (big-lit ! (lit< tt)) (no-more !)))) (init ! 16 refl (tt, (tt, (record { fits = lit< tt }, tt)))) $
         -- where it starts
-        lends-whole ! tt u64 128 ls n₁ l₄ 36 refl (λ ν₁ δ₁. lends-whole ! tt Entry 256 rs n₂ l₅ 36 refl (λ ν₂ δ₂. lends-array ! tt u32 ts 45824 n₃ (lit< tt, lit< tt) l₆ 36 refl (λ ν₃ δ₃.
+        lends-whole ! tt u64 128 ls n₁ l₄ 36 refl (λ ν₁ δ₁. lends-whole ! tt Entry 256 rs n₂ l₅ 36 refl (λ ν₂ δ₂. lends-array ! tt u32 ts tableCells n₃ (lit< tt, lit< tt) l₆ 36 refl (λ ν₃ δ₃.
         lifts ! 54 refl $ lifts ! 53 refl $ uses ! (For-prepare l₄ l₅ l₆ ls rs ts ν₁ δ₁ ν₂ δ₂ ν₃ δ₃) (raw (Prepares .pre (to-prepare l₄ l₅ l₆ ls rs ts ν₁ δ₁ ν₂ δ₂ ν₃ δ₃))) (asks-prepare l₄ l₅ l₆ ls rs ts ν₁ δ₁ ν₂ δ₂ ν₃ δ₃ e₃) $
-        calls-lasting prepare.ended (prepare.clauses 𝓤 H A mem run) (to-prepare l₄ l₅ l₆ ls rs ts ν₁ δ₁ ν₂ δ₂ ν₃ δ₃ .0) tt (λ b ws. Starts (now s) (length (now j)) x (ws .1 .0) (ws .1 .1 .0) (ws .1 .1 .1 .0) b) (λ b ws. id⊢ 𝓤 _) B′.lowered (B′.lowers .val-is) ! fm (known .0)
+        calls-lasting prepare.ended (prepare.clauses 𝓤 H A mem run) (to-prepare l₄ l₅ l₆ ls rs ts ν₁ δ₁ ν₂ δ₂ ν₃ δ₃ .0) tt (λ b ws. Starts (now s) (settingsOver x (now j)) (ws .1 .0) (ws .1 .1 .0) (ws .1 .1 .1 .0) b) (λ b ws. id⊢ 𝓤 _) B′.lowered (B′.lowers .val-is) ! fm (known .0)
         (past-head ! (and-then ! (its ! 42 refl) (and-then ! (its ! 22 refl) (and-then ! (its ! 20 refl) (and-then ! (its ! 16 refl) (and-then ! (its ! 30 refl) (and-then ! (its ! 38 refl) (no-more !)))))))) (λ b ws h b-is.
         let xs = ws .1 .0 in
         let ys = ws .1 .1 .0 in
         let zs = ws .1 .1 .1 .0 in
         drop ! $ use2 W (From-prepare l₄ l₅ l₆ ls rs ts ν₁ δ₁ ν₂ δ₂ ν₃ δ₃ xs ys zs) (from-prepare l₄ l₅ l₆ ls rs ts ν₁ δ₁ ν₂ δ₂ ν₃ δ₃ xs ys zs) $ split ! $ lays ! 47 $
-        split ! $ split ! $ whole-back ! tt u64 tt ν₁ δ₁ 128 xs l₄ 37 refl (λ m₁. split ! $ split ! $ whole-back ! tt Entry tt ν₂ δ₂ 256 ys l₅ 35 refl (λ m₂. split ! $ array-back ! tt u32 ν₃ δ₃ 45824 zs l₆ 32 refl (λ m₃.
+        split ! $ split ! $ whole-back ! tt u64 tt ν₁ δ₁ 128 xs l₄ 37 refl (λ m₁. split ! $ split ! $ whole-back ! tt Entry tt ν₂ δ₂ 256 ys l₅ 35 refl (λ m₂. split ! $ array-back ! tt u32 ν₃ δ₃ tableCells zs l₆ 32 refl (λ m₃.
         land ! (from ! (stop !)) (init ! 28 refl (typed 𝓤 H A W B.the-type B′.the-laws b b-is .0)) $
         sets ! (addr ! (from ! (fld ! refl (hop ! (look-in ! 40 (sub ! 0 refl (whole !))) (stop !))))) (init ! 14 refl (tt, tt)) $
         sets ! (agg ! (and-then ! (its ! 14 refl) (and-then ! (field-of ! 40 refl refl refl) (no-more !)))) (init ! 12 refl (tt, (tt, (record { fits = gj .0 }, tt)))) $
@@ -272,26 +274,26 @@ module _ {M : Type 1} (𝓤 : URA M) (H : Heap 𝓤) (A : Atoms 𝓤) (W : Given
         sets ! (addr ! (from ! (stop !))) (init ! 2 refl (tt, tt)) $
         sets ! (agg ! (and-then ! (its ! 2 refl) (and-then ! (lit ! tt) (no-more !)))) (init ! 0 refl (tt, (tt, (record { fits = lit< tt }, tt)))) $
         -- the search
-        lends-array ! tt u32 zs 45824 m₃ (lit< tt, lit< tt) l₆ 32 refl (λ μ₃ ε₃. shares-array ! tt u64 xs 128 m₁ (lit< tt, lit< tt) l₄ 38 refl (λ μ₁ ε₁. shares-array ! tt Entry ys 256 m₂ (lit< tt, lit< tt) l₅ 38 refl (λ μ₂ ε₂.
+        lends-array ! tt u32 zs tableCells m₃ (lit< tt, lit< tt) l₆ 32 refl (λ μ₃ ε₃. shares-array ! tt u64 xs 128 m₁ (lit< tt, lit< tt) l₄ 38 refl (λ μ₁ ε₁. shares-array ! tt Entry ys 256 m₂ (lit< tt, lit< tt) l₅ 38 refl (λ μ₂ ε₂.
         lifts ! 55 refl $ lifts ! 54 refl $ uses ! (For-run l₄ l₅ l₆ xs ys zs μ₁ ε₁ μ₂ ε₂ μ₃ ε₃ (b .state) (state-is b b-is)) (raw (Runs .pre (to-run l₄ l₅ l₆ xs ys zs μ₁ ε₁ μ₂ ε₂ μ₃ ε₃ (b .state) (state-is b b-is))))
-        (asks-run l₄ l₅ l₆ xs ys zs μ₁ ε₁ μ₂ ε₂ μ₃ ε₃ (b .state) (state-is b b-is) (may-run (now s) (length (now j)) x xs ys zs b h (now j) refl)) $
+        (asks-run l₄ l₅ l₆ xs ys zs μ₁ ε₁ μ₂ ε₂ μ₃ ε₃ (b .state) (state-is b b-is) (may-run (now s) (settingsOver x (now j)) xs ys zs b h (now j) refl)) $
         calls-lasting running.ended (running.clauses 𝓤 H A mem run) (to-run l₄ l₅ l₆ xs ys zs μ₁ ε₁ μ₂ ε₂ μ₃ ε₃ (b .state) (state-is b b-is) .0) tt (λ r us. Ran xs ys (b .state) (now j) (us .0) (us .1 .0) r) (λ r us. id⊢ 𝓤 _) S′.lowered (S′.lowers .val-is) ! fm (known .1 .0)
         (past-head ! (and-then ! (its ! 12 refl) (and-then ! (its ! 8 refl) (and-then ! (its ! 4 refl) (and-then ! (its ! 0 refl) (and-then ! (field-of ! 28 refl refl refl) (no-more !))))))) (λ st us o st-is.
         drop ! $ use2 W (From-run l₄ l₅ l₆ xs ys zs μ₁ ε₁ μ₂ ε₂ μ₃ ε₃ (b .state) (state-is b b-is) (us .0) (us .1 .0)) (from-run l₄ l₅ l₆ xs ys zs μ₁ ε₁ μ₂ ε₂ μ₃ ε₃ (b .state) (state-is b b-is) (us .0) (us .1 .0)) $ learn ! (λ nj.
         split ! $ split ! $ lays ! 49 $ lays ! 50 $
-        split ! $ split ! $ array-back ! tt u32 μ₃ ε₃ 45824 (us .1 .0) l₆ 33 refl (λ k₃. split ! $ array-unshared ! tt u64 μ₁ xs l₄ 37 refl $ array-unshared ! tt Entry μ₂ ys l₅ 34 refl $
+        split ! $ split ! $ array-back ! tt u32 μ₃ ε₃ tableCells (us .1 .0) l₆ 33 refl (λ k₃. split ! $ array-unshared ! tt u64 μ₁ xs l₄ 37 refl $ array-unshared ! tt Entry μ₂ ys l₅ 34 refl $
         land ! (from ! (stop !)) (init ! 26 refl (typed 𝓤 H A W S.the-type S′.the-laws st st-is .0)) $
         -- the answer
         calls-plain saying.ended (saying.clauses 𝓤 H A mem run) (to-saying (b .refusal) (refusal-is b b-is) st st-is) tt (asks-saying (b .refusal) (refusal-is b b-is) st st-is) (λ c. c ≡ checkedBy (b .refusal) (answerIn st)) (λ c vs. id⊢ 𝓤 _)
         checkedVal (EL.tells Ck.the-type Ck′.the-laws) ! fm (known .1 .1 .0) (and-then ! (field-of ! 28 refl refl refl) (and-then ! (its ! 26 refl) (no-more !))) (λ c ec c-is.
         land ! (from ! (stop !)) (init ! 44 refl (checked-typed c c-is)) $
-        array-gone ! u64 128 xs l₄ 36 m₁ refl $ array-gone ! Entry 256 ys l₅ 34 m₂ refl $ array-gone ! u32 45824 (us .1 .0) l₆ 32 k₃ refl $
+        array-gone ! u64 128 xs l₄ 36 m₁ refl $ array-gone ! Entry 256 ys l₅ 34 m₂ refl $ array-gone ! u32 tableCells (us .1 .0) l₆ 32 k₃ refl $
         move ! (46 ∷ 47 ∷ 48 ∷ 49 ∷ []) $ closing ! 4 refl refl $
         by ! (exits c (us .0) c-is nj (checks-by (now s) x (now j) xs ys zs (us .1 .0) b h (us .0) st o c ec))))))))))))))))))))
 
 walk : Walk it
 walk M 𝓤 H A W mem run 𝓣 known κs qs bounds a g are =
-    from-entry 𝓤 H A W mem run (κs .0) (κs .1 .0) (qs .0) (qs .1 .0) (a .0) (a .1 .0) (a .1 .1 .0) (are .0 .0 .1) (are .1 .0 .0 .1) (are .1 .1 .0 .1) 𝓣 known (typed-all ps 𝓤 H A W κs a are)
+    from-entry 𝓤 H A W mem run (κs .0) (κs .1 .0) (qs .0) (qs .1 .0) (a .0) (a .1 .0) (a .1 .1 .0) (are .0 .0 .1) (are .1 .0 .0 .1) (are .1 .1 .0) 𝓣 known (typed-all ps 𝓤 H A W κs a are)
 
 pub check-spec : {M : Type 1} → stated.statement M
 unfolding code.routine tablesOf

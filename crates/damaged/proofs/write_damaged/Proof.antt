@@ -39,10 +39,12 @@ use Rattle.lent.proofs.Locals.{its, field-of, sets}
 use Rattle.lent.proofs.LocalArrays.{lifts, lays, uses, front-length, array-made, array-gone, lends-front, front-back, shares-front, front-unshared}
 use Rattle.lent.proofs.Opening.{Arguments, entering}
 use Rattle.lent.proofs.Parameters.{Param, shared, handed, number, datum, dropped, stays, typed-all}
+use Rattle.lent.proofs.PlainData.{Row as RowOf, val, Means}
 use Rattle.calls.specs.Rows.{rowOf, blank}
+use Rattle.calls.specs.declared.Options.{Options}
 use Rattle.calls.specs.declared.Row.{Row}
 use Rattle.calls.specs.Checking.{journalLimit}
-use Rattle.calls.proofs.Types.{row}
+use Rattle.calls.proofs.Types.{row, options}
 use Rattle.calls.proofs.Row as T
 use Rattle.calls.proofs.Row.Laws as T′
 use Rattle.checker.specs.Contracts as contracts
@@ -76,7 +78,7 @@ use Rattle.damaged.proofs.write_damaged.Code as code
 
 abbrev ps : List (Param 2)
 ps =
-    dropped (shared 0 tt (plain (λ _. u8))) (λ κs x f. refl) ∷ dropped (number w64) (λ κs x f. refl) ∷ dropped (number w64) (λ κs x f. refl) ∷ dropped (number w64) (λ κs x f. refl)
+    dropped (shared 0 tt (plain (λ _. u8))) (λ κs x f. refl) ∷ dropped (number w64) (λ κs x f. refl) ∷ dropped (datum options (λ x f. refl)) (λ κs x f. refl) ∷ dropped (number w64) (λ κs x f. refl)
     ∷ dropped (datum row (λ x f. refl)) (λ κs x f. refl) ∷ dropped (number w64) (λ κs x f. refl) ∷ dropped (number w64) (λ κs x f. refl) ∷ handed 1 tt (plain (λ _. u8)) ∷ []
 
 abbrev callees : List Callee
@@ -89,20 +91,20 @@ abbrev it : Function
 it = record { lifetimes = 2; outlives = []; params = ps; result = f.signature .result; clauses = f.clauses; callees = callees; mir = code.function }
 
 module _ {M : Type 1} (𝓤 : URA M) (H : Heap 𝓤) (A : Atoms 𝓤) (W : Given 𝓤 H A) (mem : Memory → SProp 𝓤) (run : Routine → Fun 𝓤) (κ κ′ : Lft) (q q′ : Share)
-    (s : RefT (List ℕ)) (rows budget place : ℕ) (x : Row) (used named′ : ℕ) (b : RefT (List ℕ))
-    (g-rows : rows < 2 ^ 64) (g-budget : budget < 2 ^ 64) (g-place : place < 2 ^ 64) (g-x : Is T.the-row x (T′.lowered x ∷ [])) (g-used : used < 2 ^ 64) (g-named : named′ < 2 ^ 64) (gb : Room u8 (length (b .now))) where
+    (s : RefT (List ℕ)) (rows : ℕ) (o : Options) (place : ℕ) (x : Row) (used named′ : ℕ) (b : RefT (List ℕ))
+    (g-rows : rows < 2 ^ 64) (g-o : Means options o) (g-place : place < 2 ^ 64) (g-x : Is T.the-row x (T′.lowered x ∷ [])) (g-used : used < 2 ^ 64) (g-named : named′ < 2 ^ 64) (gb : Room u8 (length (b .now))) where
   abbrev at : Vals f.signature (κ, (κ′, tt))
-  at = (slice-vals s, (vint w64 rows ∷ [], (vint w64 budget ∷ [], (vint w64 place ∷ [], (T′.lowered x ∷ [], (vint w64 used ∷ [], (vint w64 named′ ∷ [], (slice-vals b, tt))))))))
+  at = (slice-vals s, (vint w64 rows ∷ [], (val options o ∷ [], (vint w64 place ∷ [], (T′.lowered x ∷ [], (vint w64 used ∷ [], (vint w64 named′ ∷ [], (slice-vals b, tt))))))))
 
   abbrev Post : Val → SProp 𝓤
-  Post = walkOf 𝓤 H A f.ended (stays ps) (f.clauses 𝓤 H A mem run) .post (((κ, (κ′, tt)), (q, (q′, tt)), tt, (s, (rows, (budget, (place, (x, (used, (named′, (b, tt)))))))), at), tt)
+  Post = walkOf 𝓤 H A f.ended (stays ps) (f.clauses 𝓤 H A mem run) .post (((κ, (κ′, tt)), (q, (q′, tt)), tt, (s, (rows, (o, (place, (x, (used, (named′, (b, tt)))))))), at), tt)
 
   exits : (r : Writing) (bs : List ℕ) → Is G.the-row r (G′.lowered r ∷ []) → length bs ≡ length (b .now)
-      → WritesDamaged (s .now) rows budget place x used named′ (b .now) bs r
+      → WritesDamaged (s .now) rows o place x used named′ (b .now) bs r
       → ent 𝓤 (⋆ 𝓤 H A (‵ (flft κ q) ∷ ‵ (flft κ′ q′) ∷ ‵ ftrue ∷ ‵ (finally u8 (b .name) bs) ∷ [])) (Post (G′.lowered r))
   exits r bs is l e =
       qed W (‵ (flft κ q) ∷ ‵ (flft κ′ q′) ∷ ‵ ftrue ∷ ‵ (finally u8 (b .name) bs) ∷ []) ∵
-      suffices ! _ (ends-at 𝓤 H A f.ended (stays ps) (f.clauses 𝓤 H A mem run) W (((κ, (κ′, tt)), (q, (q′, tt)), tt, (s, (rows, (budget, (place, (x, (used, (named′, (b, tt)))))))), at), tt) (G′.lowered r) r (tt, (tt, (tt, (tt, (tt, (tt, (tt, (bs, tt)))))))) (tt, (tt, (tt, (tt, (tt, (tt, (tt, (l, tt))))))))) $ says ! e $
+      suffices ! _ (ends-at 𝓤 H A f.ended (stays ps) (f.clauses 𝓤 H A mem run) W (((κ, (κ′, tt)), (q, (q′, tt)), tt, (s, (rows, (o, (place, (x, (used, (named′, (b, tt)))))))), at), tt) (G′.lowered r) r (tt, (tt, (tt, (tt, (tt, (tt, (tt, (bs, tt)))))))) (tt, (tt, (tt, (tt, (tt, (tt, (tt, (l, tt))))))))) $ says ! e $
       move ! (1 ∷ 2 ∷ []) $ join ! $ move ! (1 ∷ 0 ∷ []) $ join ! $ frame ! $ nothing ! $ move ! (1 ∷ 0 ∷ []) $ fjoin ! $ nothing ! $ fjoin ! $ nothing ! $ fjoin ! $ nothing ! $ fjoin ! $ nothing ! $ fjoin ! $ nothing ! $ fjoin ! $ nothing ! $ fjoin ! $ nothing ! $ fjoin ! $ frame ! $
       owned ! G.the-row (Is G.the-row) (EL.makes G.the-type G′.the-plain 𝓤 H A) r _ is $ done !
 
@@ -113,13 +115,13 @@ module _ {M : Type 1} (𝓤 : URA M) (H : Heap 𝓤) (A : Atoms 𝓤) (W : Given
   Bytes = ‵ (ShrSlice (named 0) κ u8 .own s (slice-vals s))
 
   abbrev given-vals : List Val
-  given-vals = file ∷ vint w64 rows ∷ vint w64 budget ∷ vint w64 place ∷ T′.lowered x ∷ vint w64 used ∷ vint w64 named′ ∷ sliceVal (b .ptr) (length (b .now)) ∷ []
+  given-vals = file ∷ vint w64 rows ∷ val options o ∷ vint w64 place ∷ T′.lowered x ∷ vint w64 used ∷ vint w64 named′ ∷ sliceVal (b .ptr) (length (b .now)) ∷ []
 
   module _ (𝓣 : Tables 𝓤 H) (known : Knows 𝓤 H A mem run 𝓣 callees) (wt : Arguments (code.function .locals) given-vals) where
-    from-entry : ent 𝓤 (onEntry 𝓤 H A f.signature (κ, (κ′, tt)) (q, (q′, tt)) (s, (rows, (budget, (place, (x, (used, (named′, (b, tt)))))))) at) (WpFn 𝓤 H (𝓣 .C) (𝓣 .Λ) code.function given-vals Post)
+    from-entry : ent 𝓤 (onEntry 𝓤 H A f.signature (κ, (κ′, tt)) (q, (q′, tt)) (s, (rows, (o, (place, (x, (used, (named′, (b, tt)))))))) at) (WpFn 𝓤 H (𝓣 .C) (𝓣 .Λ) code.function given-vals Post)
     from-entry =
         let fm = fmOf 𝓤 H (W .laws) 𝓣 in
-        qed W ((‵ (flft κ q) ⊛ ‵ (flft κ′ q′) ⊛ ‵ ftrue) ∷ ‵ (owns (ShrSlice (named 0) κ u8 ∷ usize ∷ u64 ∷ usize ∷ T.the-row ∷ usize ∷ usize ∷ MutSlice (named 1) κ′ u8 ∷ []) (s, (rows, (budget, (place, (x, (used, (named′, (b, tt)))))))) at) ∷ []) ∵
+        qed W ((‵ (flft κ q) ⊛ ‵ (flft κ′ q′) ⊛ ‵ ftrue) ∷ ‵ (owns (ShrSlice (named 0) κ u8 ∷ usize ∷ RowOf options ∷ usize ∷ T.the-row ∷ usize ∷ usize ∷ MutSlice (named 1) κ′ u8 ∷ []) (s, (rows, (o, (place, (x, (used, (named′, (b, tt)))))))) at) ∷ []) ∵
         split ! $ move ! (1 ∷ []) $ split ! $ move ! (3 ∷ []) $ fsplit ! $ move ! (1 ∷ []) $ fsplit ! $ drop ! $ fsplit ! $ drop ! $ fsplit ! $ drop ! $ fsplit ! $ drop ! $ fsplit ! $ drop ! $ fsplit ! $ drop ! $ fsplit ! $ keep ! (5 ∷ 3 ∷ 2 ∷ 0 ∷ []) $
         entering ! (𝓣 .C) (𝓣 .Λ) code.function _ wt (λ bs.
         let l₉ = bs .1 .1 .1 .1 .1 .1 .1 .1 .1 .0 in
@@ -133,11 +135,11 @@ module _ {M : Type 1} (𝓤 : URA M) (H : Heap 𝓤) (A : Atoms 𝓤) (W : Given
         sets ! (agg ! (and-then ! (its ! 16 refl) (and-then ! (its ! 22 refl) (no-more !)))) (init ! 14 refl (tt, (tt, (record { fits = n-is .1 }, tt)))) $
         lends-front ! tt T.the-row xs n few (rows-room n (en .1)) l₉ 24 refl (λ ν δ.
         lifts ! 48 refl $ use1 W (Bytes ⊛ Bytes) (shr-slice-copy 𝓤 H A W (named 0) κ u8 .twice s _) $ split ! $ lays ! 49 $ lifts ! 47 refl $
-        uses ! (For-checks 𝓤 H A W mem run κ q s file l₉ n (take n xs) ν δ budget g-budget) (raw (Checks 𝓤 H A W mem run κ q s file l₉ n (take n xs) ν δ budget g-budget .pre (to-checks 𝓤 H A W mem run κ q s file l₉ n (take n xs) ν δ budget g-budget))) (asks-checks 𝓤 H A W mem run κ q s file l₉ n (take n xs) ν δ budget g-budget) $
-        calls-lasting checks.ended (checks.clauses 𝓤 H A mem run) (to-checks 𝓤 H A W mem run κ q s file l₉ n (take n xs) ν δ budget g-budget .0) tt (λ r ws. contracts.Checks (s .now) budget (take n xs) (ws .1 .0) r) (λ r ws. id⊢ 𝓤 _) C′.lowered (C′.lowers .val-is) ! fm (known .1 .0) (past-head ! (and-then ! (its ! 40 refl) (and-then ! (its ! 14 refl) (and-then ! (its ! 36 refl) (no-more !))))) (λ c ws ec c-is.
+        uses ! (For-checks 𝓤 H A W mem run κ q s file l₉ n (take n xs) ν δ o g-o) (raw (Checks 𝓤 H A W mem run κ q s file l₉ n (take n xs) ν δ o g-o .pre (to-checks 𝓤 H A W mem run κ q s file l₉ n (take n xs) ν δ o g-o))) (asks-checks 𝓤 H A W mem run κ q s file l₉ n (take n xs) ν δ o g-o) $
+        calls-lasting checks.ended (checks.clauses 𝓤 H A mem run) (to-checks 𝓤 H A W mem run κ q s file l₉ n (take n xs) ν δ o g-o .0) tt (λ r ws. contracts.Checks (s .now) o (take n xs) (ws .1 .0) r) (λ r ws. id⊢ 𝓤 _) C′.lowered (C′.lowers .val-is) ! fm (known .1 .0) (past-head ! (and-then ! (its ! 40 refl) (and-then ! (its ! 14 refl) (and-then ! (its ! 36 refl) (no-more !))))) (λ c ws ec c-is.
         let zs : List Row = ws .1 .0 in
         let rest : List Row = dropFirst n xs in
-        drop ! $ use2 W (Back 𝓤 H A W mem run κ q s file l₉ n (take n xs) ν δ budget g-budget zs) (back 𝓤 H A W mem run κ q s file l₉ n (take n xs) ν δ budget g-budget zs) $ split ! $ lays ! 45 $ split ! $ front-back ! tt T.the-row ν δ n zs rest l₉ 24 refl (λ nz.
+        drop ! $ use2 W (Back 𝓤 H A W mem run κ q s file l₉ n (take n xs) ν δ o g-o zs) (back 𝓤 H A W mem run κ q s file l₉ n (take n xs) ν δ o g-o zs) $ split ! $ lays ! 45 $ split ! $ front-back ! tt T.the-row ν δ n zs rest l₉ 24 refl (λ nz.
         let all : length (zs ++ rest) ≡ journalLimit = front-length n zs xs nz few ∙ len in
         land ! (from ! (stop !)) (init ! 18 refl (EL.lawful C.the-type C′.the-laws 𝓤 H A W tt .typed c _ c-is .0)) $
         -- the row is stored
@@ -165,12 +167,12 @@ module _ {M : Type 1} (𝓤 : URA M) (H : Heap 𝓤) (A : Atoms 𝓤) (W : Given
         land ! (from ! (stop !)) (init ! 42 refl (EL.lawful G.the-type G′.the-laws 𝓤 H A W tt .typed w _ w-is .0)) $
         array-gone ! T.the-row journalLimit ys l₉ 24 all′ refl $
         move ! (44 ∷ 45 ∷ 46 ∷ 47 ∷ []) $ closing ! 4 refl refl $
-        by ! (exits w bs w-is nb (written-damaged (s .now) rows budget place x used named′ (b .now) bs xs e n en zs nz c ec i (ei .0) w ew)))))))))))))
+        by ! (exits w bs w-is nb (written-damaged (s .now) rows o place x used named′ (b .now) bs xs e n en zs nz c ec i (ei .0) w ew)))))))))))))
 
 walk : Walk it
 walk M 𝓤 H A W mem run 𝓣 known κs qs bounds a g are =
     from-entry 𝓤 H A W mem run (κs .0) (κs .1 .0) (qs .0) (qs .1 .0) (a .0) (a .1 .0) (a .1 .1 .0) (a .1 .1 .1 .0) (a .1 .1 .1 .1 .0) (a .1 .1 .1 .1 .1 .0) (a .1 .1 .1 .1 .1 .1 .0) (a .1 .1 .1 .1 .1 .1 .1 .0)
-    (are .1 .0 .1) (are .1 .1 .0 .1) (are .1 .1 .1 .0 .1) (are .1 .1 .1 .1 .0) (are .1 .1 .1 .1 .1 .0 .1) (are .1 .1 .1 .1 .1 .1 .0 .1) (are .1 .1 .1 .1 .1 .1 .1 .0 .0 .1) 𝓣 known (typed-all ps 𝓤 H A W κs a are)
+    (are .1 .0 .1) (are .1 .1 .0) (are .1 .1 .1 .0 .1) (are .1 .1 .1 .1 .0) (are .1 .1 .1 .1 .1 .0 .1) (are .1 .1 .1 .1 .1 .1 .0 .1) (are .1 .1 .1 .1 .1 .1 .1 .0 .0 .1) 𝓣 known (typed-all ps 𝓤 H A W κs a are)
 
 pub write-damaged-spec : {M : Type 1} → stated.statement M
 unfolding code.routine tablesOf

@@ -5,20 +5,22 @@ use lib.Seq.{length-take-le}
 use borrow.Author.Needs.{needs}
 use Rattle.verdicts.specs.Running.{Onward, PassesOver}
 use Rattle.verdicts.specs.States.{opening}
+use Rattle.verdicts.specs.Problems.{withRules}
 use Rattle.verdicts.specs.RunningLaws.{open-reached}
 use Rattle.deciding.specs.declared.Terms.{Terms}
 use Rattle.passes.proofs.open_pass.Statement.{statement}
 use Rattle.passes.proofs.open_pass.Tie as tie
 
 returns : tie.Need-returns
-returns c letters finals B j₀ j k m st count z rows a e fits known g =
+returns c P B j₀ j k m st count z rows a e fits known g =
     let o = c .pass-over in
     let p = c .before .before .first-in in
     let gathered = c .before .before .before .before .before .before .gather in
     let s = c .before .before .before .before .before .before .before .before .before in
     let rs = take (s .args .n) (s .args .rules .now) in
-    subst (λ (b : Terms). Onward letters rs finals B j₀ (s .args .counts) (opening st b (o .result)) j (gathered .last .0)) (sym e)
-    (open-reached letters rs finals B j₀ st rows (count ∙ sym (length-take-le (s .args .n) (s .args .rules .now) (s .pre .count))) z a m fits known g (gathered .ensures) (p .result) (p .ensures)
+    let Q = withRules P rs in
+    subst (λ (b : Terms). Onward Q B j₀ (s .args .counts) (opening st b (o .result)) j (gathered .last .0)) (sym e)
+    (open-reached Q B j₀ st rows (count ∙ sym (length-take-le (s .args .n) (s .args .rules .now) (s .pre .count))) z a m fits known g (gathered .ensures) (p .result) (p .ensures)
     (subst (λ (b : Terms). PassesOver rs (gathered .last .0) b (record { counts = s .args .counts; place = p .result }) (o .result)) e (o .ensures)))
 
 pub open-pass-spec : {M : Type 1} → statement M

@@ -14,10 +14,10 @@ use Rattle.reader.proofs.fault_by.Tie as tie
 returns : tie.Need-returns
 unfolding faultByIn
 returns c =
-    let to-7 = c .before .before .before .before .before .before .before .before in
-    let to-6 = c .before .before .before .before .before .before in
-    let to-5 = c .before .before .before .before in
     let to-4 = c .before .before in
+    let to-5 = to-4 .before .before in
+    let to-6 = to-5 .before .before in
+    let to-7 = to-6 .before .before in
     let w = to-7 .before .before in
     let a = w .before .before .args in
     let e = w .whole-record .ensures ∙ sym (whole (a .file .now) (a .i) (omega arith)) in

@@ -43,12 +43,14 @@ use Rattle.lent.proofs.Locals.{its, field-of, sets}
 use Rattle.lent.proofs.LocalArrays.{lifts, lays, uses, front-length, take-all, array-made, array-gone, lends-front, front-back, shares-part, part-unshared, elem-loads}
 use Rattle.lent.proofs.Opening.{Arguments, entering}
 use Rattle.lent.proofs.Parameters.{Param, shared, handed, number, datum, dropped, stays, typed-all}
+use Rattle.lent.proofs.PlainData.{Row as RowOf, val, Means}
 use Rattle.lent.proofs.SharedFront.{front-of, sees-front}
 use Rattle.calls.specs.Codes.{refusedBy}
 use Rattle.calls.specs.Rows.{rowOf, blank}
+use Rattle.calls.specs.declared.Options.{Options}
 use Rattle.calls.specs.declared.Row.{Row}
 use Rattle.calls.specs.Checking.{journalLimit}
-use Rattle.calls.proofs.Types.{row, rowBytes}
+use Rattle.calls.proofs.Types.{row, rowBytes, options}
 use Rattle.calls.proofs.Row as T
 use Rattle.calls.proofs.Row.Laws as T′
 use Rattle.writer.specs.Answers.{writingOf}
@@ -95,7 +97,7 @@ use Rattle.standalone.proofs.checked.Statement as stated
 use Rattle.standalone.proofs.checked.Code as code
 
 abbrev ps : List (Param 2)
-ps = dropped (shared 0 tt (plain (λ _. u8))) (λ κs x f. refl) ∷ dropped (number w64) (λ κs x f. refl) ∷ dropped (datum row (λ x f. refl)) (λ κs x f. refl) ∷ dropped (number w64) (λ κs x f. refl) ∷ dropped (number w64) (λ κs x f. refl) ∷ handed 1 tt (plain (λ _. u8)) ∷ []
+ps = dropped (shared 0 tt (plain (λ _. u8))) (λ κs x f. refl) ∷ dropped (number w64) (λ κs x f. refl) ∷ dropped (datum row (λ x f. refl)) (λ κs x f. refl) ∷ dropped (datum options (λ x f. refl)) (λ κs x f. refl) ∷ dropped (number w64) (λ κs x f. refl) ∷ handed 1 tt (plain (λ _. u8)) ∷ []
 
 abbrev callees : List Callee
 callees =
@@ -107,10 +109,10 @@ callees =
 abbrev it : Function
 it = record { lifetimes = 2; outlives = []; params = ps; result = f.signature .result; clauses = f.clauses; callees = callees; mir = code.function }
 
-module _ {M : Type 1} (𝓤 : URA M) (H : Heap 𝓤) (A : Atoms 𝓤) (W : Given 𝓤 H A) (mem : Memory → SProp 𝓤) (run : Routine → Fun 𝓤) (κ κ′ : Lft) (q q′ : Share) (s : RefT (List ℕ)) (rows : ℕ) (old : Row) (x probe : ℕ) (b : RefT (List ℕ))
-    (gs : Room u8 (length (s .now))) (g-rows : rows < 2 ^ 64) (g-old : Is T.the-row old (T′.lowered old ∷ [])) (gx : x < 2 ^ 64) (gp : probe < 2 ^ 64) (gb : Room u8 (length (b .now))) where
+module _ {M : Type 1} (𝓤 : URA M) (H : Heap 𝓤) (A : Atoms 𝓤) (W : Given 𝓤 H A) (mem : Memory → SProp 𝓤) (run : Routine → Fun 𝓤) (κ κ′ : Lft) (q q′ : Share) (s : RefT (List ℕ)) (rows : ℕ) (old : Row) (x : Options) (probe : ℕ) (b : RefT (List ℕ))
+    (gs : Room u8 (length (s .now))) (g-rows : rows < 2 ^ 64) (g-old : Is T.the-row old (T′.lowered old ∷ [])) (gx : Means options x) (gp : probe < 2 ^ 64) (gb : Room u8 (length (b .now))) where
   abbrev at : Vals f.signature (κ, (κ′, tt))
-  at = (slice-vals s, (vint w64 rows ∷ [], (T′.lowered old ∷ [], (vint w64 x ∷ [], (vint w64 probe ∷ [], (slice-vals b, tt))))))
+  at = (slice-vals s, (vint w64 rows ∷ [], (T′.lowered old ∷ [], (val options x ∷ [], (vint w64 probe ∷ [], (slice-vals b, tt))))))
 
   abbrev Post : Val → SProp 𝓤
   Post = walkOf 𝓤 H A f.ended (stays ps) (f.clauses 𝓤 H A mem run) .post (((κ, (κ′, tt)), (q, (q′, tt)), tt, (s, (rows, (old, (x, (probe, (b, tt)))))), at), tt)
@@ -148,11 +150,11 @@ module _ {M : Type 1} (𝓤 : URA M) (H : Heap 𝓤) (A : Atoms 𝓤) (W : Given
           (EL.makes C.the-type C′.the-plain 𝓤 H A, (LL.makes T.the-type T′.the-plain 𝓤 H A, (LL.makes T.the-type T′.the-plain 𝓤 H A, (EL.makes G.the-type G′.the-plain 𝓤 H A, tt)))) (c-is, (u-is, (v-is, (w-is, tt))))
 
   module _ (𝓣 : Tables 𝓤 H) (known : Knows 𝓤 H A mem run 𝓣 callees)
-      (wt : Arguments (code.function .locals) (sliceVal (s .ptr) (length (s .now)) ∷ vint w64 rows ∷ T′.lowered old ∷ vint w64 x ∷ vint w64 probe ∷ sliceVal (b .ptr) (length (b .now)) ∷ [])) where
-    from-entry : ent 𝓤 (onEntry 𝓤 H A f.signature (κ, (κ′, tt)) (q, (q′, tt)) (s, (rows, (old, (x, (probe, (b, tt)))))) at) (WpFn 𝓤 H (𝓣 .C) (𝓣 .Λ) code.function (sliceVal (s .ptr) (length (s .now)) ∷ vint w64 rows ∷ T′.lowered old ∷ vint w64 x ∷ vint w64 probe ∷ sliceVal (b .ptr) (length (b .now)) ∷ []) Post)
+      (wt : Arguments (code.function .locals) (sliceVal (s .ptr) (length (s .now)) ∷ vint w64 rows ∷ T′.lowered old ∷ val options x ∷ vint w64 probe ∷ sliceVal (b .ptr) (length (b .now)) ∷ [])) where
+    from-entry : ent 𝓤 (onEntry 𝓤 H A f.signature (κ, (κ′, tt)) (q, (q′, tt)) (s, (rows, (old, (x, (probe, (b, tt)))))) at) (WpFn 𝓤 H (𝓣 .C) (𝓣 .Λ) code.function (sliceVal (s .ptr) (length (s .now)) ∷ vint w64 rows ∷ T′.lowered old ∷ val options x ∷ vint w64 probe ∷ sliceVal (b .ptr) (length (b .now)) ∷ []) Post)
     from-entry =
         let fm = fmOf 𝓤 H (W .laws) 𝓣 in
-        qed W ((‵ (flft κ q) ⊛ ‵ (flft κ′ q′) ⊛ ‵ ftrue) ∷ ‵ (owns (ShrSlice (named 0) κ u8 ∷ usize ∷ T.the-row ∷ u64 ∷ usize ∷ MutSlice (named 1) κ′ u8 ∷ []) (s, (rows, (old, (x, (probe, (b, tt)))))) at) ∷ []) ∵
+        qed W ((‵ (flft κ q) ⊛ ‵ (flft κ′ q′) ⊛ ‵ ftrue) ∷ ‵ (owns (ShrSlice (named 0) κ u8 ∷ usize ∷ T.the-row ∷ RowOf options ∷ usize ∷ MutSlice (named 1) κ′ u8 ∷ []) (s, (rows, (old, (x, (probe, (b, tt)))))) at) ∷ []) ∵
         split ! $ move ! (1 ∷ []) $ split ! $ move ! (3 ∷ []) $ fsplit ! $ move ! (1 ∷ []) $ fsplit ! $ drop ! $ fsplit ! $ drop ! $ fsplit ! $ drop ! $ fsplit ! $ drop ! $ fsplit ! $ keep ! (5 ∷ 3 ∷ 2 ∷ 0 ∷ []) $
         entering ! (𝓣 .C) (𝓣 .Λ) code.function _ wt (λ bs.
         let l₇ = bs .1 .1 .1 .1 .1 .1 .1 .0 in
@@ -225,7 +227,7 @@ module _ {M : Type 1} (𝓤 : URA M) (H : Heap 𝓤) (A : Atoms 𝓤) (W : Given
 walk : Walk it
 walk M 𝓤 H A W mem run 𝓣 known κs qs bounds a g are =
     from-entry 𝓤 H A W mem run (κs .0) (κs .1 .0) (qs .0) (qs .1 .0) (a .0) (a .1 .0) (a .1 .1 .0) (a .1 .1 .1 .0) (a .1 .1 .1 .1 .0) (a .1 .1 .1 .1 .1 .0)
-    (are .0 .0 .1) (are .1 .0 .1) (are .1 .1 .0) (are .1 .1 .1 .0 .1) (are .1 .1 .1 .1 .0 .1) (are .1 .1 .1 .1 .1 .0 .0 .1) 𝓣 known (typed-all ps 𝓤 H A W κs a are)
+    (are .0 .0 .1) (are .1 .0 .1) (are .1 .1 .0) (are .1 .1 .1 .0) (are .1 .1 .1 .1 .0 .1) (are .1 .1 .1 .1 .1 .0 .0 .1) 𝓣 known (typed-all ps 𝓤 H A W κs a are)
 
 pub checked-spec : {M : Type 1} → stated.statement M
 unfolding code.routine tablesOf

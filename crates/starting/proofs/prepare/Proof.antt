@@ -1,5 +1,6 @@
 -- Where nothing refuses, the tables are the file's, and the first pass begins. Assumes nothing.
 use borrow.Author.Needs.{needs}
+use Rattle.calls.specs.Rows.{settingsOf}
 use Rattle.starting.proofs.Started.{starts-refused, may-open, starts}
 use Rattle.starting.proofs.prepare.Statement.{statement}
 use Rattle.starting.proofs.prepare.Tie as tie
@@ -7,19 +8,19 @@ use Rattle.starting.proofs.prepare.Tie as tie
 returns : tie.Need-returns
 returns c =
     let a = c .before .before .before .before .before .before .args in
-    starts-refused (a .file .now) (a .rows) (a .budget) _ _ _ _ (c .before .before .before .refusal-for .ensures) (c .before .if1 .taken) _ (c .wait .ensures)
+    starts-refused (a .file .now) (settingsOf (a .rows) (a .options)) _ _ _ _ (c .before .before .before .refusal-for .ensures) (c .before .if1 .taken) _ (c .wait .ensures)
 
 open-pass-requires : tie.Need-open-pass-requires
 open-pass-requires c κs =
     let d = c .before .before .before .before .before .before .before .before .before .before .before .before .before .before .before in
     let a = d .args in
-    may-open (a .file .now) (a .rows) (a .budget) _ _ _ _ (c .before .before .before .before .before .rule-table .ensures) _ (d .pre) _ (c .before .before .before .before .wait2 .ensures)
+    may-open (a .file .now) (settingsOf (a .rows) (a .options)) _ _ _ _ (c .before .before .before .before .before .rule-table .ensures) _ (d .pre) _ (c .before .before .before .before .wait2 .ensures)
 
 returns-2 : tie.Need-returns-2
 returns-2 c =
     let d = c .before .before .before .before .before .before .before .before .before .before .before .before .before .before .before .before .before .before .before in
     let a = d .args in
-    starts (a .file .now) (a .rows) (a .budget) _ (c .before .before .before .before .before .before .before .before .before .before .before .before .letter-relations .ensures) _ (c .before .before .before .before .before .before .before .before .before .before .before .final-states .ensures)
+    starts (a .file .now) (settingsOf (a .rows) (a .options)) _ (c .before .before .before .before .before .before .before .before .before .before .before .before .letter-relations .ensures) _ (c .before .before .before .before .before .before .before .before .before .before .before .final-states .ensures)
     _ _ _ (c .before .before .before .before .before .before .before .before .before .rule-table .ensures) _ _ (d .pre) _ (c .before .before .before .before .before .before .before .before .wait2 .ensures) _ (c .before .before .before .open-pass .ensures) _ (c .stand-or-finish .ensures) _
     (c .before .before .before .before .before .before .before .before .before .before .before .before .before .before .before .before .refusal-for .ensures) (c .before .before .before .before .before .before .before .before .before .before .before .before .before .before .if1 .left)
 

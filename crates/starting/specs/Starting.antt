@@ -39,7 +39,7 @@ waiting g n finals =
 abbrev pub problemOf : List ℕ → Letters → RuleBytes → Problem
 problemOf bs letters rules = record { letters = letters; rules = rules; finals = number states (isFinal (automatonOf bs)) }
 
--- the tables are the file's, and over every journal of so many rows the search stands in s
+-- the tables are the file's, and over every journal of g's number of rows the search stands in s
 pub record Begins (bs : List ℕ) (g : Settings) (letters : Letters) (rules : RuleBytes) (t : List ℕ) (s : State) : Type 0 where
   pub relations : letters ≡ letterTable states (transitionsOf bs)
   pub whole : s .rules ≤ length rules

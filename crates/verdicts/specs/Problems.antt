@@ -9,7 +9,7 @@ use Rattle.rows.specs.Base.{Candidate}
 use Rattle.rows.specs.Meanings.{baseOf}
 use Rattle.deciding.specs.declared.Terms.{Terms}
 
--- the words of the table of letters, and the bytes of each rule
+-- the table of letters, word by word, and the four bytes of each rule
 abbrev pub Letters : Type 0
 Letters = List ℕ
 
@@ -24,7 +24,7 @@ pub record Problem : Type 0 where
 
 -- ---- what it stands for
 
--- its effects, who starts and what breaks
+-- its algebra: what its bodies form, which nonterminals start, and which new rows break the check
 abbrev pub algebraOf : Problem → Algebra ℕ
 algebraOf P = baseOf (P .letters) (P .finals)
 

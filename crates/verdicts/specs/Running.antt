@@ -203,6 +203,10 @@ pub record PassesOver (rules : RuleBytes) (t : List ℕ) (b : Terms) (x r : Reac
 
 -- ---- the steps between candidates
 
+-- P: any problem; Q: the same with the rules of the search. B: the budget. j₀: the journal when the search began; j₁, first: the journal and
+-- the counts when the pass began; j, w: those now. k: the pass; m: the rows used when the pass before began. t, t′: the table before and after
+-- the step; s, r: the state
+
 -- a pass over the first n rules begins at w, and comes to x: a search that opens there stands on
 abbrev pub Opens : RuleBytes → List ℕ → ℕ → Terms → Counts → List ℕ → Reached → Type 0
 Opens rules t n b w t′ x =

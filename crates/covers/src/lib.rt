@@ -1,7 +1,5 @@
-// The table in which the search finds rows. Its first cells link the live rows of each nonterminal, rising: cell i has the row after row i,
-// and cell 4,096 + x the first row of nonterminal x. Then come hints, rows to try first: cell 4,352 + x has the row of x that covered last,
-// and the cells from 4,608 on have rows by their relation. The last cells, from 41,472 on, are the lists of the pass: the links as they were
-// when it began.
+// The table in which the search finds rows, of which crate `deciding` draws the layout: the laws of its links, which lead along the live rows of
+// each nonterminal, rising (specs), and the copying of the links to the lists when a pass begins.
 use deciding::FIRSTS;
 use deciding::LASTS;
 use deciding::LISTS;

@@ -3,7 +3,7 @@
 use relation::StateSet;
 ghost use mathlib.Core.Path.{_≡_};
 ghost use Rattle.deciding.specs.Budgets.{isSpent};
-ghost use Rattle.deciding.specs.Positions.{positionRow};
+ghost use Rattle.deciding.specs.Positions.{positionRow, firstAt};
 ghost use Rattle.deciding.specs.Fates.{fateIn};
 
 // ---- the table
@@ -47,6 +47,26 @@ pub struct Place {
     pub rule: usize,
     pub left: usize,
     pub right: usize,
+}
+
+impl Place {
+    // The first place of `rule` with these two positions. Places are made by these two functions alone, so that a coordinate more is added here.
+    pub fn first(rule: usize, left: usize, right: usize) -> Place
+        ensures { λ r. ⌜ r ≡ firstAt rule left right ⌝ }
+    {
+        Place { rule, left, right }
+    }
+
+    // The first place with another right position.
+    pub fn with_right(self, right: usize) -> Place
+        ensures { λ r. ⌜ r ≡ firstAt (self .rule) (self .left) right ⌝ }
+    {
+        Place {
+            rule: self.rule,
+            left: self.left,
+            right,
+        }
+    }
 }
 
 // The rows used and the joins made since the check began, and the rows added since the pass began. Whether a pass was the last is read from

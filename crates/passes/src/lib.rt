@@ -2,7 +2,6 @@
 use deciding::Counts;
 use deciding::END;
 use deciding::Fate;
-use deciding::Place;
 use deciding::State;
 use deciding::Terms;
 use search_cover::CoverCursor;
@@ -78,12 +77,7 @@ fn go_on(rules: &[[u8; 4]], table: &mut [u32], state: State, counts: Counts) -> 
     let here = state.place;
     let right = semi_naive::after_in(table, here.right);
     if right != END {
-        let place = Place {
-            rule: here.rule,
-            left: here.left,
-            right,
-        };
-        return standing::stand_at(state, terms, counts, place);
+        return standing::stand_at(state, terms, counts, here.with_right(right));
     }
     let place = semi_naive::next_row_in(rules, table, state.rules, here);
     go_from(rules, table, state, Reached { counts, place })

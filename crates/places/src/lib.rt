@@ -1,6 +1,6 @@
 // The order in which a pass takes its candidates: rules in file order, the left symbol outer, the right one inner, rows rising. The rows
-// that were live when the pass began stand in a table of lists: cell i has the row after row i in the list of its nonterminal, and cell
-// 4,096 + x the first row of nonterminal x.
+// that were live when the pass began stand in lists: cell i has the row after row i in the list of its nonterminal, and cell FIRSTS + x the
+// first row of nonterminal x, as in the table's first cells (crate `deciding` draws them).
 use deciding::ABSENT;
 use deciding::END;
 use deciding::FIRSTS;
@@ -65,26 +65,14 @@ fn beginning(lists: &[u32], rule: [u8; 4], r: usize) -> Place
 {
     let size = rule[1];
     if size == 0 {
-        return Place {
-            rule: r,
-            left: ABSENT,
-            right: ABSENT,
-        };
+        return Place::first(r, ABSENT, ABSENT);
     }
     let left = first_of(lists, rule[2]);
     if size == 1 {
-        return Place {
-            rule: r,
-            left,
-            right: ABSENT,
-        };
+        return Place::first(r, left, ABSENT);
     }
     let right = first_of(lists, rule[3]);
-    Place {
-        rule: r,
-        left,
-        right,
-    }
+    Place::first(r, left, right)
 }
 
 // ---- the places of a pass
@@ -103,11 +91,7 @@ pub fn first_place(lists: &[u32], rules: &[[u8; 4]], r: usize) -> Place
         }
         r += 1;
     }
-    Place {
-        rule: r,
-        left: END,
-        right: END,
-    }
+    Place::first(r, END, END)
 }
 
 // The place after this one, which has no right position after it: the next left, or the next rule.
@@ -123,11 +107,7 @@ pub fn next_row(lists: &[u32], rules: &[[u8; 4]], place: Place) -> Place
     if left != END {
         let rule = rules[r];
         let start = beginning(lists, rule, r);
-        return Place {
-            rule: r,
-            left,
-            right: start.right,
-        };
+        return Place::first(r, left, start.right);
     }
     first_place(lists, rules, r + 1)
 }

@@ -1,5 +1,6 @@
 -- A candidate formed at one place of a pass, from the rule and the two rows of that place. Definitions only. Assumes nothing.
-use mathlib.Core.Bool.{Bool, _&&_, cond}
+use mathlib.Core.Path.{_≡_}
+use mathlib.Core.Bool.{Bool, true, _&&_, cond}
 use mathlib.Core.List.{List, []}
 use Prim.Native.Nat.{ℕ}
 use lib.Dec.{ltb}
@@ -12,6 +13,7 @@ use Rattle.working_order.specs.Journal.{absent, liveOf}
 use Rattle.working_order.specs.Order.{born}
 use Rattle.calls.specs.Rows.{rowOf, blank, entryOf}
 use Rattle.calls.specs.declared.Row.{Row as LentRow}
+use Rattle.deciding.specs.declared.Comparison.{Comparison}
 use Rattle.deciding.specs.declared.State.{State}
 use Rattle.rows.specs.Base.{Row, Choice, Candidate, emptyBody, joined}
 use Rattle.rows.specs.Meanings.{letterIn}
@@ -20,6 +22,14 @@ use Rattle.deciding.specs.declared.Place.{Place}
 -- a live row of the candidate's nonterminal with a contained relation
 unfoldable pub isBelow : Candidate → Row → Bool
 isBelow c r = liveOf (c .head) r && contained (r .effect) (c .effect)
+
+-- the row covers the candidate, where of a linked row only the effects are compared
+abbrev pub coversBy : Bool → Candidate → Row → Bool
+coversBy linked c r = cond linked (contained (r .effect) (c .effect)) (isBelow c r)
+
+-- what comparing a row gives, which is linked or not
+abbrev pub ComparedAt : Bool → Candidate → Row → Comparison → Type 0
+ComparedAt linked c r m = (m .covers ≡ coversBy linked c r) × (linked ≡ true → m .larger ≡ contained (c .effect) (r .effect))
 
 -- the row, retired in pass k
 abbrev pub retiredIn : ℕ → Row → Row

@@ -23,7 +23,7 @@ ghost use Rattle.calls.specs.Rows.{rowOf, entryOf};
 ghost use Rattle.rows.specs.Base.{emptyBody, joined, breaking};
 ghost use Rattle.rows.specs.Meanings.{candidateOf, choiceOf};
 ghost use Rattle.deciding.specs.Fates.{fateIn};
-ghost use Rattle.rows.specs.Forming.{isBelow, retiredIn, replacedBy, slotCells, symbolChoice, formedBy, amongFirst, formedIn};
+ghost use Rattle.rows.specs.Forming.{isBelow, retiredIn, ComparedAt, replacedBy, slotCells, symbolChoice, formedBy, amongFirst, formedIn};
 
 // What would become a row.
 pub struct Candidate {
@@ -64,6 +64,22 @@ pub fn compare(row: Row, candidate: Candidate) -> Comparison
         covers: alike & within,
         larger: alike & (over & !within),
     }
+}
+
+// Compares `row` with `candidate`, by their relations alone if `linked`: a linked row is live and of the candidate's nonterminal, so that the
+// search spends no instruction on asking. A row that is a hint is compared as `compare` does.
+pub fn compare_at(row: Row, candidate: Candidate, linked: bool) -> Comparison
+    ensures { λ r. ⌜ ComparedAt linked (candidateOf candidate) (rowOf row) r ⌝ }
+{
+    if linked {
+        let held = row.relation;
+        let formed = candidate.relation;
+        return Comparison {
+            covers: held.contained(formed),
+            larger: formed.contained(held),
+        };
+    }
+    compare(row, candidate)
 }
 
 // The row, retired in this pass.

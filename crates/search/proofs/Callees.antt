@@ -26,11 +26,12 @@ use Rattle.deciding.specs.Positions.{positionRow}
 use Rattle.deciding.specs.declared.Comparison.{Comparison}
 use Rattle.deciding.specs.declared.Fate.{Fate}
 use Rattle.deciding.specs.declared.State.{State}
-use Rattle.rows.specs.Forming.{isBelow, replacedBy, slotCells, formedIn}
+use Rattle.rows.specs.Forming.{isBelow, ComparedAt, replacedBy, slotCells, formedIn}
 use Rattle.rows.specs.Meanings.{candidateOf}
 use Rattle.rows.specs.declared.Candidate.{Candidate}
 use Rattle.rows.proofs.form as form
 use Rattle.rows.proofs.compare as compare
+use Rattle.rows.proofs.compare_at as compare_at
 use Rattle.rows.proofs.slot_unless as slot_unless
 use Rattle.rows.proofs.fate as fate-of
 use Rattle.rows.proofs.replacement as replacement
@@ -93,6 +94,21 @@ module _ {M : Type 1} (𝓤 : URA M) (H : Heap 𝓤) (A : Atoms 𝓤) (mem : Mem
           fits = record { bound = binds hs vs; ghost = λ cs. tt; enters = λ cs. id⊢ 𝓤 _; leaves = λ cs. id⊢ 𝓤 _; lists = λ cs ws. tt; others = λ cs ws. _; ends = λ cs ws. refl };
           asked = λ cs. id⊢ 𝓤 _;
           φ = λ cs r ws. Compared c held r;
+          says = λ cs r ws. id⊢ 𝓤 _;
+          val = λ cs. val comparison;
+          tells = λ cs. tells comparison;
+        }
+
+    abbrev pub to-compare-at : (held : Row) → Means row held → (linked : Bool) → Handing 𝓤 H A compare_at.ended (compare_at.clauses 𝓤 H A mem run)
+    to-compare-at held h-is linked =
+        let hs = [] in
+        let vs = value row held h-is ∷ value candidate c c-is ∷ flag linked ∷ [] in
+        record {
+          slices = hs;
+          values = vs;
+          fits = record { bound = binds hs vs; ghost = λ cs. tt; enters = λ cs. id⊢ 𝓤 _; leaves = λ cs. id⊢ 𝓤 _; lists = λ cs ws. tt; others = λ cs ws. _; ends = λ cs ws. refl };
+          asked = λ cs. id⊢ 𝓤 _;
+          φ = λ cs r ws. ComparedAt linked (candidateOf c) (rowOf held) r;
           says = λ cs r ws. id⊢ 𝓤 _;
           val = λ cs. val comparison;
           tells = λ cs. tells comparison;

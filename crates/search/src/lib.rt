@@ -25,7 +25,8 @@ fn find(journal: &[Row], table: &[u32], state: State, candidate: Candidate) -> C
     while cursor.active {
         let at = cursor.row;
         let held = journal[at];
-        let compared = rows::compare(held, candidate);
+        let linked = cursor.linked;
+        let compared = rows::compare_at(held, candidate, linked);
         cursor = search_cover::step(table, state, head, cursor, compared);
     }
     cursor

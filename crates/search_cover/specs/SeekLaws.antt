@@ -1,6 +1,6 @@
 -- Laws of looking for a cover: how it begins, that each step keeps what is known and leaves fewer steps, and what is found at the end. The
 -- steps are equations on values (`Steps.antt`); that they are right is said here. Assumes nothing.
-use mathlib.Core.Path.{_≡_, refl, sym, ap, _∙_, subst}
+use mathlib.Core.Path.{_≡_, refl, sym, ap, ap₂, _∙_, subst}
 use mathlib.Core.Bool.{Bool, true, false, false≢true, true≢false, _&&_, _||_, not, cond}
 use mathlib.Core.List.{List}
 use Prim.Native.Nat.{ℕ, _+_, _-_, _≤_, _<_}
@@ -10,12 +10,13 @@ use lib.ListN.{length, getD}
 use borrow.Author.Tests.{ltb-true, ltb-false}
 use Rattle.basics.specs.Tests.{and-fst, and-snd}
 use Rattle.relation.specs.Relation.{contained}
+use Rattle.working_order.specs.Journal.{liveOf}
 use Rattle.working_order.specs.Order.{larger}
 use Rattle.rows.specs.Base.{Row, Candidate}
-use Rattle.rows.specs.Forming.{isBelow, slotCells}
+use Rattle.rows.specs.Forming.{isBelow, coversBy, slotCells}
 use Rattle.places.specs.Lists.{rowCells, heads, headCell, rowIn}
 use Rattle.covers.specs.Covers.{listsFrom}
-use Rattle.covers.specs.Looking.{Unseen, unseen-start, unseen-next, unseen-rises, unseen-none, unseen-free, seen}
+use Rattle.covers.specs.Looking.{Unseen, unseen-start, unseen-next, unseen-rises, unseen-live, unseen-none, unseen-free, seen}
 use Rattle.search_cover.specs.Seeking.{Leads, Finds, Seeks, Seeking, stepsLeft}
 use Rattle.search_cover.specs.Steps.{slotsFrom, coveredAt, hintedAt, linkedAt, firstLinked, fromSlot, begun, foundAt, stepped}
 use Rattle.search_cover.specs.declared.CoverCursor.{CoverCursor}
@@ -133,14 +134,42 @@ module _ {c : Candidate} {rows : List Row} {u : ℕ} {t : List ℕ} where
         is-row : l .row < length rows
         is-row = subst (λ (n : ℕ). l .row < n) (sym (d .size)) (seek-row i w)
 
-        pub seek-stepped : (covers more : Bool) → covers ≡ isBelow c (rowIn rows (l .row)) → more ≡ larger contained c (rowIn rows (l .row))
-            → Keeps c rows u t (stepsLeft l) (stepped t u (c .head) l covers more)
-        seek-stepped covers more e o = by covers (l .linked) e refl
+        -- a linked row is live and of the nonterminal, so that only its effect matters
+
+        module _ (s : l .linked ≡ true) where
+          live-there : liveOf (c .head) (rowIn rows (l .row)) ≡ true
+          live-there = unseen-live c rows t (row-limit d) (d .covering) hh (seek-unseen i w s) is-row
+
+          link-below : (b : Bool) → contained (rowIn rows (l .row) .effect) (c .effect) ≡ b → isBelow c (rowIn rows (l .row)) ≡ b
+          unfolding isBelow
+          link-below b e = ap (λ (v : Bool). v && contained (rowIn rows (l .row) .effect) (c .effect)) live-there ∙ e
+
+          link-larger : contained (rowIn rows (l .row) .effect) (c .effect) ≡ false
+              → contained (c .effect) (rowIn rows (l .row) .effect) ≡ larger contained c (rowIn rows (l .row))
+          unfolding larger
+          link-larger e =
+              sym (ap₂ (λ (v n : Bool). v && (contained (c .effect) (rowIn rows (l .row) .effect) && not n)) live-there e ∙ right (contained (c .effect) (rowIn rows (l .row) .effect)))
+            where
+              right : (b : Bool) → (b && true) ≡ b
+              right true = refl
+              right false = refl
+
+        pub seek-stepped : (covers more : Bool) → covers ≡ coversBy (l .linked) c (rowIn rows (l .row))
+            → (l .linked ≡ true → more ≡ contained (c .effect) (rowIn rows (l .row) .effect)) → Keeps c rows u t (stepsLeft l) (stepped t u (c .head) l covers more)
+        seek-stepped covers more e o = by covers (l .linked) refl refl
           where
-            on : l .linked ≡ true → isBelow c (rowIn rows (l .row)) ≡ false → Keeps c rows u t (stepsLeft l) (linkedAt u (getD t (l .row) 0) (l .row) (l .larger || more) (l .slot))
+            at : (k : Bool) → l .linked ≡ k → covers ≡ coversBy k c (rowIn rows (l .row))
+            at k s = e ∙ ap (λ (b : Bool). coversBy b c (rowIn rows (l .row))) s
+
+            is-below : (k : Bool) → l .linked ≡ k → isBelow c (rowIn rows (l .row)) ≡ covers
+            is-below true s = link-below s covers (sym (at true s))
+            is-below false s = sym (at false s)
+
+            on : l .linked ≡ true → covers ≡ false → Keeps c rows u t (stepsLeft l) (linkedAt u (getD t (l .row) 0) (l .row) (l .larger || more) (l .slot))
             on s z =
                 let y = seek-unseen i w s in (
-                  seek-linked (getD t (l .row) 0) (l .row) (l .larger || more) (l .slot) (i .slot) (unseen-next c rows t (row-limit d) (d .covering) hh y is-row more o z),
+                  seek-linked (getD t (l .row) 0) (l .row) (l .larger || more) (l .slot) (i .slot)
+                      (unseen-next c rows t (row-limit d) (d .covering) hh y is-row more (o s ∙ link-larger s (sym (at true s) ∙ z)) (is-below true s ∙ z)),
                   omega (
                     arith,
                     left-most (linkedAt u (getD t (l .row) 0) (l .row) (l .larger || more) (l .slot)),
@@ -151,8 +180,8 @@ module _ {c : Candidate} {rows : List Row} {u : ℕ} {t : List ℕ} where
                   ),
                 )
 
-            by : (b k : Bool) → b ≡ isBelow c (rowIn rows (l .row)) → l .linked ≡ k
+            by : (b k : Bool) → covers ≡ b → l .linked ≡ k
                 → Keeps c rows u t (stepsLeft l) (cond b (foundAt l) (cond k (linkedAt u (getD t (l .row) 0) (l .row) (l .larger || more) (l .slot)) (firstLinked t u (c .head) (l .slot))))
-            by true k q s = (covered-at refl refl (seek-row i w) (sym q) (i .slot), omega (arith, active-left l w, row-inside))
-            by false true q s = on s (sym q)
+            by true k q s = (covered-at refl refl (seek-row i w) (is-below k s ∙ q) (i .slot), omega (arith, active-left l w, row-inside))
+            by false true q s = on s q
             by false false q s = let h = at-first (l .slot) (i .slot) in (h .0, omega (arith, h .1, active-left l w, ap hinted s, row-inside))

@@ -50,11 +50,7 @@ fn next_in(rules: &[[u8; 4]], table: &[u32], n: usize, place: Place) -> Place
 {
     let right = after_in(table, place.right);
     if right != END {
-        return Place {
-            rule: place.rule,
-            left: place.left,
-            right,
-        };
+        return place.with_right(right);
     }
     next_row_in(rules, table, n, place)
 }
@@ -105,11 +101,7 @@ fn pass_rights(table: &[u32], terms: Terms, done: Reached) -> Reached
             joins,
             added: counts.added,
         },
-        place: Place {
-            rule: place.rule,
-            left: place.left,
-            right,
-        },
+        place: place.with_right(right),
     }
 }
 

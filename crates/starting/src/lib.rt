@@ -41,11 +41,7 @@ fn wait(rows: usize, rules: usize, options: Options, finals: StateSet) -> State
             joins: 0,
             added: 0,
         },
-        place: Place {
-            rule: 0,
-            left: 0,
-            right: 0,
-        },
+        place: Place::first(0, 0, 0),
         rows,
         rules,
         verdict: 0,

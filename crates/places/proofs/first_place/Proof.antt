@@ -5,6 +5,7 @@ use Prim.Native.Nat.{_-_}
 use native.Mathlib.Omega.{arith}
 use native.Mathlib.Numerals.{add-one}
 use lib.ListN.{length}
+use borrow.Author.Needs.{needs}
 use Rattle.places.specs.PlaceLaws.{Skipped, opens-here, opens-end, skipped-next, both-open, one-is-end}
 use Rattle.places.proofs.first_place.Statement.{statement}
 use Rattle.places.proofs.first_place.Tie as tie
@@ -50,8 +51,8 @@ loop-again c =
 
 returns-2 : tie.Need-returns-2 Inv-loop μ-loop
 returns-2 c =
-    let a = c .before .before .before .args in
-    opens-end (a .lists .now) (a .rules .now) (a .r) _ (c .before .loop .inv) (c .loop-test .left) _ _
+    let a = c .before .before .before .before .args in
+    rw (c .first .ensures) (opens-end (a .lists .now) (a .rules .now) (a .r) _ (c .before .before .loop .inv) (c .before .loop-test .left) _ _)
 
 pub first-place-spec : {M : Type 1} → statement M
 first-place-spec =
@@ -67,4 +68,5 @@ first-place-spec =
     add-r
     loop-less
     loop-again
+    (λ c κs. search needs)
     returns-2)

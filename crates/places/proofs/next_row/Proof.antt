@@ -13,9 +13,11 @@ returns c = let a = c .before .before .args in follows-none (a .lists .now) (a .
 
 returns-2 : tie.Need-returns-2
 returns-2 c =
-    let s = c .before .before .before .before .before .before in
-    let l = c .before .before .before .after in
-    follows-left (s .args .lists .now) (s .args .rules .now) (s .args .place) (s .pre .1) (l .result) (c .beginning .result .right) (l .ensures) (c .before .before .if2 .taken) (c .beginning .ensures .2)
+    let s = c .before .before .before .before .before .before .before in
+    let l = c .before .before .before .before .after in
+    let b = c .before .beginning in
+    rw (c .first .ensures)
+    (follows-left (s .args .lists .now) (s .args .rules .now) (s .args .place) (s .pre .1) (l .result) (b .result .right) (l .ensures) (c .before .before .before .if2 .taken) (b .ensures .2))
 
 returns-3 : tie.Need-returns-3
 returns-3 c =
@@ -25,4 +27,4 @@ returns-3 c =
     (subst (λ (r : ℕ). Opens (a .lists .now) (a .rules .now) r (c .first-place .result)) (add-one (a .place .rule)) (c .first-place .ensures))
 
 pub next-row-spec : {M : Type 1} → statement M
-next-row-spec = tie.close (tie.spec returns (λ c κs. search needs) (λ c. search needs) (λ c. search needs) (λ c κs. search needs) returns-2 (λ c. search needs) (λ c κs. search needs) returns-3)
+next-row-spec = tie.close (tie.spec returns (λ c κs. search needs) (λ c. search needs) (λ c. search needs) (λ c κs. search needs) (λ c κs. search needs) returns-2 (λ c. search needs) (λ c κs. search needs) returns-3)

@@ -34,9 +34,8 @@ use denote.Steps.{owned, nothing}
 use denote.Triple.Bound.{Bound}
 use denote.Triple.Entry.{alive}
 use denote.Triple.Walked.{says, needs, walkOf, ends-at}
-use Rattle.relation.specs.Relation.{contained}
-use Rattle.working_order.specs.Order.{larger}
-use Rattle.calls.specs.Rows.{blank}
+use Rattle.calls.specs.Rows.{rowOf, blank}
+use Rattle.rows.specs.Base as order
 use Rattle.rows.specs.Meanings.{candidateOf}
 use Rattle.rows.specs.declared.Candidate.{Candidate}
 use Rattle.deciding.specs.declared.State.{State}
@@ -47,10 +46,13 @@ use Rattle.covers.specs.Rows.{Journal, firstRows}
 use Rattle.covers.specs.RowLaws.{rows-at}
 use Rattle.deciding.specs.PositionLaws.{position-inside}
 use Rattle.deciding.specs.Positions.{positionRow}
-use Rattle.rows.specs.Forming.{isBelow, slotCells}
+use Rattle.rows.specs.Forming.{isBelow, ComparedAt, slotCells}
 use Rattle.rows.proofs.compare as compare
 use Rattle.rows.proofs.compare.Symbol as compare-def
 use Rattle.rows.proofs.compare.Met as compare-thm
+use Rattle.rows.proofs.compare_at as compare-at
+use Rattle.rows.proofs.compare_at.Symbol as compare-at-def
+use Rattle.rows.proofs.compare_at.Met as compare-at-thm
 use Rattle.rows.proofs.slot_unless as slot-unless
 use Rattle.rows.proofs.slot_unless.Symbol as slot-unless-def
 use Rattle.rows.proofs.slot_unless.Met as slot-unless-thm
@@ -80,7 +82,7 @@ use Rattle.lent.proofs.Elements.{points, seen-read}
 use Rattle.lent.proofs.PlainData.{Row as RowOf, val, Means, tells, makes, copies, typed, value, values-owned, types-of, values-of, machine-of}
 use Rattle.lent.proofs.Handing.{calls-handing, calls-handing-last}
 use Rattle.search.proofs.Values.{cell, row, candidate, state, comparison, cover-cursor, head-fits, cover-row-fits}
-use Rattle.search.proofs.Callees.{Compared, to-last-row, to-compare, to-slot-unless, to-cover-begin, to-cover-step}
+use Rattle.search.proofs.Callees.{Compared, to-last-row, to-compare, to-compare-at, to-slot-unless, to-cover-begin, to-cover-step}
 use Rattle.search.proofs.find.Key.{name as #find}
 use Rattle.search.proofs.find as f
 use Rattle.search.proofs.find.Statement as stated
@@ -96,6 +98,7 @@ callees =
     ∷ callee compare.ended (λ M. compare.clauses) compare-def.name compare-def.routine (λ M. compare-thm.met)
     ∷ callee slot-unless.ended (λ M. slot-unless.clauses) slot-unless-def.name slot-unless-def.routine (λ M. slot-unless-thm.met)
     ∷ callee cover-begin.ended (λ M. cover-begin.clauses) cover-begin-def.name cover-begin-def.routine (λ M. cover-begin-thm.met)
+    ∷ callee compare-at.ended (λ M. compare-at.clauses) compare-at-def.name compare-at-def.routine (λ M. compare-at-thm.met)
     ∷ callee cover-step.ended (λ M. cover-step.clauses) cover-step-def.name cover-step-def.routine (λ M. cover-step-thm.met) ∷ []
 
 abbrev it : Function
@@ -145,12 +148,8 @@ module _ {M : Type 1} (𝓤 : URA M) (H : Heap 𝓤) (A : Atoms 𝓤) (W : Given
     last-inside = subst (λ (n : ℕ). n < length j) (sym e) (position-inside (lastNoted t (c .head)) (s .counts .used) (length j) (may .0) (may .1))
 
   -- what comparing row i gave is said of row i of the used ones
-  module _ (i : ℕ) (h : i < s .counts .used) (m : Comparison) (k : Compared c (getD j i blank) m) where
-    covers-there : m .covers ≡ isBelow (candidateOf c) (rowIn (firstRows (s .counts .used) j) i)
-    covers-there = k .0 ∙ ap (isBelow (candidateOf c)) (sym (rows-at (s .counts .used) j i h))
-
-    larger-there : m .larger ≡ larger contained (candidateOf c) (rowIn (firstRows (s .counts .used) j) i)
-    larger-there = k .1 ∙ ap (larger contained (candidateOf c)) (sym (rows-at (s .counts .used) j i h))
+  covers-there : (i : ℕ) → i < s .counts .used → (m : Comparison) → Compared c (getD j i blank) m → m .covers ≡ isBelow (candidateOf c) (rowIn (firstRows (s .counts .used) j) i)
+  covers-there i h m k = k .0 ∙ ap (isBelow (candidateOf c)) (sym (rows-at (s .counts .used) j i h))
 
   begun : (i : ℕ) (m : Comparison) → Compared c (getD j i blank) m → (n : ℕ) → n < slotCells → (r : CoverCursor) → Means cover-cursor r → r ≡ begunAt t (s .counts .used) (c .head) i (m .covers) n → X
   begun i m k n hn r is h =
@@ -170,11 +169,14 @@ module _ {M : Type 1} (𝓤 : URA M) (H : Heap 𝓤) (A : Atoms 𝓤) (W : Given
     asked : (length t ≡ tableCells) × (x .l .row < rowCells)
     asked = (may .2 .covering .size, lt-of-lt-of-le used (may .2 .limit))
 
-    module _ (m : Comparison) (k : Compared c (getD j (x .l .row) blank) m) (r : CoverCursor) (h : r ≡ stepped t (s .counts .used) (c .head) (x .l) (m .covers) (m .larger)) where
+    module _ (m : Comparison) (k : ComparedAt (x .l .linked) (candidateOf c) (rowOf (getD j (x .l .row) blank)) m) (r : CoverCursor) (h : r ≡ stepped t (s .counts .used) (c .head) (x .l) (m .covers) (m .larger)) where
+      there : ComparedAt (x .l .linked) (candidateOf c) (rowIn (firstRows (s .counts .used) j) (x .l .row)) m
+      there = subst (λ (z : order.Row). ComparedAt (x .l .linked) (candidateOf c) z m) (sym (rows-at (s .counts .used) j (x .l .row) used)) k
+
       sought : Within r × (stepsLeft r < stepsLeft (x .l))
       sought =
           subst (λ (z : CoverCursor). Within z × (stepsLeft z < stepsLeft (x .l))) (sym h)
-          (seek-stepped (may .2) (head-fits c c-is) (x .within) y (m .covers) (m .larger) (covers-there (x .l .row) used m k) (larger-there (x .l .row) used m k))
+          (seek-stepped (may .2) (head-fits c c-is) (x .within) y (m .covers) (m .larger) (there .0) (there .1))
 
       next : Means cover-cursor r → X
       next is = record { l = r; l-is = is; within = sought .0 }
@@ -187,7 +189,7 @@ module _ {M : Type 1} (𝓤 : URA M) (H : Heap 𝓤) (A : Atoms 𝓤) (W : Given
       abbrev En : Env 𝓤 H
       En = env (code.function .locals) bs
 
-      -- [the journal; the table; _20; ...; _19; ...; down to room for _0; ...]: local i stands at 42 - 2 i. Local 5 is the nonterminal, local 10 the cursor
+      -- [the journal; the table; _21; ...; _20; ...; down to room for _0; ...]: local i stands at 44 - 2 i. Local 5 is the nonterminal, local 10 the cursor
       abbrev Stands : List (Option Val) → List (Item 𝓤)
       Stands os = locals-of En (none ∷ some (sliceVal (J .block, J .start) (length j)) ∷ some (sliceVal (P .block, P .start) (length t)) ∷ some (val state s) ∷ some (val candidate c) ∷ os) []
 
@@ -197,52 +199,53 @@ module _ {M : Type 1} (𝓤 : URA M) (H : Heap 𝓤) (A : Atoms 𝓤) (W : Given
       turn-at : (x : X) → Turn W 𝓣 En Post left Inv code-mir.turn-1 code-mir.t-11 x
       unfolding afterTurn next
       turn-at x =
-          tests ! (of-opd ! (field-of ! 22 refl refl refl)) (init ! 8 refl (tt, tt)) (its ! 8 refl)
+          tests ! (of-opd ! (field-of ! 24 refl refl refl)) (init ! 8 refl (tt, tt)) (its ! 8 refl)
           (λ y.
           -- the row
-          sets ! (of-opd ! (field-of ! 22 refl refl refl)) (init ! 20 refl (tt, record { fits = cover-row-fits (x .l) (x .l-is) })) $
-          points ! (mem (RowOf row) .size) tt (off (inside x y)) (its ! 20 refl) (init ! 6 refl (tt, record { fits = off (inside x y) })) (field-of ! 40 refl refl refl) (its ! 6 refl) (init ! 4 refl (tt, tt)) $
+          sets ! (of-opd ! (field-of ! 24 refl refl refl)) (init ! 22 refl (tt, record { fits = cover-row-fits (x .l) (x .l-is) })) $
+          points ! (mem (RowOf row) .size) tt (off (inside x y)) (its ! 22 refl) (init ! 6 refl (tt, record { fits = off (inside x y) })) (field-of ! 42 refl refl refl) (its ! 6 refl) (init ! 4 refl (tt, tt)) $
           seen-read (RowOf row) J (val row) (tells row) j (x .l .row) (inside x y) blank ! (copies row 𝓤 H A W) (λ q. behind ! 5 0 refl refl) (λ q is. init ! 3 refl (typed row 𝓤 H A W _ is)) (λ is.
-          sets ! (of-opd ! (its ! 2 refl)) (init ! 18 refl (typed row 𝓤 H A W _ is)) $
+          sets ! (of-opd ! (its ! 2 refl)) (init ! 20 refl (typed row 𝓤 H A W _ is)) $
           -- is compared
-          calls-handing ! fm (known .1 .0) (to-compare 𝓤 H A mem′ run s s-is c c-is (getD j (x .l .row) blank) is) (λ cs. and-then ! (its ! 18 refl) (and-then ! (its ! 34 refl) (no-more !))) (λ cs m ws k m-is _.
+          sets ! (of-opd ! (field-of ! 24 refl refl refl)) (init ! 18 refl (tt, tt)) $
+          calls-handing ! fm (known .1 .1 .1 .1 .0) (to-compare-at 𝓤 H A mem′ run s s-is c c-is (getD j (x .l .row) blank) is (x .l .linked)) (λ cs. and-then ! (its ! 20 refl) (and-then ! (its ! 36 refl) (and-then ! (its ! 18 refl) (no-more !)))) (λ cs m ws k m-is _.
           land ! (from ! (stop !)) (init ! 16 refl (typed comparison 𝓤 H A W m m-is)) $
           -- and one step on
-          move ! (1 ∷ []) $ calls-handing-last ! fm (known .1 .1 .1 .1 .0) (to-cover-step 𝓤 H A mem′ run s s-is c c-is P t refl (x .l) (x .l-is) (asked x y) m m-is)
-          (λ cs. and-then ! (its ! 37 refl) (and-then ! (its ! 35 refl) (and-then ! (its ! 31 refl) (and-then ! (its ! 21 refl) (and-then ! (its ! 15 refl) (no-more !)))))) (λ cs r ws h r-is long.
-          land-last ! (from ! (stop !)) (store ! 22 refl (typed cover-cursor 𝓤 H A W r r-is)) $ move ! (1 ∷ []) $ keeping ! En 2 11 refl $
+          move ! (1 ∷ []) $ calls-handing-last ! fm (known .1 .1 .1 .1 .1 .0) (to-cover-step 𝓤 H A mem′ run s s-is c c-is P t refl (x .l) (x .l-is) (asked x y) m m-is)
+          (λ cs. and-then ! (its ! 39 refl) (and-then ! (its ! 37 refl) (and-then ! (its ! 33 refl) (and-then ! (its ! 23 refl) (and-then ! (its ! 15 refl) (no-more !)))))) (λ cs r ws h r-is long.
+          land-last ! (from ! (stop !)) (store ! 24 refl (typed cover-cursor 𝓤 H A W r r-is)) $ move ! (1 ∷ []) $ keeping ! En 2 11 refl $
           again ! (Falls left) Inv x (next x y m k r h r-is) (sought x y m k r h .1)))))
           -- looking is over
-          (λ n. exec ! (𝓣 .C) (𝓣 .Λ) En code-mir.t-11 (atRet En Post) $ sets ! (of-opd ! (its ! 22 refl)) (init ! 42 refl (typed cover-cursor 𝓤 H A W (x .l) (x .l-is))) $ closing ! 2 refl refl $
+          (λ n. exec ! (𝓣 .C) (𝓣 .Λ) En code-mir.t-11 (atRet En Post) $ sets ! (of-opd ! (its ! 24 refl)) (init ! 44 refl (typed cover-cursor 𝓤 H A W (x .l) (x .l-is))) $ closing ! 2 refl refl $
           by ! (exits (x .l) (x .l-is) (x .within, n)))
 
       begins : Sq W (Holds (Stands [])) (runs (𝓣 .C) (𝓣 .Λ) En code-mir.t-1 (atRet En Post))
       unfolding begun
       begins =
-          sets ! (of-opd ! (field-of ! 34 refl refl refl)) (init ! 32 refl (tt, record { fits = head-fits c c-is })) $
+          sets ! (of-opd ! (field-of ! 36 refl refl refl)) (init ! 34 refl (tt, record { fits = head-fits c c-is })) $
           -- the row that covered last
-          move ! (1 ∷ []) $ calls-handing ! fm (known .0) (to-last-row 𝓤 H A mem′ run s s-is c c-is P t refl (may .2 .covering .size)) (λ cs. and-then ! (its ! 37 refl) (and-then ! (its ! 35 refl) (and-then ! (its ! 31 refl) (no-more !)))) (λ cs i ws e i-is _.
-          land ! (from ! (stop !)) (init ! 30 refl (tt, record { fits = i-is .1 })) $ move ! (1 ∷ []) $
-          points ! (mem (RowOf row) .size) tt (off (last-inside i e)) (its ! 30 refl) (init ! 14 refl (tt, record { fits = off (last-inside i e) })) (field-of ! 40 refl refl refl) (its ! 14 refl) (init ! 12 refl (tt, tt)) $
+          move ! (1 ∷ []) $ calls-handing ! fm (known .0) (to-last-row 𝓤 H A mem′ run s s-is c c-is P t refl (may .2 .covering .size)) (λ cs. and-then ! (its ! 39 refl) (and-then ! (its ! 37 refl) (and-then ! (its ! 33 refl) (no-more !)))) (λ cs i ws e i-is _.
+          land ! (from ! (stop !)) (init ! 32 refl (tt, record { fits = i-is .1 })) $ move ! (1 ∷ []) $
+          points ! (mem (RowOf row) .size) tt (off (last-inside i e)) (its ! 32 refl) (init ! 14 refl (tt, record { fits = off (last-inside i e) })) (field-of ! 42 refl refl refl) (its ! 14 refl) (init ! 12 refl (tt, tt)) $
           seen-read (RowOf row) J (val row) (tells row) j i (last-inside i e) blank ! (copies row 𝓤 H A W) (λ q. behind ! 13 0 refl refl) (λ q is. init ! 11 refl (typed row 𝓤 H A W _ is)) (λ r-is.
-          sets ! (of-opd ! (its ! 10 refl)) (init ! 28 refl (typed row 𝓤 H A W _ r-is)) $
+          sets ! (of-opd ! (its ! 10 refl)) (init ! 30 refl (typed row 𝓤 H A W _ r-is)) $
           -- is compared, and where it does not cover, the slot is found
-          calls-handing ! fm (known .1 .0) (to-compare 𝓤 H A mem′ run s s-is c c-is (getD j i blank) r-is) (λ cs. and-then ! (its ! 28 refl) (and-then ! (its ! 34 refl) (no-more !))) (λ cs m ws k m-is _.
-          land ! (from ! (stop !)) (init ! 26 refl (typed comparison 𝓤 H A W m m-is)) $
-          calls-handing ! fm (known .1 .1 .0) (to-slot-unless 𝓤 H A mem′ run s s-is c c-is m m-is) (λ cs. and-then ! (its ! 26 refl) (and-then ! (its ! 34 refl) (no-more !))) (λ cs n ws hn n-is _.
-          land ! (from ! (stop !)) (init ! 24 refl (tt, record { fits = n-is .1 })) $
+          calls-handing ! fm (known .1 .0) (to-compare 𝓤 H A mem′ run s s-is c c-is (getD j i blank) r-is) (λ cs. and-then ! (its ! 30 refl) (and-then ! (its ! 36 refl) (no-more !))) (λ cs m ws k m-is _.
+          land ! (from ! (stop !)) (init ! 28 refl (typed comparison 𝓤 H A W m m-is)) $
+          calls-handing ! fm (known .1 .1 .0) (to-slot-unless 𝓤 H A mem′ run s s-is c c-is m m-is) (λ cs. and-then ! (its ! 28 refl) (and-then ! (its ! 36 refl) (no-more !))) (λ cs n ws hn n-is _.
+          land ! (from ! (stop !)) (init ! 26 refl (tt, record { fits = n-is .1 })) $
           -- where looking begins
           move ! (1 ∷ []) $ calls-handing ! fm (known .1 .1 .1 .0) (to-cover-begin 𝓤 H A mem′ run s s-is c c-is P t refl i (i-is .1) m m-is n (n-is .1) (may .2 .covering .size, hn))
-          (λ cs. and-then ! (its ! 37 refl) (and-then ! (its ! 35 refl) (and-then ! (its ! 31 refl) (and-then ! (its ! 29 refl) (and-then ! (its ! 25 refl) (and-then ! (its ! 23 refl) (no-more !))))))) (λ cs r ws h is _.
-          land ! (from ! (stop !)) (init ! 22 refl (typed cover-cursor 𝓤 H A W r is)) $ move ! (1 ∷ []) $ keeping ! En 2 11 refl $ forget ! 24 refl $ forget ! 26 refl $ forget ! 28 refl $ forget ! 30 refl $
+          (λ cs. and-then ! (its ! 39 refl) (and-then ! (its ! 37 refl) (and-then ! (its ! 33 refl) (and-then ! (its ! 31 refl) (and-then ! (its ! 27 refl) (and-then ! (its ! 25 refl) (no-more !))))))) (λ cs r ws h is _.
+          land ! (from ! (stop !)) (init ! 24 refl (typed cover-cursor 𝓤 H A W r is)) $ move ! (1 ∷ []) $ keeping ! En 2 11 refl $ forget ! 26 refl $ forget ! 28 refl $ forget ! 30 refl $ forget ! 32 refl $
           loops-from W 𝓣 En Post left Inv code-mir.turn-1 code-mir.t-11 turn-at (begun i m k n hn r is h))))))
 
 walk : WalkAsking it
 walk M 𝓤 H A W mem′ run 𝓣 known κs qs bounds a g are = needs 𝓤 (MayFind (a .1 .1 .0) (now (a .0)) (now (a .1 .0))) _ (λ may.
     qed W (raw (alive 𝓤 H A f.signature κs qs) ∷ ‵ (owns (typesAt (f.signature .params) κs) a (valss (typesAt (f.signature .params) κs) (spells ps κs) a)) ∷ []) ∵ takes ! 1 κs qs $ takes ! 0 (κs .1) (qs .1) $ drop ! $ drop ! $ move ! (1 ∷ []) $
-    entering ! (𝓣 .C) (𝓣 .Λ) code.function _ (typed-all ps 𝓤 H A W κs a are) (λ bs. move ! (42 ∷ 43 ∷ []) $
+    entering ! (𝓣 .C) (𝓣 .Λ) code.function _ (typed-all ps 𝓤 H A W κs a are) (λ bs. move ! (44 ∷ 45 ∷ []) $
     begins 𝓤 H A W mem′ run (loan-of (κs .0) (qs .0) (a .0)) (loan-of (κs .1 .0) (qs .1 .0) (a .1 .0)) (now (a .0)) (now (a .1 .0)) (a .1 .1 .0) (a .1 .1 .1 .0) (are .0 .0 .1) (are .1 .0 .0 .1) (are .1 .1 .0) (are .1 .1 .1 .0) may 𝓣 known bs))
 
 pub find-spec : {M : Type 1} → stated.statement M
 unfolding code.routine tablesOf
-find-spec 𝓤 H 𝓜 𝓖 𝓡 = walked-asking it 𝓤 H 𝓜 𝓖 𝓡 code.env #find (code.unfolded 𝓤 H 𝓜 𝓡) (code.calls-search-cover·last-row, (code.calls-rows·compare, (code.calls-rows·slot-unless, (code.calls-search-cover·begin, (code.calls-search-cover·step, tt))))) walk
+find-spec 𝓤 H 𝓜 𝓖 𝓡 = walked-asking it 𝓤 H 𝓜 𝓖 𝓡 code.env #find (code.unfolded 𝓤 H 𝓜 𝓡) (code.calls-search-cover·last-row, (code.calls-rows·compare, (code.calls-rows·slot-unless, (code.calls-search-cover·begin, (code.calls-rows·compare-at, (code.calls-search-cover·step, tt)))))) walk

@@ -53,7 +53,7 @@ loop-again c =
     (c .after-in2 .ensures, rights-next (a .table .now) (a .terms) (a .done) (l .joins) (l .right) (l .next) (l .inv .1) (l .inv .0) (t .0) (t .1))
 
 returns : tie.Need-returns Inv-loop μ-loop
-returns c = c .before .before .before .loop .inv .1
+returns c = rw (c .with-right .ensures) (c .before .before .before .before .loop .inv .1)
 
 pub pass-rights-spec : {M : Type 1} → statement M
-pass-rights-spec = tie.close (tie.spec Inv-loop μ-loop (λ c κs. search needs) loop-holds (λ c κs. search needs) add-joins (λ c κs. search needs) loop-less loop-again returns)
+pass-rights-spec = tie.close (tie.spec Inv-loop μ-loop (λ c κs. search needs) loop-holds (λ c κs. search needs) add-joins (λ c κs. search needs) loop-less loop-again (λ c κs. search needs) returns)

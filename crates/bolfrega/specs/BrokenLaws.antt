@@ -1,7 +1,7 @@
 -- What depends on whether the verdict is broken. Assumes nothing.
 use mathlib.Core.Path.{_≡_, refl}
-use Rattle.working_order.specs.Order.{Verdict, holds, broken, full, spent}
-use Rattle.standalone.specs.Told.{ifBroken}
+use Rattle.spec_order.specs.Order.{Verdict, holds, broken, full, spent}
+use Rattle.host_check.specs.Details.{ifBroken}
 
 module _ {A : Type 0} where
   -- the other thing, where it is not

@@ -1,8 +1,8 @@
--- The numbers that the library's functions give beside the refusals of document 01 and the verdicts of crate telling. Definitions only.
+-- The numbers that the library's functions give beside the refusals of document 01 and the verdicts of crate `host_result`. Definitions only.
 -- Assumes nothing.
 use Prim.Native.Nat.{ℕ}
-use Rattle.calls.specs.Judging.{Judgement, accepted, turnedAway}
-use Rattle.calls.specs.Replies.{Reply, refused, answered}
+use Rattle.spec_calls.specs.Judging.{Judgement, accepted, turnedAway}
+use Rattle.spec_calls.specs.Replies.{Reply, refused, answered}
 
 -- the version of this interface
 abbrev pub version : ℕ

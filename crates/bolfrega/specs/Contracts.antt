@@ -3,13 +3,13 @@ use mathlib.Core.Path.{_≡_}
 use mathlib.Core.List.{List}
 use Prim.Native.Nat.{ℕ}
 use lib.ListN.{replicate}
-use Rattle.plan_file.specs.Refusals.{fault}
-use Rattle.working_order.specs.Journal.{Row}
-use Rattle.calls.specs.Checking.{Settings, journalAfter}
-use Rattle.calls.specs.Judging.{judgeOf, Means}
-use Rattle.calls.specs.Codes.{codeBy}
-use Rattle.standalone.specs.Told.{zeroRow}
-use Rattle.standalone.specs.Contracts.{ChecksBy}
+use Rattle.spec_file.specs.Refusals.{fault}
+use Rattle.spec_order.specs.Journal.{Row}
+use Rattle.spec_calls.specs.Checking.{Settings, journalAfter}
+use Rattle.spec_calls.specs.Judging.{judgeOf, JudgementMeans}
+use Rattle.spec_calls.specs.Codes.{codeBy}
+use Rattle.host_check.specs.Details.{zeroRow}
+use Rattle.host_check.specs.Contracts.{ChecksBy}
 use Rattle.bolfrega.specs.Codes.{judgementCode, placeIn}
 
 -- r is the number that refuses the file bs, or 0, and i the number of the refused record
@@ -22,7 +22,7 @@ pub record Judges (bs w : List ℕ) (r i : ℕ) : Type 0 where
   pub code : r ≡ codeBy judgementCode (judgeOf bs w)
   pub place : i ≡ placeIn (judgeOf bs w)
   -- accepted means that there is an accepting path, turned away that there is none
-  pub meaning : Means bs w (judgeOf bs w)
+  pub meaning : JudgementMeans bs w (judgeOf bs w)
 
 -- J rows of zeros
 unfoldable pub zeroRows : ℕ → List (Row ℕ)

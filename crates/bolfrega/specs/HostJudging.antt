@@ -8,21 +8,21 @@ use native.Mathlib.Nat.{suc-ne-zero}
 use native.Mathlib.Omega.{arith}
 use lib.Dec.{leb, ltb}
 use lib.ListN.{length}
-use Rattle.basics.specs.Elements.{any}
+use Rattle.spec_basics.specs.Elements.{any}
 use Rattle.relation.specs.Relation.{states}
-use Rattle.language.specs.WordRelation.{rejected}
-use Rattle.plan_file.specs.Limits.{terminals}
-use Rattle.language.specs.Automaton.{Accepts, TurnsAway}
-use Rattle.plan_file.specs.Refusals.{Refusal, fault}
-use Rattle.plan_file.specs.Views.{automatonOf}
-use Rattle.calls.specs.Judging.{Judgement, accepted, turnedAway, wordLimit, wordFault, judgementBy, judgeOf, Means}
-use Rattle.calls.specs.Replies.{Reply, refused, answered}
-use Rattle.calls.specs.Codes.{firstAnswerCode, codeBy}
+use Rattle.spec_language.specs.WordRelation.{rejected}
+use Rattle.spec_file.specs.Limits.{terminals}
+use Rattle.spec_language.specs.Automaton.{Accepts, TurnsAway}
+use Rattle.spec_file.specs.Refusals.{Refusal, fault}
+use Rattle.spec_file.specs.Views.{automatonOf}
+use Rattle.spec_calls.specs.Judging.{Judgement, accepted, turnedAway, wordLimit, wordFault, judgementBy, judgeOf, JudgementMeans}
+use Rattle.spec_calls.specs.Replies.{Reply, refused, answered}
+use Rattle.spec_calls.specs.Codes.{firstAnswerCode, codeBy}
 use Rattle.bolfrega.specs.Codes.{acceptedCode, turnedAwayCode, judgementCode, placeIn}
 use Rattle.bolfrega.specs.Contracts.{Judges}
 use Rattle.bolfrega.specs.Hosts.{JudgeTells}
 use Rattle.bolfrega.specs.HostReplies.{Why, why, why-not}
-use Rattle.telling.specs.LowNumbers.{record-none, low-high, LowIn, judge-low}
+use Rattle.host_result.specs.LowNumbers.{record-none, low-high, LowIn, judge-low}
 
 word-refused : (w : List ℕ) → (wordFault w ≡ 0 → ⊥) → wordFault w ≡ 11
 unfolding wordFault
@@ -61,7 +61,7 @@ module _ (bs w : List ℕ) (r i : ℕ) (h : Judges bs w r i) where
         }
 
   module _ (z : fault bs .number ≡ 0) (n : wordFault w ≡ 0) (c : i ≡ 0) where
-    tells-as : (g : Judgement) → r ≡ judgementCode g → Means bs w (answered g) → JudgeTells bs w r i
+    tells-as : (g : Judgement) → r ≡ judgementCode g → JudgementMeans bs w (answered g) → JudgeTells bs w r i
     tells-as accepted e m =
         record {
           file-refused = λ k. absurd (k z);
@@ -92,7 +92,7 @@ module _ (bs w : List ℕ) (r i : ℕ) (h : Judges bs w r i) where
       by (refused y) e = tells-by y e (why (fault bs) (wordFault w) last y e)
       by (answered g) e =
           let t = why-not (fault bs) (wordFault w) last g e in
-          tells-as (t .0) (t .1) (h .place ∙ ap placeIn e) g (h .code ∙ ap (codeBy judgementCode) e) (subst (Means bs w) e (h .meaning))
+          tells-as (t .0) (t .1) (h .place ∙ ap placeIn e) g (h .code ∙ ap (codeBy judgementCode) e) (subst (JudgementMeans bs w) e (h .meaning))
 
   -- ---- in short, for the reader; nothing cites these
 

@@ -10,19 +10,19 @@ use native.Mathlib.Omega.{arith}
 use lib.Dec.{eqb, ltb}
 use lib.ListN.{length, getD, drop, length-replicate, List·getD-append}
 use borrow.Author.Tests.{eqb-true, ltb-true, ne-eqb, eq-eqb, lt-ltb}
-use Rattle.plan_file.specs.Refusals.{Refusal, refuse, fault, byNumber}
-use Rattle.working_order.specs.Journal.{Row}
-use Rattle.working_order.specs.Order.{Answer, Verdict, holds, broken, full, spent}
-use Rattle.calls.specs.Checking.{Settings, journalLimit, journalFault, orderOn, checkOf, keptBy, journalAfter, shown}
-use Rattle.calls.specs.Promising.{promises, broken-word, broken-writes}
-use Rattle.calls.specs.Replies.{Reply, refused, answered, unless}
-use Rattle.calls.specs.Writing.{roomFault, writeOf, writtenBy, bufferAfter}
-use Rattle.calls.specs.Codes.{firstAnswerCode, holdsCode, brokenCode, fullCode, verdictCode, codeBy}
-use Rattle.standalone.specs.Told.{zeroRow, answerCode, rowIn, lastThree, detailsOf, shownBy, shownOf}
+use Rattle.spec_file.specs.Refusals.{Refusal, refuse, fault, byNumber}
+use Rattle.spec_order.specs.Journal.{Row}
+use Rattle.spec_order.specs.Order.{Answer, Verdict, holds, broken, full, spent}
+use Rattle.spec_calls.specs.Checking.{Settings, journalLimit, journalFault, orderOn, checkOf, keptBy, journalAfter, shown}
+use Rattle.spec_calls.specs.Promising.{promises, broken-word, broken-writes}
+use Rattle.spec_calls.specs.Replies.{Reply, refused, answered, unless}
+use Rattle.spec_calls.specs.Writing.{roomFault, writeOf, writtenBy, bufferAfter}
+use Rattle.spec_calls.specs.Codes.{firstAnswerCode, holdsCode, brokenCode, fullCode, verdictCode, codeBy}
+use Rattle.host_check.specs.Details.{zeroRow, answerCode, rowAfter, lastThree, detailsOf, shownBy, shownOf}
 use Rattle.bolfrega.specs.BrokenLaws.{if-broken-same}
 use Rattle.bolfrega.specs.Contracts.{zeroRows, ChecksZeros}
 use Rattle.bolfrega.specs.Hosts.{RowsRefused}
-use Rattle.telling.specs.LowNumbers.{LowIn, check-low}
+use Rattle.host_result.specs.LowNumbers.{LowIn, check-low}
 
 -- ---- the numbers of the verdicts
 
@@ -70,11 +70,11 @@ module _ (bs old : List ℕ) (g : Settings) (rows : List (Row ℕ)) (size : leng
   abbrev wrote : Reply ℕ
   wrote = writeOf bs after (a .used) (a .row) (length old)
 
-  row-same : a .verdict ≡ broken → rowIn after (a .row) ≡ brokenRow a
+  row-same : a .verdict ≡ broken → rowAfter after (a .row) ≡ brokenRow a
   unfolding journalAfter
   row-same v =
       let c = promises bs g a e .counts in
-      ap (λ (xs : List (Row ℕ)). rowIn xs (a .row)) (ap (keptBy rows) e)
+      ap (λ (xs : List (Row ℕ)). rowAfter xs (a .row)) (ap (keptBy rows) e)
       ∙ List·getD-append (a .journal) (drop (a .used) rows) zeroRow (a .row) (omega (arith, c .last-row v, c .used-rows))
 
   pub details-same : detailsOf bs after (length old) (answered a) ≡ answerDetails bs old a

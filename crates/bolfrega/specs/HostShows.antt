@@ -10,26 +10,26 @@ use lib.Dec.{leb}
 use lib.ListN.{length, getD, take, drop}
 use lib.Seq.{take-at, drop-at}
 use borrow.Author.Tests.{leb-true, leb-false}
-use Rattle.basics.specs.Lists.{getD-map}
+use Rattle.spec_basics.specs.Lists.{getD-map}
 use Rattle.relation.specs.Relation.{states, pairs}
-use Rattle.language.specs.Grammar.{initial}
-use Rattle.language.specs.Spelling.{DerivesWithin}
-use Rattle.language.specs.WordRelation.{wordRelation}
-use Rattle.plan_file.specs.Refusals.{refuse, byNumber}
-use Rattle.plan_file.specs.Views.{rulesOf, productionsOf, automatonOf}
-use Rattle.working_order.specs.Behind.{wordBehind}
-use Rattle.working_order.specs.Journal.{Row, noRow, capped}
-use Rattle.working_order.specs.Order.{Answer, Verdict, broken}
-use Rattle.calls.specs.Codes.{refusedBy}
-use Rattle.calls.specs.Base.{base, words}
-use Rattle.calls.specs.Checking.{Settings, checkOf, shown}
-use Rattle.calls.specs.DemandThree.{Promises}
-use Rattle.calls.specs.JournalTruth.{row-true}
-use Rattle.calls.specs.Promising.{from-order}
-use Rattle.calls.specs.Replies.{answered, unless, refused}
-use Rattle.calls.specs.Writing.{longWord, roomFault, wordOf, writtenBy}
-use Rattle.calls.specs.WritingTruth.{room-cases}
-use Rattle.standalone.specs.Told.{zeroRow, lastThree, shownBy}
+use Rattle.spec_language.specs.Grammar.{initial}
+use Rattle.spec_language.specs.Spelling.{DerivesWithin}
+use Rattle.spec_language.specs.WordRelation.{wordRelation}
+use Rattle.spec_file.specs.Refusals.{refuse, byNumber}
+use Rattle.spec_file.specs.Views.{rulesOf, productionsOf, automatonOf}
+use Rattle.spec_order.specs.Behind.{wordBehind}
+use Rattle.spec_order.specs.Journal.{Row, noRow, capped}
+use Rattle.spec_order.specs.Order.{Answer, Verdict, broken}
+use Rattle.spec_calls.specs.Codes.{refusedBy}
+use Rattle.spec_calls.specs.Base.{base, words}
+use Rattle.spec_calls.specs.Checking.{Settings, checkOf, shown}
+use Rattle.spec_calls.specs.DemandThree.{Promises}
+use Rattle.spec_calls.specs.JournalTruth.{row-true}
+use Rattle.spec_calls.specs.Promising.{from-order}
+use Rattle.spec_calls.specs.Replies.{answered, unless, refused}
+use Rattle.spec_calls.specs.Writing.{longWord, roomFault, wordOf, writtenBy}
+use Rattle.spec_calls.specs.WritingTruth.{room-cases}
+use Rattle.host_check.specs.Details.{zeroRow, lastThree, shownBy}
 use Rattle.bolfrega.specs.Hosts.{toldPass, toldPairs, toldLength, toldRefused, InBuffer, Shows}
 use Rattle.bolfrega.specs.HostReplies.{brokenRow, writing, ToldAnswer}
 

@@ -4,17 +4,17 @@ use mathlib.Core.List.{List, [], _∷_}
 use Prim.Native.Nat.{ℕ}
 use lib.ListN.{length, getD}
 use Rattle.relation.specs.Relation.{states, pairs}
-use Rattle.language.specs.WordRelation.{wordRelation}
-use Rattle.plan_file.specs.Refusals.{refuse}
-use Rattle.plan_file.specs.Views.{automatonOf}
-use Rattle.working_order.specs.Journal.{capped}
-use Rattle.working_order.specs.Order.{Answer, Verdict, broken}
-use Rattle.calls.specs.Checking.{Settings, checkOf, shown}
-use Rattle.calls.specs.Codes.{verdictCode, refusedBy}
-use Rattle.calls.specs.DemandThree.{Agrees, Promises}
-use Rattle.calls.specs.Replies.{answered, unless}
-use Rattle.calls.specs.Writing.{roomFault, writtenBy}
-use Rattle.standalone.specs.Told.{lastThree, shownBy}
+use Rattle.spec_language.specs.WordRelation.{wordRelation}
+use Rattle.spec_file.specs.Refusals.{refuse}
+use Rattle.spec_file.specs.Views.{automatonOf}
+use Rattle.spec_order.specs.Journal.{capped}
+use Rattle.spec_order.specs.Order.{Answer, Verdict, broken}
+use Rattle.spec_calls.specs.Checking.{Settings, checkOf, shown}
+use Rattle.spec_calls.specs.Codes.{verdictCode, refusedBy}
+use Rattle.spec_calls.specs.DemandThree.{Agrees, Promises}
+use Rattle.spec_calls.specs.Replies.{answered, unless}
+use Rattle.spec_calls.specs.Writing.{roomFault, writtenBy}
+use Rattle.host_check.specs.Details.{lastThree, shownBy}
 use Rattle.bolfrega.specs.BrokenLaws.{if-broken-same}
 use Rattle.bolfrega.specs.Hosts.{toldJoins, toldPass, toldPairs, toldLength, toldRefused, TellsAlike}
 use Rattle.bolfrega.specs.HostReplies.{brokenRow, writing, ToldAnswer}

@@ -6,23 +6,23 @@ use Prim.Native.Nat.{ℕ, suc, _+_, _*_, _≤_, _<_, zero-le}
 use native.Mathlib.Omega.{arith}
 use lib.ListN.{length, take}
 use Rattle.relation.specs.Relation.{states}
-use Rattle.language.specs.Automaton.{Accepts}
-use Rattle.plan_file.specs.Refusals.{Refusal, fault}
-use Rattle.plan_file.specs.Views.{rulesOf, automatonOf}
-use Rattle.working_order.specs.Stopping.{Stops}
-use Rattle.working_order.specs.Order.{Answer, Verdict, holds, broken, full, spent}
-use Rattle.calls.specs.Base.{base}
-use Rattle.calls.specs.Checking.{Settings, journalFault, checkOf, shown}
-use Rattle.calls.specs.DemandThree.{Derivable, Counterexample, joinsBound, Promises}
-use Rattle.calls.specs.Promising.{from-order}
-use Rattle.calls.specs.Replies.{Reply, refused, answered}
-use Rattle.calls.specs.Codes.{firstAnswerCode, holdsCode, brokenCode, fullCode, spentCode, verdictCode}
-use Rattle.standalone.specs.Told.{lastThree}
+use Rattle.spec_language.specs.Automaton.{Accepts}
+use Rattle.spec_file.specs.Refusals.{Refusal, fault}
+use Rattle.spec_file.specs.Views.{rulesOf, automatonOf}
+use Rattle.spec_order.specs.Stopping.{Stops}
+use Rattle.spec_order.specs.Order.{Answer, Verdict, holds, broken, full, spent}
+use Rattle.spec_calls.specs.Base.{base}
+use Rattle.spec_calls.specs.Checking.{Settings, journalFault, checkOf, shown}
+use Rattle.spec_calls.specs.DemandThree.{Derivable, Counterexample, joinsBound, Promises}
+use Rattle.spec_calls.specs.Promising.{from-order}
+use Rattle.spec_calls.specs.Replies.{Reply, refused, answered}
+use Rattle.spec_calls.specs.Codes.{firstAnswerCode, holdsCode, brokenCode, fullCode, spentCode, verdictCode}
+use Rattle.host_check.specs.Details.{lastThree}
 use Rattle.bolfrega.specs.BrokenLaws.{if-not-broken}
 use Rattle.bolfrega.specs.Contracts.{Refuses, ChecksZeros}
 use Rattle.bolfrega.specs.Hosts.{FilePasses, FileRefused, RowsRefused, FileTells, toldRecord, toldJoins, toldUsed, toldPass, toldRow, toldPairs, toldLength, toldRefused, Decided, Refusing, RunsOut, Verdicts, Details, Stays, CheckTells}
 use Rattle.bolfrega.specs.HostReplies.{same-verdict, verdict-high, Why, brokenRow, writing, rows-refused, refused-rows, why-refused, ToldRefusal, ToldAnswer, told-refusal, told-answer}
-use Rattle.telling.specs.LowNumbers.{file-refusal, record-none, low-high}
+use Rattle.host_result.specs.LowNumbers.{file-refusal, record-none, low-high}
 use Rattle.bolfrega.specs.HostJudging.{judge-tells}
 use Rattle.bolfrega.specs.HostShows.{run-shown}
 use Rattle.bolfrega.specs.HostStays.{tells-alike}

@@ -6,22 +6,22 @@ use mathlib.Core.List.{List, [], _∷_}
 use Prim.Native.Nat.{ℕ, suc, _+_, _*_, _≤_, _<_}
 use lib.ListN.{length, getD, take, drop}
 use Rattle.relation.specs.Relation.{states, pairs}
-use Rattle.language.specs.Grammar.{initial}
-use Rattle.language.specs.Spelling.{DerivesWithin}
-use Rattle.language.specs.Automaton.{Accepts, TurnsAway}
-use Rattle.language.specs.WordRelation.{wordRelation}
-use Rattle.plan_file.specs.Refusals.{fault}
-use Rattle.plan_file.specs.Views.{rulesOf, productionsOf, automatonOf}
-use Rattle.working_order.specs.Stopping.{Stops}
-use Rattle.working_order.specs.Journal.{absent, capped}
-use Rattle.working_order.specs.Order.{Answer, Verdict, full, spent}
-use Rattle.calls.specs.Base.{base}
-use Rattle.calls.specs.Checking.{Settings, journalLimit, checkOf}
-use Rattle.calls.specs.DemandThree.{Derivable, Counterexample, joinsBound, Extends}
-use Rattle.calls.specs.Judging.{wordFault}
-use Rattle.calls.specs.Replies.{answered}
-use Rattle.calls.specs.Writing.{longWord}
-use Rattle.calls.specs.Codes.{firstAnswerCode, holdsCode, brokenCode, fullCode, spentCode}
+use Rattle.spec_language.specs.Grammar.{initial}
+use Rattle.spec_language.specs.Spelling.{DerivesWithin}
+use Rattle.spec_language.specs.Automaton.{Accepts, TurnsAway}
+use Rattle.spec_language.specs.WordRelation.{wordRelation}
+use Rattle.spec_file.specs.Refusals.{fault}
+use Rattle.spec_file.specs.Views.{rulesOf, productionsOf, automatonOf}
+use Rattle.spec_order.specs.Stopping.{Stops}
+use Rattle.spec_order.specs.Journal.{absent, capped}
+use Rattle.spec_order.specs.Order.{Answer, Verdict, full, spent}
+use Rattle.spec_calls.specs.Base.{base}
+use Rattle.spec_calls.specs.Checking.{Settings, journalLimit, checkOf}
+use Rattle.spec_calls.specs.DemandThree.{Derivable, Counterexample, joinsBound, Extends}
+use Rattle.spec_calls.specs.Judging.{wordFault}
+use Rattle.spec_calls.specs.Replies.{answered}
+use Rattle.spec_calls.specs.Writing.{longWord}
+use Rattle.spec_calls.specs.Codes.{firstAnswerCode, holdsCode, brokenCode, fullCode, spentCode}
 use Rattle.bolfrega.specs.Codes.{acceptedCode, turnedAwayCode}
 use Rattle.bolfrega.specs.Contracts.{Judges, ChecksZeros}
 

@@ -2,13 +2,13 @@
 use mathlib.Core.Path.{_≡_, sym, ap, _∙_, subst}
 use mathlib.Core.List.{List}
 use Prim.Native.Nat.{ℕ}
-use Rattle.plan_file.specs.Answers.{refusalOf}
-use Rattle.plan_file.specs.Refusals.{Refusal, fault}
-use Rattle.plan_file.specs.declared.Refusal.{Refusal as RefusalAnswer}
-use Rattle.calls.specs.Judging.{judgeOf, Means}
-use Rattle.acceptance.specs.declared.Judged.{Judged}
-use Rattle.acceptance.specs.Answers.{judgedOf, Judging}
-use Rattle.calls.specs.Codes.{codeBy}
+use Rattle.spec_file.specs.Answers.{refusalOf}
+use Rattle.spec_file.specs.Refusals.{Refusal, fault}
+use Rattle.spec_file.specs.declared.Refusal.{Refusal as RefusalAnswer}
+use Rattle.spec_calls.specs.Judging.{judgeOf, JudgementMeans}
+use Rattle.call_judge.specs.declared.Judged.{Judged}
+use Rattle.call_judge.specs.Answers.{judgedOf, Judging}
+use Rattle.spec_calls.specs.Codes.{codeBy}
 use Rattle.bolfrega.specs.Codes.{judgementCode, placeIn}
 use Rattle.bolfrega.specs.Contracts.{Refuses, Judges}
 
@@ -20,4 +20,4 @@ refuses bs x e = record { number = ap (λ (y : Refusal). y .number) e; place = a
 pub judges : (bs w : List ℕ) (x y : Judged) → Judging bs w x → x ≡ y → Judges bs w (codeBy judgementCode (judgedOf y)) (placeIn (judgedOf y))
 judges bs w x y j q =
     let e : judgedOf y ≡ judgeOf bs w = ap judgedOf (sym q) ∙ j .answer in
-    record { code = ap (codeBy judgementCode) e; place = ap placeIn e; meaning = subst (Means bs w) (j .answer) (j .meaning) }
+    record { code = ap (codeBy judgementCode) e; place = ap placeIn e; meaning = subst (JudgementMeans bs w) (j .answer) (j .meaning) }

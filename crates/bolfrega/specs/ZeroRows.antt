@@ -10,21 +10,20 @@ use lib.ListN.{length, take, replicate, length-replicate, replicate-append-repli
 use lib.Seq.{take-at}
 use borrow.Author.Tests.{lt-ltb, ne-eqb, leb-true, leb-false}
 use Rattle.relation.specs.Representation.{value-none}
-use Rattle.plan_file.specs.Refusals.{Refusal, refuse, fault}
-use Rattle.working_order.specs.Journal.{Row}
-use Rattle.working_order.specs.Order.{Answer}
-use Rattle.calls.specs.Checking.{Settings, journalLimit, journalFault, checkOf, journalAfter}
-use Rattle.calls.specs.Promising.{promises}
-use Rattle.calls.specs.Replies.{Reply, refused}
-use Rattle.calls.specs.Rows.{rowOf, blank, settingsOf}
-use Rattle.calls.specs.declared.Options.{Options}
-use Rattle.calls.specs.declared.Row.{Row as LentRow}
-use Rattle.covers.specs.Rows.{Journal}
-use Rattle.telling.specs.Fronts.{journalOf}
-use Rattle.standalone.specs.Told.{zeroRow}
-use Rattle.telling.specs.Telling.{numbersIn}
-use Rattle.standalone.specs.Contracts.{Tells, ChecksBy, ChecksOver, ChecksAlone}
-use Rattle.telling.specs.declared.Told.{Told}
+use Rattle.spec_file.specs.Refusals.{Refusal, refuse, fault}
+use Rattle.spec_order.specs.Journal.{Row}
+use Rattle.spec_order.specs.Order.{Answer}
+use Rattle.spec_calls.specs.Checking.{Settings, journalLimit, journalFault, checkOf, journalAfter}
+use Rattle.spec_calls.specs.Promising.{promises}
+use Rattle.spec_calls.specs.Replies.{Reply, refused}
+use Rattle.spec_calls.specs.Rows.{rowOf, blank, settingsOf, Journal}
+use Rattle.spec_calls.specs.declared.Options.{Options}
+use Rattle.spec_calls.specs.declared.Row.{Row as LentRow}
+use Rattle.host_result.specs.Fronts.{journalOf}
+use Rattle.host_check.specs.Details.{zeroRow}
+use Rattle.host_result.specs.Results.{numbersIn}
+use Rattle.host_check.specs.Contracts.{Tells, ChecksBy, ChecksOver, ChecksAlone}
+use Rattle.host_result.specs.declared.CheckResult.{CheckResult}
 use Rattle.bolfrega.specs.Contracts.{zeroRows, ChecksZeros}
 
 -- ---- rows of zeros
@@ -101,7 +100,7 @@ module _ (bs : List ℕ) (o : Options) where
             }
 
 -- the details d of a check over rows x, which are blank
-pub over-zeros : (bs : List ℕ) (J : ℕ) (o : Options) (p : ℕ) (old new : List ℕ) (x : LentRow) → x ≡ blank → (t : Told) → ChecksAlone bs J x o p old new t → (d : List ℕ) → d ≡ numbersIn t → ChecksZeros bs (settingsOf J o) d old new (t .code)
+pub over-zeros : (bs : List ℕ) (J : ℕ) (o : Options) (p : ℕ) (old new : List ℕ) (x : LentRow) → x ≡ blank → (t : CheckResult) → ChecksAlone bs J x o p old new t → (d : List ℕ) → d ≡ numbersIn t → ChecksZeros bs (settingsOf J o) d old new (t .code)
 over-zeros bs J o p old new x e t h d q =
     subst (λ (y : List ℕ). ChecksZeros bs (settingsOf J o) y old new (t .code)) (sym q)
     (over-front bs o (numbersIn t) old new (t .code) J (subst (λ (y : LentRow). ChecksAlone bs J y o p old new t) e h .over))

@@ -1,12 +1,12 @@
 // The library for hosts in C and Rust: the calls of document 01 as functions on numbers and lent bytes. No function asks anything of
 // its caller. A result below 100 is the number that refused the call; from 100 on it is an answer (the verdicts' numbers are in crate
 // telling). `include/bolfrega.h` says the same to C.
-use acceptance::Judged;
-use calls::Options;
-use calls::Row;
-use telling::Told;
+use call_judge::Judged;
+use host_result::CheckResult;
+use spec_calls::Options;
+use spec_calls::Row;
 ghost use mathlib.Core.Path.{_≡_};
-ghost use Rattle.telling.specs.Telling.{numbersIn};
+ghost use Rattle.host_result.specs.Results.{numbersIn};
 ghost use Rattle.bolfrega.specs.Codes.{version};
 ghost use Rattle.bolfrega.specs.Contracts.{Refuses, Judges, ChecksZeros};
 
@@ -29,7 +29,7 @@ pub extern "C" fn bolfrega_version() -> u64
 pub extern "C" fn bolfrega_refusal(file: &[u8], place: &mut u64) -> u64
     ensures { λ r. ⌜ Refuses (now (file .entry)) r (now (place .exit)) ⌝ }
 {
-    let refusal = walk::file_refusal(file);
+    let refusal = file_whole::file_refusal(file);
     *place = refusal.place as u64;
     refusal.number
 }
@@ -40,7 +40,7 @@ pub extern "C" fn bolfrega_refusal(file: &[u8], place: &mut u64) -> u64
 pub extern "C" fn bolfrega_judge(file: &[u8], run: &[u8], place: &mut u64) -> u64
     ensures { λ r. ⌜ Judges (now (file .entry)) (now (run .entry)) r (now (place .exit)) ⌝ }
 {
-    let judged = acceptance::judge(file, run);
+    let judged = call_judge::judge(file, run);
     match judged {
         Judged::Accepted => {
             *place = 0;
@@ -60,7 +60,7 @@ pub extern "C" fn bolfrega_judge(file: &[u8], run: &[u8], place: &mut u64) -> u6
 // ---- the check
 
 // The eight details in the order of the header.
-fn details_of(told: Told) -> [u64; 8]
+fn details_of(told: CheckResult) -> [u64; 8]
     ensures { λ r. ⌜ r ≡ numbersIn told ⌝ }
 {
     [
@@ -90,7 +90,7 @@ pub extern "C" fn bolfrega_check(
     ensures { λ r. ⌜ ChecksZeros (now (file .entry)) (record { rows = rows; budget = budget }) (now (details .exit)) (now (buffer .entry)) (now (buffer .exit)) r ⌝ }
 {
     let options = Options { budget };
-    let told = standalone::checked(file, rows, Row::blank(), options, 0, buffer);
+    let told = host_check::check_and_write(file, rows, Row::blank(), options, 0, buffer);
     *details = details_of(told);
     told.code
 }

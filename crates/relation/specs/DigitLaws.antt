@@ -10,7 +10,7 @@ use lib.Arith.{digits-lt, lt-one, lt-of-le-ne}
 use lib.Pow.{pow-pos, pow-lt, shr-shr, high, low, field, mod-mod-pow, recompose}
 use lib.Bits.{bitAnd, bitOr, and-shr, and-step, or-shr, or-step, and-le-l, and-self}
 use borrow.Author.Tests.{eqb-true, eqb-false, eq-eqb, ltb-true, ltb-false}
-use Rattle.basics.specs.Tests.{or-left, or-right}
+use Rattle.spec_basics.specs.Tests.{or-left, or-right}
 use Rattle.relation.specs.Digits.{bit, digit, number, some, subset}
 
 -- ---- digits

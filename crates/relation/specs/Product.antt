@@ -32,8 +32,8 @@ unfoldable pub through : ℕ → ℕ → ℕ → ℕ → ℕ
 through n m x y = bitAnd (x / 2 ^ m) (column n) * bitAnd (y / 2 ^ (m * n)) (2 ^ n - 1)
 
 -- the pairs with a middle state below k
-unfoldable pub upTo : ℕ → ℕ → ℕ → ℕ → ℕ
-upTo n k x y = table n (λ a b. some k (λ m. has n x a m && has n y m b))
+unfoldable pub rowsUpTo : ℕ → ℕ → ℕ → ℕ → ℕ
+rowsUpTo n k x y = table n (λ a b. some k (λ m. has n x a m && has n y m b))
 
 -- ---- rows
 
@@ -128,24 +128,24 @@ module _ (n m x y : ℕ) (hm : m < n) where
       ∙ ap (λ (t : Bool). has n x a m && t) (bit-row b hb)
 
   -- one middle state more
-  pub upTo-next : bitOr (upTo n m x y) (through n m x y) ≡ upTo n (m + 1) x y
-  unfolding upTo has some
+  pub upTo-next : bitOr (rowsUpTo n m x y) (through n m x y) ≡ rowsUpTo n (m + 1) x y
+  unfolding rowsUpTo has some
   upTo-next =
-      ext-has n (bitOr (upTo n m x y) (through n m x y)) (upTo n (m + 1) x y)
-      (or-lt (n * n) (upTo n m x y) (through n m x y) (table-lt n _) through-lt) (table-lt n _)
+      ext-has n (bitOr (rowsUpTo n m x y) (through n m x y)) (rowsUpTo n (m + 1) x y)
+      (or-lt (n * n) (rowsUpTo n m x y) (through n m x y) (table-lt n _) through-lt) (table-lt n _)
       (λ a b ha hb.
-      bit-or (upTo n m x y) (through n m x y) (a * n + b)
+      bit-or (rowsUpTo n m x y) (through n m x y) (a * n + b)
       ∙ ap₂ (λ (s t : Bool). s || t) (has-table n (λ a b. some m (λ i. has n x a i && has n y i b)) a b ha hb) (has-through a b ha hb)
       ∙ or-comm (some m (λ i. has n x a i && has n y i b)) (has n x a m && has n y m b)
       ∙ sym (ap (λ (z : ℕ). some z (λ i. has n x a i && has n y i b)) (add-one m))
       ∙ sym (has-table n (λ a b. some (m + 1) (λ i. has n x a i && has n y i b)) a b ha hb))
 
-pub upTo-none : (n x y : ℕ) → upTo n 0 x y ≡ 0
-unfolding upTo some has
+pub upTo-none : (n x y : ℕ) → rowsUpTo n 0 x y ≡ 0
+unfolding rowsUpTo some has
 upTo-none n x y =
-    ext-has n (upTo n 0 x y) 0 (table-lt n _) (pow-pos (n * n))
+    ext-has n (rowsUpTo n 0 x y) 0 (table-lt n _) (pow-pos (n * n))
     (λ a b ha hb. has-table n (λ a b. some 0 (λ i. has n x a i && has n y i b)) a b ha hb ∙ sym (bit-zero (a * n + b)))
 
-pub upTo-all : (n x y : ℕ) → upTo n n x y ≡ compose n x y
-unfolding upTo compose
+pub upTo-all : (n x y : ℕ) → rowsUpTo n n x y ≡ compose n x y
+unfolding rowsUpTo compose
 upTo-all n x y = refl

@@ -8,7 +8,7 @@ use lib.Arith.{digits-lt, digits-div, digits-mod}
 use lib.Pow.{pow-pos, pow-lt}
 use lib.Bits.{bitOr, or-lt}
 use borrow.Author.Tests.{eqb-true, eq-eqb}
-use Rattle.basics.specs.Tests.{and-intro, and-fst, and-snd, and-not-both, iff-equal, not-passes, not-excludes}
+use Rattle.spec_basics.specs.Tests.{and-intro, and-fst, and-snd, and-not-both, iff-equal, not-passes, not-excludes}
 use Rattle.relation.specs.Digits.{bit, some}
 use Rattle.relation.specs.DigitLaws.{number-lt, bit-number, bit-zero, bit-power, bit-or, ext, subset-bit, bit-subset, some-at, some-of}
 use Rattle.relation.specs.Relation.{has, table, identity, compose, contained, single, insert, rejects}

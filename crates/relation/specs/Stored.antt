@@ -2,7 +2,7 @@
 use mathlib.Core.List.{List}
 use Prim.Native.Nat.{ℕ}
 use lib.ListN.{getD, set}
-use Rattle.basics.specs.Elements.{every}
+use Rattle.spec_basics.specs.Elements.{every}
 use Rattle.relation.specs.declared.Relation.{Relation}
 
 -- how many words hold one relation

@@ -10,8 +10,8 @@ use lib.Dec.{eqb}
 use lib.ListN.{length, getD, set, replicate, length-set, List·getD-eq-default}
 use lib.Seq.{ext-getD, getD-set-same, getD-set-other, set-out}
 use borrow.Author.Tests.{eqb-true, eqb-false}
-use Rattle.basics.specs.Elements.{every}
-use Rattle.basics.specs.Lists.{length-every, getD-every, every-one}
+use Rattle.spec_basics.specs.Elements.{every}
+use Rattle.spec_basics.specs.Lists.{length-every, getD-every, every-one}
 use Rattle.relation.specs.Relation.{states}
 use Rattle.relation.specs.Representation.{value}
 use Rattle.relation.specs.Stored.{relationWords, relationIn, withRelation, relationsOf}

@@ -8,15 +8,15 @@ use native.Mathlib.Omega.{arith}
 use lib.Dec.{T, ltb}
 use lib.ListN.{length, getD}
 use borrow.Author.Tests.{ltb-true, ltb-false}
-use Rattle.basics.specs.Tests.{and-fst, and-snd}
+use Rattle.spec_basics.specs.Tests.{and-fst, and-snd}
 use Rattle.relation.specs.Relation.{contained}
-use Rattle.working_order.specs.Journal.{liveOf}
-use Rattle.working_order.specs.Order.{larger}
-use Rattle.rows.specs.Base.{Row, Candidate}
-use Rattle.rows.specs.Forming.{isBelow, coversBy, slotCells}
-use Rattle.places.specs.Lists.{rowCells, heads, headCell, rowIn}
-use Rattle.covers.specs.Covers.{listsFrom}
-use Rattle.covers.specs.Looking.{Unseen, unseen-start, unseen-next, unseen-rises, unseen-live, unseen-none, unseen-free, seen}
+use Rattle.spec_order.specs.Journal.{liveOf}
+use Rattle.spec_order.specs.Order.{larger}
+use Rattle.search_rows.specs.Base.{Row, Candidate}
+use Rattle.search_rows.specs.Forming.{isBelow, coversBy, slotCells}
+use Rattle.search_order.specs.Lists.{rowCells, heads, headCell, rowAtPosition}
+use Rattle.search_links.specs.Covers.{listsFrom}
+use Rattle.search_links.specs.Looking.{Unseen, unseen-start, unseen-next, unseen-rises, unseen-live, unseen-none, unseen-free, seen}
 use Rattle.search_cover.specs.Seeking.{Leads, Finds, Seeks, Seeking, stepsLeft}
 use Rattle.search_cover.specs.Steps.{slotsFrom, coveredAt, hintedAt, linkedAt, firstLinked, fromSlot, begun, foundAt, stepped}
 use Rattle.search_cover.specs.declared.CoverCursor.{CoverCursor}
@@ -41,8 +41,8 @@ active-left l w = by (l .active) w
     by false h = absurd h
 
 -- the cursor keeps the invariant, with fewer than n steps left
-abbrev pub Keeps : Candidate → List Row → ℕ → List ℕ → ℕ → CoverCursor → Type 0
-Keeps c rows u t n l = Seeking c rows u t l × (stepsLeft l < n)
+abbrev pub SeekKeeps : Candidate → List Row → ℕ → List ℕ → ℕ → CoverCursor → Type 0
+SeekKeeps c rows u t n l = Seeking c rows u t l × (stepsLeft l < n)
 
 row-limit : {rows : List Row} {u : ℕ} {t : List ℕ} → Leads rows u t → length rows ≤ rowCells
 row-limit d = subst (λ (n : ℕ). n ≤ rowCells) (sym (d .size)) (d .limit)
@@ -75,7 +75,7 @@ module _ {c : Candidate} {rows : List Row} {u : ℕ} {t : List ℕ} where
   module _ (d : Leads rows u t) where
     -- ---- at a row that covers
 
-    covered-at : {l : CoverCursor} → l .active ≡ false → l .covers ≡ true → l .row < u → isBelow c (rowIn rows (l .row)) ≡ true
+    covered-at : {l : CoverCursor} → l .active ≡ false → l .covers ≡ true → l .row < u → isBelow c (rowAtPosition rows (l .row)) ≡ true
         → (headCell heads ≤ l .slot) × (l .slot < listsFrom) → Seeking c rows u t l
     covered-at {l} a k h e s =
         let n : l .row < length rows = subst (λ (n : ℕ). l .row < n) (sym (d .size)) h in
@@ -101,14 +101,14 @@ module _ {c : Candidate} {rows : List Row} {u : ℕ} {t : List ℕ} where
                 free = λ y. unseen-free c rows t (row-limit d) (d .covering) hh z h;
               }
 
-      at-first : (slot : ℕ) → (headCell heads ≤ slot) × (slot < listsFrom) → Keeps c rows u t 8193 (firstLinked t u (c .head) slot)
+      at-first : (slot : ℕ) → (headCell heads ≤ slot) × (slot < listsFrom) → SeekKeeps c rows u t 8193 (firstLinked t u (c .head) slot)
       at-first slot s =
           let cell = headCell (c .head) in
           (seek-linked (getD t cell 0) cell false slot s (unseen-start c rows t (row-limit d) (d .covering) hh), omega (arith, left-most (firstLinked t u (c .head) slot)))
 
       -- ---- the beginning: row v, then the row of the slot, then the linked rows
 
-      pub seek-begun : (v : ℕ) (covers : Bool) → (v < u → covers ≡ isBelow c (rowIn rows v)) → (n : ℕ) → n < slotCells → Seeking c rows u t (begun t u (c .head) v covers n)
+      pub seek-begun : (v : ℕ) (covers : Bool) → (v < u → covers ≡ isBelow c (rowAtPosition rows v)) → (n : ℕ) → n < slotCells → Seeking c rows u t (begun t u (c .head) v covers n)
       seek-begun v covers same n hn = by (covers && ltb v u) refl
         where
           inside : (headCell heads ≤ slotsFrom + n) × (slotsFrom + n < listsFrom)
@@ -137,35 +137,35 @@ module _ {c : Candidate} {rows : List Row} {u : ℕ} {t : List ℕ} where
         -- a linked row is live and of the nonterminal, so that only its effect matters
 
         module _ (s : l .linked ≡ true) where
-          live-there : liveOf (c .head) (rowIn rows (l .row)) ≡ true
+          live-there : liveOf (c .head) (rowAtPosition rows (l .row)) ≡ true
           live-there = unseen-live c rows t (row-limit d) (d .covering) hh (seek-unseen i w s) is-row
 
-          link-below : (b : Bool) → contained (rowIn rows (l .row) .effect) (c .effect) ≡ b → isBelow c (rowIn rows (l .row)) ≡ b
+          link-below : (b : Bool) → contained (rowAtPosition rows (l .row) .effect) (c .effect) ≡ b → isBelow c (rowAtPosition rows (l .row)) ≡ b
           unfolding isBelow
-          link-below b e = ap (λ (v : Bool). v && contained (rowIn rows (l .row) .effect) (c .effect)) live-there ∙ e
+          link-below b e = ap (λ (v : Bool). v && contained (rowAtPosition rows (l .row) .effect) (c .effect)) live-there ∙ e
 
-          link-larger : contained (rowIn rows (l .row) .effect) (c .effect) ≡ false
-              → contained (c .effect) (rowIn rows (l .row) .effect) ≡ larger contained c (rowIn rows (l .row))
+          link-larger : contained (rowAtPosition rows (l .row) .effect) (c .effect) ≡ false
+              → contained (c .effect) (rowAtPosition rows (l .row) .effect) ≡ larger contained c (rowAtPosition rows (l .row))
           unfolding larger
           link-larger e =
-              sym (ap₂ (λ (v n : Bool). v && (contained (c .effect) (rowIn rows (l .row) .effect) && not n)) live-there e ∙ right (contained (c .effect) (rowIn rows (l .row) .effect)))
+              sym (ap₂ (λ (v n : Bool). v && (contained (c .effect) (rowAtPosition rows (l .row) .effect) && not n)) live-there e ∙ right (contained (c .effect) (rowAtPosition rows (l .row) .effect)))
             where
               right : (b : Bool) → (b && true) ≡ b
               right true = refl
               right false = refl
 
-        pub seek-stepped : (covers more : Bool) → covers ≡ coversBy (l .linked) c (rowIn rows (l .row))
-            → (l .linked ≡ true → more ≡ contained (c .effect) (rowIn rows (l .row) .effect)) → Keeps c rows u t (stepsLeft l) (stepped t u (c .head) l covers more)
+        pub seek-stepped : (covers more : Bool) → covers ≡ coversBy (l .linked) c (rowAtPosition rows (l .row))
+            → (l .linked ≡ true → more ≡ contained (c .effect) (rowAtPosition rows (l .row) .effect)) → SeekKeeps c rows u t (stepsLeft l) (stepped t u (c .head) l covers more)
         seek-stepped covers more e o = by covers (l .linked) refl refl
           where
-            at : (k : Bool) → l .linked ≡ k → covers ≡ coversBy k c (rowIn rows (l .row))
-            at k s = e ∙ ap (λ (b : Bool). coversBy b c (rowIn rows (l .row))) s
+            at : (k : Bool) → l .linked ≡ k → covers ≡ coversBy k c (rowAtPosition rows (l .row))
+            at k s = e ∙ ap (λ (b : Bool). coversBy b c (rowAtPosition rows (l .row))) s
 
-            is-below : (k : Bool) → l .linked ≡ k → isBelow c (rowIn rows (l .row)) ≡ covers
+            is-below : (k : Bool) → l .linked ≡ k → isBelow c (rowAtPosition rows (l .row)) ≡ covers
             is-below true s = link-below s covers (sym (at true s))
             is-below false s = sym (at false s)
 
-            on : l .linked ≡ true → covers ≡ false → Keeps c rows u t (stepsLeft l) (linkedAt u (getD t (l .row) 0) (l .row) (l .larger || more) (l .slot))
+            on : l .linked ≡ true → covers ≡ false → SeekKeeps c rows u t (stepsLeft l) (linkedAt u (getD t (l .row) 0) (l .row) (l .larger || more) (l .slot))
             on s z =
                 let y = seek-unseen i w s in (
                   seek-linked (getD t (l .row) 0) (l .row) (l .larger || more) (l .slot) (i .slot)
@@ -181,7 +181,7 @@ module _ {c : Candidate} {rows : List Row} {u : ℕ} {t : List ℕ} where
                 )
 
             by : (b k : Bool) → covers ≡ b → l .linked ≡ k
-                → Keeps c rows u t (stepsLeft l) (cond b (foundAt l) (cond k (linkedAt u (getD t (l .row) 0) (l .row) (l .larger || more) (l .slot)) (firstLinked t u (c .head) (l .slot))))
+                → SeekKeeps c rows u t (stepsLeft l) (cond b (foundAt l) (cond k (linkedAt u (getD t (l .row) 0) (l .row) (l .larger || more) (l .slot)) (firstLinked t u (c .head) (l .slot))))
             by true k q s = (covered-at refl refl (seek-row i w) (is-below k s ∙ q) (i .slot), omega (arith, active-left l w, row-inside))
             by false true q s = on s q
             by false false q s = let h = at-first (l .slot) (i .slot) in (h .0, omega (arith, h .1, active-left l w, ap hinted s, row-inside))

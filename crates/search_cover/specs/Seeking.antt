@@ -6,11 +6,11 @@ use mathlib.Core.List.{List}
 use Prim.Native.Nat.{ℕ, _+_, _-_, _≤_, _<_}
 use lib.ListN.{length}
 use Rattle.relation.specs.Relation.{contained}
-use Rattle.working_order.specs.Order.{dropped}
-use Rattle.rows.specs.Base.{Row, Candidate}
-use Rattle.places.specs.Lists.{rowCells, heads, headCell}
-use Rattle.covers.specs.Covers.{listsFrom, Covering, Free}
-use Rattle.covers.specs.Looking.{Unseen}
+use Rattle.spec_order.specs.Order.{dropped}
+use Rattle.search_rows.specs.Base.{Row, Candidate}
+use Rattle.search_order.specs.Lists.{rowCells, heads, headCell}
+use Rattle.search_links.specs.Covers.{listsFrom, Covering, Free}
+use Rattle.search_links.specs.Looking.{Unseen}
 use Rattle.search_cover.specs.declared.CoverCursor.{CoverCursor}
 
 -- the table leads along the live ones of these u rows

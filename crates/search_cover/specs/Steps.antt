@@ -5,7 +5,7 @@ use mathlib.Core.List.{List}
 use Prim.Native.Nat.{ℕ, _+_}
 use lib.Dec.{ltb}
 use lib.ListN.{getD}
-use Rattle.places.specs.Lists.{rowCells, heads, headCell}
+use Rattle.search_order.specs.Lists.{rowCells, heads, headCell}
 use Rattle.search_cover.specs.declared.CoverCursor.{CoverCursor}
 
 -- the row of x that is noted as the one that covered last

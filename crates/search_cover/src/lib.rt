@@ -1,17 +1,17 @@
 // Looking for a row that covers a candidate: a cursor over the live rows of its nonterminal, moved in steps that know neither a row nor a
 // candidate. A step is given what comparing the row at the cursor with the candidate gave, and returns the cursor at the row to compare next.
-use deciding::Comparison;
-use deciding::FIRSTS;
-use deciding::LASTS;
-use deciding::SLOTS;
-use deciding::State;
+use search_state::Comparison;
+use search_state::FIRSTS;
+use search_state::LASTS;
+use search_state::SLOTS;
+use search_state::State;
 ghost use mathlib.Core.Path.{_≡_};
 ghost use Prim.Native.Nat.{_<_};
 ghost use lib.ListN.{length};
-ghost use Rattle.deciding.specs.Positions.{positionRow};
-ghost use Rattle.rows.specs.Forming.{slotCells};
-ghost use Rattle.places.specs.Lists.{rowCells};
-ghost use Rattle.covers.specs.Covers.{tableCells};
+ghost use Rattle.search_state.specs.Positions.{positionRow};
+ghost use Rattle.search_rows.specs.Forming.{slotCells};
+ghost use Rattle.search_order.specs.Lists.{rowCells};
+ghost use Rattle.search_links.specs.Covers.{tableCells};
 ghost use Rattle.search_cover.specs.Steps.{lastNoted, firstLinked, begun, foundAt, stepped};
 
 // While the cursor is `active`, `row` is the row to compare next. If `linked`, the link in `cell` led to it, and otherwise it is a hint. `larger`
@@ -34,8 +34,8 @@ pub fn last_row(table: &[u32], state: State, head: u8) -> usize
     ensures { λ r. ⌜ r ≡ positionRow (lastNoted (now (table .entry)) head) (state .counts .used) ⌝ }
 {
     let counts = state.counts;
-    let hint = places::position(table[LASTS + head as usize]);
-    deciding::position_row(hint, counts.used)
+    let hint = search_order::position(table[LASTS + head as usize]);
+    search_state::position_row(hint, counts.used)
 }
 
 // The cursor at the first linked row of `head`, or past the last one.
@@ -44,7 +44,7 @@ fn at_first_link(table: &[u32], used: usize, head: u8, slot: usize) -> CoverCurs
     ensures { λ r. ⌜ r ≡ firstLinked (now (table .entry)) used head slot ⌝ }
 {
     let cell = FIRSTS + head as usize;
-    let row = places::position(table[cell]);
+    let row = search_order::position(table[cell]);
     CoverCursor {
         active: row < used,
         covers: false,
@@ -83,7 +83,7 @@ pub fn begin(
             slot,
         };
     }
-    let hint = places::position(table[slot]);
+    let hint = search_order::position(table[slot]);
     if hint < used {
         return CoverCursor {
             active: true,
@@ -132,7 +132,7 @@ pub fn step(
     }
     if cursor.linked {
         let row = cursor.row;
-        let next = places::position(table[row]);
+        let next = search_order::position(table[row]);
         return CoverCursor {
             active: next < used,
             covers: false,

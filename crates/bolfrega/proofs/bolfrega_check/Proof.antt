@@ -1,4 +1,4 @@
--- `standalone::checked` over rows of zeros, with its numbers stored in the details. Assumes nothing.
+-- `host_check::check_and_write` over rows of zeros, with its numbers stored in the details. Assumes nothing.
 use borrow.Author.Needs.{needs}
 use Rattle.bolfrega.specs.ZeroRows.{over-zeros}
 use Rattle.bolfrega.proofs.bolfrega_check.Statement.{statement}
@@ -7,7 +7,7 @@ use Rattle.bolfrega.proofs.bolfrega_check.Tie as tie
 returns : tie.Need-returns
 returns c =
     let a = c .before .before .before .before .before .before .before .before .args in
-    let told = c .before .before .before .checked in
+    let told = c .before .before .before .check-and-write in
     let zero = c .before .before .before .before .before .blank in
     over-zeros (a .file .now) (a .rows) (record { budget = a .budget }) 0 (a .buffer .now) _ (zero .result) (zero .ensures) (told .result) (told .ensures) (c .details-of .result) (c .details-of .ensures)
 

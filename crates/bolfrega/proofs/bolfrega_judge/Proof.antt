@@ -1,4 +1,4 @@
--- The case of `acceptance::judge` picks number and record as the definition does. Assumes nothing.
+-- The case of `call_judge::judge` picks number and record as the definition does. Assumes nothing.
 use borrow.Author.Needs.{needs}
 use Rattle.bolfrega.specs.Telling.{judges}
 use Rattle.bolfrega.proofs.bolfrega_judge.Statement.{statement}

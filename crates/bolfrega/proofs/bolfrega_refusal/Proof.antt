@@ -1,4 +1,4 @@
--- Number and record are those of `walk::file_refusal`. Assumes nothing.
+-- Number and record are those of `file_whole::file_refusal`. Assumes nothing.
 use borrow.Author.Needs.{needs}
 use Rattle.bolfrega.specs.Telling.{refuses}
 use Rattle.bolfrega.proofs.bolfrega_refusal.Statement.{statement}

@@ -2,7 +2,7 @@
 use mathlib.Core.Path.{sym}
 use lib.Seq.{length-take-le}
 use borrow.Author.Needs.{needs}
-use Rattle.page.specs.StandsLaws.{text-stands, text-count, text-within}
+use Rattle.host_page.specs.StandsLaws.{text-stands, text-count, text-within}
 use Rattle.plan_check.proofs.answer_front.Statement.{statement}
 use Rattle.plan_check.proofs.answer_front.Tie as tie
 

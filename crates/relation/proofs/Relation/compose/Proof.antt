@@ -4,14 +4,14 @@ use mathlib.Core.Path.{_≡_, sym, ap, _∙_}
 use Prim.Native.Nat.{ℕ, _-_, _≤_, _<_}
 use native.Mathlib.Omega.{arith}
 use lib.Bits.{bitOr}
-use Rattle.relation.specs.Product.{rows, column, through, upTo, through-lt, upTo-next, upTo-none, upTo-all}
+use Rattle.relation.specs.Product.{rows, column, through, rowsUpTo, through-lt, upTo-next, upTo-none, upTo-all}
 use Rattle.relation.specs.Relation.{states}
 use Rattle.relation.specs.Representation.{value}
 use Rattle.relation.proofs.Relation.compose.Statement.{statement}
 use Rattle.relation.proofs.Relation.compose.Tie as tie
 
 abbrev Inv-loop : tie.InvT-loop
-Inv-loop x y bits₀ m₀ bits m = (m ≤ states) × (bits ≡ upTo states m x y)
+Inv-loop x y bits₀ m₀ bits m = (m ≤ states) × (bits ≡ rowsUpTo states m x y)
 
 abbrev μ-loop : tie.MeasureT-loop
 μ-loop x y bits₀ m₀ bits m = states - m
@@ -38,7 +38,7 @@ returns c =
     let x = c .before .before .args .self .bits in
     let y = c .before .before .args .next .bits in
     let e : c .before .loop .m ≡ states = omega arith in
-    c .before .loop .inv .1 ∙ ap (λ (k : ℕ). upTo states k x y) e ∙ upTo-all states x y
+    c .before .loop .inv .1 ∙ ap (λ (k : ℕ). rowsUpTo states k x y) e ∙ upTo-all states x y
 
 pub compose-spec : {M : Type 1} → statement M
 compose-spec =

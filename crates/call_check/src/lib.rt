@@ -1,0 +1,52 @@
+// The inclusion check on a file. It asks nothing of its caller; a refused call does not change the journal.
+use search_laws::Answer;
+use search_state::CELLS;
+use search_state::END_CELL;
+use search_state::State;
+use spec_calls::Options;
+use spec_calls::Row;
+use spec_file::LETTER_WORDS;
+use spec_file::Letters;
+use spec_file::RULE_LIMIT;
+use spec_file::Refusal;
+ghost use mathlib.Core.Path.{_≡_};
+ghost use Rattle.search_laws.specs.Meanings.{answerIn};
+ghost use Rattle.call_check.specs.Answers.{checkedBy};
+ghost use Rattle.call_check.specs.Contracts.{Checks};
+
+// The answer of a check, or what refused it.
+pub enum Checked {
+    Refused(Refusal),
+    Answered(Answer),
+}
+
+// Returns `told` where it has a number, and else the answer of `last`, the state in which the search ended.
+fn as_checked(told: Refusal, last: State) -> Checked
+    ensures { λ r. ⌜ r ≡ checkedBy told (answerIn last) ⌝ }
+{
+    if told.number != 0 {
+        return Checked::Refused(told);
+    }
+    Checked::Answered(search_step::answer_of(last))
+}
+
+// Decides whether every word of the plan in `file` is accepted, by the working order over the lent `journal`, in which it stores the rows that it
+// uses; `options` has the budget of joins. Proved by hand.
+pub fn check(file: &[u8], journal: &mut [Row], options: Options) -> Checked
+    ensures { λ r. ⌜ Checks (now (file .entry)) options (now (journal .entry)) (now (journal .exit)) r ⌝ }
+{
+    let mut letters: Letters = [0; LETTER_WORDS];
+    let mut rules = [[0u8; 4]; RULE_LIMIT];
+    let mut table = [END_CELL; CELLS];
+    let rows = journal.len();
+    let start = call_check_start::prepare(
+        file,
+        &mut letters,
+        &mut rules,
+        &mut table,
+        rows,
+        options,
+    );
+    let last = search_loops::run(journal, &mut table, &letters, &rules, start.state);
+    as_checked(start.refusal, last)
+}

@@ -1,0 +1,3 @@
+pub mod Details
+pub mod Contracts
+pub mod TellingLaws

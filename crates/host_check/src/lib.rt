@@ -1,0 +1,33 @@
+// One call for programs and hosts: the check over a journal of the library's own, and the run of a broken answer in the lent buffer. Its
+// parameters and its answer are plain values and lent bytes, so whoever calls it is proved by the toolchain.
+use host_result::CheckResult;
+use spec_calls::JOURNAL_LIMIT;
+use spec_calls::Options;
+use spec_calls::Row;
+ghost use Rattle.host_check.specs.Contracts.{ChecksAlone};
+
+// Runs a check of `file` on a fresh journal of `rows` rows, each initialised to `old`, with these `options`. If the verdict is
+// broken, writes its run to `buffer`. The result also contains row `probe` of the journal after the check, for tests. The proof is a walk
+// (proofs/checked).
+pub fn check_and_write(
+    file: &[u8],
+    rows: usize,
+    old: Row,
+    options: Options,
+    probe: usize,
+    buffer: &mut [u8],
+) -> CheckResult
+    ensures { λ r. ⌜ ChecksAlone (now (file .entry)) rows old options probe (now (buffer .entry)) (now (buffer .exit)) r ⌝ }
+{
+    let mut journal = [old; JOURNAL_LIMIT];
+    let n = host_result::lent_rows(rows);
+    let checked = call_check::check(file, &mut journal[..n], options);
+    let named = host_result::row_to_write(checked, file.len());
+    let at = host_result::row_number(named.row);
+    let row = journal[at];
+    let asked = host_result::row_number(probe);
+    let shown = journal[asked];
+    let m = named.bytes;
+    let writing = call_write::write(&file[..m], &journal[..n], named.used, named.row, buffer);
+    host_result::to_result(checked, row, shown, writing)
+}

@@ -1,0 +1,243 @@
+-- One pass, place by place: the candidates left from the place give the answer, and the rows that the pass began with still form what they
+-- formed then. Assumes nothing.
+use mathlib.Core.Path.{_≡_, refl, sym, ap, ap₂, _∙_, subst}
+use mathlib.Core.Bool.{Bool, true, false, _&&_, _||_}
+use mathlib.Core.List.{List, [], _∷_, map}
+use mathlib.Core.Logic.{inl, inr}
+use Prim.Native.Nat.{ℕ, suc, _+_, _-_, _≤_, _<_}
+use native.Mathlib.Nat.{le-refl}
+use native.Mathlib.Omega.{arith}
+use lib.Dec.{eqb, ltb}
+use lib.ListN.{length, length-map, length-append, List·getD-append, List·getD-eq-default}
+use borrow.Author.Tests.{eqb-true, ltb-true, ltb-false}
+use Rattle.spec_basics.specs.Elements.{In}
+use Rattle.spec_basics.specs.Lists.{getD-map}
+use Rattle.spec_basics.specs.Tests.{and-fst, and-snd}
+use Rattle.spec_language.specs.Grammar.{Symbol, terminal, nonterminal, Body, empty, one, two, Rule}
+use Rattle.relation.specs.Relation.{contained}
+use Rattle.spec_order.specs.Candidates.{sole, paired, bare}
+use Rattle.spec_order.specs.Coverage.{dropped-added}
+use Rattle.spec_order.specs.Journal.{absent}
+use Rattle.spec_order.specs.Order.{Verdict, going, andThen, dropped, walk, retire, born, added}
+use Rattle.spec_order.specs.Repeating.{PointsBelow, Repeats, pass-points}
+use Rattle.spec_order.specs.Walking.{Post, step-post}
+use Rattle.spec_calls.specs.Checking.{journalLimit}
+use Rattle.spec_calls.specs.Rows.{rowOf, blank, Journal}
+use Rattle.search_rows.specs.Base as order
+use Rattle.search_rows.specs.Forming.{Part, none, some, rowChoice, symbolChoice, leftPart, rightPart, partChoice, combined, formedBy, entryAt}
+use Rattle.search_state.specs.declared.Place.{Place}
+use Rattle.search_order.specs.Lists.{rowAtPosition, Listed}
+use Rattle.search_order.specs.Places.{onward, LeftFrom, FirstPlace, NextPlace}
+use Rattle.search_links.specs.Covers.{Covering}
+use Rattle.search_links.specs.Rows.{firstRows}
+use Rattle.search_links.specs.RowLaws.{rows-length, rows-at}
+use Rattle.search_laws.specs.Meanings.{progressOf, countsIn, withJoin}
+use Rattle.search_laws.specs.Problems.{Letters, Problem, algebraOf, rulesIn, problemIn}
+use Rattle.search_laws.specs.ProblemLaws.{problem-laws}
+use Rattle.search_laws.specs.Walks.{considerIn, walkIn, candidatesIn, isBefore, repeatsAt, Known}
+use Rattle.search_laws.specs.Contracts.{PassReady, Answers}
+use Rattle.search_laws.specs.Deciding.{answers-dropped}
+use Rattle.search_laws.specs.Remaining.{Remaining, EndsFrom, remaining-start, remaining-going, remaining-stopped, remaining-none}
+use Rattle.search_state.specs.declared.Counts.{Counts}
+use Rattle.search_laws.specs.declared.Outcome.the-variants.{Going}
+use Rattle.search_laws.specs.declared.Outcome.{Outcome}
+use Rattle.search_state.specs.declared.Terms.{Terms}
+
+-- ---- rows that the pass began with
+
+-- each is there, with the relation and the length that it had
+abbrev Kept : List order.Row → List order.Row → Type 0
+Kept A rows = (length A ≤ length rows) × ((i : ℕ) → i < length A → rowChoice i (rowAtPosition rows i) ≡ rowChoice i (rowAtPosition A i))
+
+kept-added : (k : ℕ) (c : order.Candidate) (A rows : List order.Row) → Kept A rows → Kept A (added contained k c rows)
+unfolding added retire
+kept-added k c A rows h =
+    let f : order.Row → order.Row = retire contained k c in
+    let n : length (map f rows) ≡ length rows = length-map rows f in (
+      omega (arith, h .0, n, length-append (map f rows) (born k c ∷ [])),
+      λ i l.
+          let m : i < length rows = omega (arith, l, h .0) in
+          ap (rowChoice i) (List·getD-append (map f rows) (born k c ∷ []) (rowOf blank) i (omega (arith, m, n)) ∙ getD-map f (rowOf blank) (rowOf blank) rows i m) ∙ h .1 i l,
+    )
+
+-- a candidate that goes on is one join more, over the same rows or with one added
+consider-goes : (t : Terms) (J : ℕ) (P : order.Progress → Type 0) (c : order.Candidate) (s s′ : order.Progress) → going s′ ≡ considerIn t J c s
+    → P (record { rows = s .rows; joins = suc (s .joins) }) → P (record { rows = added contained (t .pass) c (s .rows); joins = suc (s .joins) }) → P s′
+consider-goes t J P c s s′ e p q =
+    subst (Post P R) (sym e)
+    (step-post (algebraOf (problemIn t [] [])) J (t .budget) (t .pass) P R c s (λ e₁. tt) (λ e₁ e₂. p) (λ e₁ e₂ e₃. tt) (λ e₁ e₂ e₃ e₄. tt) (λ e₁ e₂ e₃ e₄. q))
+  where
+    R : Verdict → ℕ → order.Progress → Type 0
+    R v i u = Unit
+
+-- ---- what is formed from them
+
+-- the rows A are kept among the first u of the journal j, and no number below u is that of no row
+module _ (A : List order.Row) (u : ℕ) (j : Journal) (room : u ≤ length j) (few : u ≤ absent) (kept : Kept A (firstRows u j)) where
+  row-same : (i : ℕ) → PointsBelow (length A) i → rowChoice i (rowAtPosition (firstRows u j) i) ≡ rowChoice i (rowAtPosition A i)
+  row-same i (inl l) = kept .1 i l
+  row-same i (inr e) =
+      let none : (rows : List order.Row) → length rows ≤ u → rowAtPosition rows i ≡ rowOf blank =
+      λ rows h. List·getD-eq-default rows (rowOf blank) (omega (arith, h, few, e)) in
+      ap (rowChoice i) (none (firstRows u j) (omega (arith, rows-length u j room)) ∙ sym (none A (omega (arith, kept .0, rows-length u j room))))
+
+  symbol-same : (letters : Letters) (s : Symbol) (i : ℕ) → PointsBelow (length A) (symbolChoice letters s i (rowAtPosition A i) .pointer)
+      → symbolChoice letters s i (rowAtPosition (firstRows u j) i) ≡ symbolChoice letters s i (rowAtPosition A i)
+  symbol-same letters (terminal c) i h = refl
+  symbol-same letters (nonterminal x) i h = row-same i h
+
+  -- a candidate of rows of A is formed from the used rows as it is from A
+  formed-same : (letters : Letters) (x : Rule) (p : Place) → Repeats (length A) (formedBy letters x p (rowAtPosition A (p .left)) (rowAtPosition A (p .right)))
+      → formedBy letters x p (rowAtPosition (firstRows u j) (p .left)) (rowAtPosition (firstRows u j) (p .right)) ≡ formedBy letters x p (rowAtPosition A (p .left)) (rowAtPosition A (p .right))
+  unfolding bare sole paired
+  formed-same letters x p = by (x .body)
+    where
+      formed : Body → List order.Row → order.Candidate
+      formed b rows = combined (x .head) (p .rule) b (partChoice letters (leftPart b) (p .left) (rowAtPosition rows (p .left))) (partChoice letters (rightPart b) (p .right) (rowAtPosition rows (p .right)))
+
+      by : (b : Body) → Repeats (length A) (formed b A) → formed b (firstRows u j) ≡ formed b A
+      by empty h = refl
+      by (one s) h = ap (λ (c : order.Choice). sole (x .head) (p .rule) c) (symbol-same letters s (p .left) (h .0))
+      by (two s s′) h = ap₂ (order.joined (x .head) (p .rule)) (symbol-same letters s (p .left) (h .0)) (symbol-same letters s′ (p .right) (h .1))
+
+-- what is formed at a place whose rows are among the first n points to no others
+before-below : (n i : ℕ) → isBefore n i ≡ true → PointsBelow n i
+before-below n i e = by (ltb i n) refl e
+  where
+    by : (b : Bool) → ltb i n ≡ b → (b || eqb i absent) ≡ true → PointsBelow n i
+    by true l h = inl (ltb-true i n l)
+    by false l h = inr (eqb-true i absent h)
+
+part-below : (letters : Letters) (p : Part) (n i : ℕ) (r : order.Row) → PointsBelow n i → PointsBelow n (partChoice letters p i r .pointer)
+part-below letters none n i r h = inr refl
+part-below letters (some (terminal c)) n i r h = inr refl
+part-below letters (some (nonterminal x)) n i r h = h
+
+formed-repeats : (n : ℕ) (letters : Letters) (x : Rule) (p : Place) (l r : order.Row) → repeatsAt n p ≡ true → (0 < n) × Repeats n (formedBy letters x p l r)
+unfolding bare sole paired
+formed-repeats n letters x p l r e =
+    let both = and-snd (ltb 0 n) (isBefore n (p .left) && isBefore n (p .right)) e in
+    (ltb-true 0 n (and-fst (ltb 0 n) (isBefore n (p .left) && isBefore n (p .right)) e), by (x .body) (before-below n (p .left) (and-fst (isBefore n (p .left)) (isBefore n (p .right)) both)) (before-below n (p .right) (and-snd (isBefore n (p .left)) (isBefore n (p .right)) both)))
+  where
+    by : (b : Body) → PointsBelow n (p .left) → PointsBelow n (p .right) → Repeats n (combined (x .head) (p .rule) b (partChoice letters (leftPart b) (p .left) l) (partChoice letters (rightPart b) (p .right) r))
+    by empty f g = (inr refl, inr refl)
+    by (one s) f g = (part-below letters (some s) n (p .left) l f, inr refl)
+    by (two s s′) f g = (part-below letters (some s) n (p .left) l f, part-below letters (some s′) n (p .right) r g)
+
+-- ---- the loop
+
+module _ (t : Terms) (P : Problem) (lists : List ℕ) (w₀ : Counts) (j₀ : Journal) where
+  -- the rows that the pass begins with
+  abbrev first : List order.Row
+  first = firstRows (w₀ .used) j₀
+
+  abbrev whole : order.Outcome
+  whole = walkIn t (length j₀) (onward (P .letters) first lists (P .rules) 0) (progressOf w₀ j₀)
+
+  -- the invariant
+  pub record InPass (covers : List ℕ) (w : Counts) (j : Journal) (p : Place) : Type 0 where
+    pub candidates : List order.Candidate
+    pub known : Known (t .before) candidates (firstRows (w .used) j)
+    -- each points to rows that the pass began with, or to none
+    pub points : (c : order.Candidate) → In c candidates → Repeats (length first) c
+    pub limit : length j₀ ≤ journalLimit
+    pub stands : LeftFrom (P .letters) first lists (P .rules) p candidates
+    pub left : Remaining (t .budget) whole (walkIn t (length j₀) candidates (progressOf w j)) w₀ j₀ w j
+    pub kept : Kept first (firstRows (w .used) j)
+    pub covering : Covering (firstRows (w .used) j) covers
+
+  module _ (listed : Listed first lists) where
+    pub pass-start : (covers : List ℕ) (p : Place) → PassReady t w₀ j₀ covers → Known (t .before) (candidatesIn P first) first → FirstPlace lists (P .rules) 0 p → InPass covers w₀ j₀ p
+    pass-start covers p r k o =
+        record {
+          candidates = onward (P .letters) first lists (P .rules) 0;
+          known = k;
+          points = pass-points (algebraOf P) first (rulesIn P) 0;
+          limit = r .limit;
+          stands = o (P .letters) first listed;
+          left = remaining-start (r .room) (r .paid);
+          kept = (le-refl (length first), λ i l. refl);
+          covering = r .covering;
+        }
+
+    module _ {covers : List ℕ} {w : Counts} {j : Journal} {p : Place} (g : InPass covers w j p) where
+      pub pass-end : length (P .rules) ≤ p .rule → Answers (t .budget) whole w₀ j₀ j (Going w)
+      unfolding walk
+      pass-end h = by (g .candidates) (g .stands) (g .left)
+        where
+          by : (cs : List order.Candidate) → LeftFrom (P .letters) first lists (P .rules) p cs → Remaining (t .budget) whole (walkIn t (length j₀) cs (progressOf w j)) w₀ j₀ w j → Answers (t .budget) whole w₀ j₀ j (Going w)
+          by [] s l = remaining-none l
+          by (c ∷ cs) s l = absurd (omega (arith, h, s .0))
+
+      -- the candidate is formed from the used rows
+      module _ (h : p .rule < length (P .rules)) {c : order.Candidate} (e : c ≡ formedBy (P .letters) (entryAt (P .rules) (p .rule)) p (rowAtPosition (firstRows (w .used) j) (p .left)) (rowAtPosition (firstRows (w .used) j) (p .right))) where
+        -- the candidate is the first that is left
+        abbrev Next : order.Candidate → List order.Candidate → Type 0
+        Next d ds = (d ≡ c) × ((q : Place) → NextPlace lists (P .rules) p q → LeftFrom (P .letters) first lists (P .rules) q ds)
+            × Remaining (t .budget) whole (walkIn t (length j₀) (d ∷ ds) (progressOf w j)) w₀ j₀ w j
+            × Known (t .before) (d ∷ ds) (firstRows (w .used) j)
+            × ((f : order.Candidate) → In f (d ∷ ds) → Repeats (length first) f)
+
+        few : w .used ≤ absent
+        few = omega (arith, g .left .room, g .limit)
+
+        next : (d : order.Candidate) × (ds : List order.Candidate) × Next d ds
+        next = by (g .candidates) (g .stands) (g .left) (g .known) (g .points)
+          where
+            by : (cs : List order.Candidate) → LeftFrom (P .letters) first lists (P .rules) p cs → Remaining (t .budget) whole (walkIn t (length j₀) cs (progressOf w j)) w₀ j₀ w j → Known (t .before) cs (firstRows (w .used) j) → ((f : order.Candidate) → In f cs → Repeats (length first) f) → (d : order.Candidate) × (ds : List order.Candidate) × Next d ds
+            by [] z l k m = absurd (z h)
+            by (d ∷ ds) z l k m = (
+              d,
+              ds,
+              (
+                z .1
+                    ∙ sym (formed-same first (w .used) j (omega (arith, g .left .room, g .left .same)) few (g .kept) (P .letters) (entryAt (P .rules) (p .rule)) p (subst (Repeats (length first)) (z .1) (m d (inl refl))))
+                    ∙ sym e,
+                λ q f. f (P .letters) first listed d ds z,
+                l,
+                k,
+                m,
+              ),
+            )
+
+        -- it would be dropped, if the pass before formed it
+        there : 0 < t .before → Repeats (t .before) c → dropped contained c (firstRows (w .used) j) ≡ true
+        there z y = subst (λ (d : order.Candidate). dropped contained d (firstRows (w .used) j) ≡ true) (next .2 .0) (next .2 .3 z (next .0) (inl refl) (subst (Repeats (t .before)) (sym (next .2 .0)) y))
+
+        others : Known (t .before) (next .1) (firstRows (w .used) j)
+        others z d m e = next .2 .3 z d (inr m) e
+
+        module _ {j′ : Journal} (s : length j′ ≡ length j) {r : Outcome} (a : Answers (t .budget) (considerIn t (length j) c (progressOf w j)) w j j′ r) where
+          -- it is taken, and the others are left
+          split : walkIn t (length j₀) (next .0 ∷ next .1) (progressOf w j) ≡ andThen (considerIn t (length j) c (progressOf w j)) (walkIn t (length j₀) (next .1))
+          unfolding walk
+          split = ap₂ (λ (n : ℕ) (d : order.Candidate). andThen (considerIn t n d (progressOf w j)) (walkIn t (length j₀) (next .1))) (sym (g .left .same)) (next .2 .0)
+
+          pub pass-stopped : EndsFrom r → Answers (t .budget) whole w₀ j₀ j′ r
+          pass-stopped z = remaining-stopped (next .2 .2) (considerIn t (length j) c (progressOf w j)) (walkIn t (length j₀) (next .1)) split j′ s r z a
+
+          gone : {w′ : Counts} → r ≡ Going w′ → Answers (t .budget) (considerIn t (length j) c (progressOf w j)) w j j′ (Going w′)
+          gone z = subst (λ (o : Outcome). Answers (t .budget) (considerIn t (length j) c (progressOf w j)) w j j′ o) z a
+
+          pub pass-going : {w′ : Counts} → r ≡ Going w′ → {covers′ : List ℕ} → Covering (firstRows (countsIn r .used) j′) covers′ → {q : Place} → NextPlace lists (P .rules) p q → InPass covers′ w′ j′ q
+          pass-going {w′} z {covers′} v {q} f =
+              let x = gone z in
+              record {
+                candidates = next .1;
+                known = consider-goes t (length j) (λ u. Known (t .before) (next .1) (u .rows)) c (progressOf w j) (progressOf w′ j′) (x .answer) others (λ z d m e. dropped-added (algebraOf P) (problem-laws P) (t .pass) c d (firstRows (w .used) j) (others z d m e));
+                points = λ d m. next .2 .4 d (inr m);
+                limit = g .limit;
+                stands = next .2 .1 q f;
+                left = remaining-going (next .2 .2) (considerIn t (length j) c (progressOf w j)) (walkIn t (length j₀) (next .1)) split j′ s w′ x;
+                kept = consider-goes t (length j) (λ u. Kept first (u .rows)) c (progressOf w j) (progressOf w′ j′) (x .answer) (g .kept) (kept-added (t .pass) c first (firstRows (w .used) j) (g .kept));
+                covering = subst (λ (o : Outcome). Covering (firstRows (countsIn o .used) j′) covers′) z v;
+              }
+
+      -- a candidate that the pass before formed is one join, and nothing else
+      pub pass-over : p .rule < length (P .rules) → w .joins < t .budget → repeatsAt (t .before) p ≡ true → {q : Place} → NextPlace lists (P .rules) p q
+          → InPass covers (withJoin w) j q
+      pass-over h paid e {q} f =
+          let c : order.Candidate = formedBy (P .letters) (entryAt (P .rules) (p .rule)) p (rowAtPosition (firstRows (w .used) j) (p .left)) (rowAtPosition (firstRows (w .used) j) (p .right)) in
+          let room : w .used ≤ length j = omega (arith, g .left .room, g .left .same) in
+          let z = formed-repeats (t .before) (P .letters) (entryAt (P .rules) (p .rule)) p (rowAtPosition (firstRows (w .used) j) (p .left)) (rowAtPosition (firstRows (w .used) j) (p .right)) e in
+          pass-going h {c = c} refl refl (answers-dropped t c w j room (g .left .paid) (λ y. omega (arith, y, paid)) (there h {c = c} refl (z .0) (z .1))) refl (g .covering) f

@@ -1,0 +1,100 @@
+-- Passing over candidates that the pass before formed: each is one join, and the invariant of the pass holds at the place after it. Assumes
+-- nothing.
+use mathlib.Core.Path.{_≡_, refl, ap, _∙_}
+use mathlib.Core.Bool.{Bool, true, not, _&&_, _||_}
+use mathlib.Core.List.{List}
+use Prim.Native.Nat.{ℕ, _+_, _<_}
+use native.Mathlib.Nat.{le-refl, le-trans}
+use native.Mathlib.Omega.{arith}
+use lib.Dec.{eqb, leb, ltb}
+use lib.ListN.{length}
+use borrow.Author.Tests.{leb-false, ltb-true, lt-ltb}
+use Rattle.spec_basics.specs.Tests.{and-intro, and-fst, and-snd, fails, not-excludes}
+use Rattle.spec_order.specs.Journal.{absent}
+use Rattle.search_state.specs.declared.Place.{Place}
+use Rattle.search_order.specs.Lists.{afterIn}
+use Rattle.search_order.specs.PlaceLaws.{follows-right}
+use Rattle.search_order.specs.Places.{NextPlace}
+use Rattle.search_links.specs.Covers.{listsIn}
+use Rattle.search_state.specs.Budgets.{isSpent}
+use Rattle.search_state.specs.declared.Terms.{Terms}
+use Rattle.search_laws.specs.Passing.{pass-over}
+use Rattle.search_laws.specs.Problems.{RuleBytes, Problem, withRules}
+use Rattle.search_laws.specs.Running.{passesAt, JoinsAlone, PassesRights, PassesOver}
+use Rattle.search_laws.specs.Walks.{isBefore, repeatsAt}
+use Rattle.search_laws.specs.declared.Reached.{Reached}
+
+counted-refl : (x : Reached) → JoinsAlone x x
+counted-refl x = record { joins = le-refl (x .counts .joins); used = refl; added = refl }
+
+counted-trans : {x y z : Reached} → JoinsAlone x y → JoinsAlone y z → JoinsAlone x z
+counted-trans a b = record { joins = le-trans (a .joins) (b .joins); used = b .used ∙ a .used; added = b .added ∙ a .added }
+
+-- the same place with another right, and one join more
+abbrev pub withRight : Reached → ℕ → ℕ → Reached
+withRight x n i = record { counts = record { used = x .counts .used; joins = n; added = x .counts .added }; place = record { rule = x .place .rule; left = x .place .left; right = i } }
+
+-- one more join may be made
+pub not-spent : (B n : ℕ) → not (isSpent B n) ≡ true → n < B
+not-spent B n e = leb-false B n (fails (leb B n) (not-excludes (leb B n) e))
+
+-- what is known of a candidate that may be passed over
+module _ (b : Terms) (n : ℕ) (x : Reached) (e : passesAt b n x ≡ true) where
+  rest-passes : (not (isSpent (b .budget) (x .counts .joins)) && repeatsAt (b .before) (x .place)) ≡ true
+  rest-passes = and-snd (ltb (x .place .rule) n) (not (isSpent (b .budget) (x .counts .joins)) && repeatsAt (b .before) (x .place)) e
+
+  passes-here : x .place .rule < n
+  passes-here = ltb-true (x .place .rule) n (and-fst (ltb (x .place .rule) n) (not (isSpent (b .budget) (x .counts .joins)) && repeatsAt (b .before) (x .place)) e)
+
+  pub passes-paid : x .counts .joins < b .budget
+  passes-paid = not-spent (b .budget) (x .counts .joins) (and-fst (not (isSpent (b .budget) (x .counts .joins))) (repeatsAt (b .before) (x .place)) rest-passes)
+
+  passes-again : repeatsAt (b .before) (x .place) ≡ true
+  passes-again = and-snd (not (isSpent (b .budget) (x .counts .joins))) (repeatsAt (b .before) (x .place)) rest-passes
+
+-- ---- the rights of one left
+
+module _ (t : List ℕ) (b : Terms) (x : Reached) where
+  pub rights-none : PassesRights t b x x
+  rights-none = record { counted = counted-refl x; done = λ P first j₁ j h e l k d. d }
+
+  pub rights-next : (n i m : ℕ) → PassesRights t b x (withRight x n i) → m ≡ afterIn (listsIn t) i → m < b .before → n < b .budget → PassesRights t b x (withRight x (n + 1) m)
+  rights-next n i m v em hm hn =
+      record {
+        counted = counted-trans (v .counted) (record { joins = omega arith; used = refl; added = refl });
+        done = λ P first j₁ j h e l k d q f.
+            pass-over b P (listsIn t) first j₁ k
+            (v .done P first j₁ j h e l k d (withRight x n m .place) (follows-right (listsIn t) (P .rules) (withRight x n i .place) m em (λ z. omega (arith, z, hm, l))))
+            h hn (again e) f;
+      }
+    where
+      -- the right is another of the first rows
+      again : repeatsAt (b .before) (x .place) ≡ true → repeatsAt (b .before) (withRight x n m .place) ≡ true
+      again e =
+          let both = isBefore (b .before) (x .place .left) && isBefore (b .before) (x .place .right) in
+          and-intro (ltb 0 (b .before)) (isBefore (b .before) (x .place .left) && isBefore (b .before) m) (and-fst (ltb 0 (b .before)) both e)
+          (and-intro (isBefore (b .before) (x .place .left)) (isBefore (b .before) m) (and-fst (isBefore (b .before) (x .place .left)) (isBefore (b .before) (x .place .right)) (and-snd (ltb 0 (b .before)) both e))
+          (ap (λ (z : Bool). z || eqb m absent) (lt-ltb m (b .before) hm)))
+
+-- ---- from place to place
+
+module _ (rules : RuleBytes) (t : List ℕ) (b : Terms) where
+  pub over-none : (x : Reached) → PassesOver rules t b x x
+  over-none x = record { counted = counted-refl x; stands = λ P first j₁ j l k g. g }
+
+  pub over-more : {x y z : Reached} → PassesOver rules t b x y → PassesOver rules t b y z → PassesOver rules t b x z
+  over-more u v = record { counted = counted-trans (u .counted) (v .counted); stands = λ P first j₁ j l k g. v .stands P first j₁ j l k (u .stands P first j₁ j l k g) }
+
+  -- the candidate of the place, and then the rights after it
+  pub over-left : (x r : Reached) (q : Place) → passesAt b (length rules) x ≡ true → PassesRights t b (withRight x (x .counts .joins + 1) (x .place .right)) r → NextPlace (listsIn t) rules (r .place) q
+      → PassesOver rules t b x (record { counts = r .counts; place = q }) × (x .counts .joins < r .counts .joins)
+  over-left x r q e v f =
+      let here = passes-here b (length rules) x e in
+      let paid = passes-paid b (length rules) x e in
+      let again = passes-again b (length rules) x e in (
+        record {
+          counted = record { joins = omega (arith, v .counted .joins); used = v .counted .used; added = v .counted .added };
+          stands = λ P first j₁ j l k g. v .done (withRules P rules) first j₁ j here again l k (λ p z. pass-over b (withRules P rules) (listsIn t) first j₁ k g here paid again z) q f;
+        },
+        omega (arith, v .counted .joins),
+      )

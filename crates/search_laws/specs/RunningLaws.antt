@@ -1,0 +1,160 @@
+-- The steps of the search between candidates: each comes to where the working order is. Assumes nothing.
+use mathlib.Core.Path.{_≡_, refl, sym, ap, _∙_, subst}
+use mathlib.Core.Bool.{Bool, true, false}
+use mathlib.Core.List.{List}
+use Prim.Native.Nat.{ℕ, _+_, _≤_, _<_}
+use native.Mathlib.Nat.{le-refl, le-trans}
+use native.Mathlib.Omega.{arith}
+use lib.Dec.{ltb}
+use lib.ListN.{length}
+use borrow.Author.Tests.{leb-true, leb-false, eq-eqb, ne-eqb, ltb-true, ltb-false}
+use Rattle.spec_calls.specs.Codes.{holdsCode, spentCode}
+use Rattle.search_rows.specs.Base as order
+use Rattle.search_rows.specs.Forming.{formedBy, entryAt}
+use Rattle.search_state.specs.declared.Place.{Place}
+use Rattle.search_order.specs.Lists.{rowCells, rowAtPosition, Listed}
+use Rattle.search_order.specs.Places as places
+use Rattle.search_links.specs.Covers.{listsIn, Covering}
+use Rattle.search_links.specs.Listing.{Gathered, gathered-listed, gathered-covering}
+use Rattle.spec_calls.specs.Rows.{Journal}
+use Rattle.search_links.specs.Rows.{firstRows}
+use Rattle.search_links.specs.RowLaws.{rows-length}
+use Rattle.search_state.specs.Budgets.{isSpent}
+use Rattle.search_state.specs.declared.Counts.{Counts}
+use Rattle.search_state.specs.declared.State.{State}
+use Rattle.search_state.specs.declared.Terms.{Terms}
+use Rattle.search_laws.specs.Closing.{Again, Done, endBy, endOf}
+use Rattle.search_laws.specs.Contracts.{PassReady, Answers, Checked}
+use Rattle.search_laws.specs.Deciding.{answers-spent}
+use Rattle.search_laws.specs.Meanings.{inNextPass, totalsOf, answerIn}
+use Rattle.search_laws.specs.Problems.{Problem, termsOf}
+use Rattle.search_laws.specs.Passes.{AtPass, pass-done, pass-again, pass-known}
+use Rattle.search_laws.specs.Passing.{InPass, pass-start, pass-end, pass-stopped}
+use Rattle.search_laws.specs.Running.{target, InLimits, PassBegun, Onward, PassesOver}
+use Rattle.search_laws.specs.States.{ended, standingBy, standing, finished, openingBy, opening}
+use Rattle.search_laws.specs.Walks.{candidatesIn, passIn, Known}
+use Rattle.search_laws.specs.declared.Answer.the-variants as answer
+use Rattle.search_laws.specs.declared.Answer.{Answer}
+use Rattle.search_laws.specs.declared.Outcome.the-variants as outcome
+use Rattle.search_laws.specs.declared.Outcome.{Outcome}
+use Rattle.search_laws.specs.declared.Reached.{Reached}
+use Rattle.search_laws.specs.declared.Stop.the-variants as stop
+use Rattle.search_laws.specs.declared.Unbroken.the-variants as unbroken
+
+module _ (P : Problem) (B : ℕ) (j₀ : Journal) (s : State) (rows : s .rows ≡ length j₀) (count : s .rules ≡ length (P .rules)) where
+  -- the terms of pass k, which began at w, after one that began with n rows
+  abbrev pub at : ℕ → ℕ → Counts → Terms
+  at k n w = termsOf P B k (w .used) n
+
+  -- an end
+  over : (w : Counts) (b : Terms) (v i : ℕ) (j : Journal) (t : List ℕ) → length j ≡ length j₀ → b .budget ≡ B → Checked (target P B j₀) j₀ j (answerIn (ended s b w v i)) → Onward P B j₀ w (ended s b w v i) j t
+  over w b v i j t e f c = record { stands = record { size = e; rows = rows; count = count; goes = λ z. absurd z; ends = λ _. c }; joins = le-refl (w .joins); budget = f }
+
+  pub onward-from : {w₀ w : Counts} {r : State} {j : Journal} {t : List ℕ} → w₀ .joins ≤ w .joins → Onward P B j₀ w r j t → Onward P B j₀ w₀ r j t
+  onward-from h o = record { stands = o .stands; joins = le-trans h (o .joins); budget = o .budget }
+
+  module _ {first : Counts} {j₁ : Journal} {k : ℕ} (a : AtPass P B (target P B j₀) j₀ first j₁ k) (n : ℕ) where
+    -- an outcome that ends everything
+    pub stops : {j : Journal} → length j ≡ length j₁ → (o : Outcome) {y : Answer} → Answers B (passIn (at k n first) P first j₁) first j₁ j o → endOf k o ≡ Done y → Checked (target P B j₀) j₀ j y
+    stops e o x d = pass-done a e {r = o} x d
+
+    -- ---- at a place
+
+    module _ (fits : n ≤ rowCells) (known : Known n (candidatesIn P (firstRows (first .used) j₁)) (firstRows (first .used) j₁)) {t : List ℕ} {w : Counts} {j : Journal} {p : Place} (listed : Listed (firstRows (first .used) j₁) (listsIn t)) (g : InPass (at k n first) P (listsIn t) first j₁ t w j p) where
+      size : length j ≡ length j₀
+      size = g .left .same ∙ a .same
+
+      -- the budget is spent there
+      spent-there : p .rule < length (P .rules) → w .joins ≡ B → Checked (target P B j₀) j₀ j (answer.Ended unbroken.Spent (totalsOf w k))
+      spent-there h e =
+          let c : order.Candidate = formedBy (P .letters) (entryAt (P .rules) (p .rule)) p (rowAtPosition (firstRows (w .used) j) (p .left)) (rowAtPosition (firstRows (w .used) j) (p .right)) in
+          stops (g .left .same) (outcome.Stopped (stop.Ended unbroken.Spent w))
+          (pass-stopped (at k n first) P (listsIn t) first j₁ listed g h {c = c} refl refl {r = outcome.Stopped (stop.Ended unbroken.Spent w)}
+          (answers-spent (at k n first) c w j (omega (arith, g .left .room, g .left .same)) (g .left .paid) e) (λ i K. refl)) refl
+
+      pub stand-there : p .rule < length (P .rules) → Onward P B j₀ w (standing s (at k n first) w p) j t
+      stand-there h = by (isSpent B (w .joins)) refl
+        where
+          by : (b : Bool) → isSpent B (w .joins) ≡ b → Onward P B j₀ w (standingBy b s (at k n first) w p) j t
+          by true e = over w (at k n first) spentCode 0 j t size refl (spent-there h (omega (arith, leb-true B (w .joins) e, g .left .paid)))
+          by false e =
+              record {
+                stands = record {
+                  size = size;
+                  rows = rows;
+                  count = count;
+                  goes = λ _. record {
+                    first = first;
+                    journal = j₁;
+                    begun = record { pass = k; before = n; at-pass = a; fits = fits; known = known; terms = refl };
+                    listed = listed;
+                    in-pass = g;
+                    here = h;
+                    left = refl;
+                    right = refl;
+                    unspent = leb-false B (w .joins) e;
+                  };
+                  ends = λ z. absurd z;
+                };
+                joins = le-refl (w .joins);
+                budget = refl;
+              }
+
+    -- ---- after the last place
+
+    module _ {j : Journal} (e : length j ≡ length j₁) {w : Counts} (x : Answers B (passIn (at k n first) P first j₁) first j₁ j (outcome.Going w)) where
+      pub close-last : (t : List ℕ) → w .added ≡ 0 → Onward P B j₀ w (finished s (at k n first) w) j t
+      close-last t u = over w (at k n first) holdsCode 0 j t (e ∙ a .same) refl (stops e (outcome.Going w) x (ap (λ (b : Bool). endBy b w k) (eq-eqb (w .added) 0 u)))
+
+      again : (w .added ≡ 0 → ⊥) → endOf k (outcome.Going w) ≡ Again w
+      again z = ap (λ (b : Bool). endBy b w k) (ne-eqb (w .added) 0 z)
+
+      pub close-again : (w .added ≡ 0 → ⊥) → AtPass P B (target P B j₀) j₀ (inNextPass w) j (k + 1)
+      close-again z = pass-again a e {r = outcome.Going w} x (again z)
+
+      pub close-known : (w .added ≡ 0 → ⊥) → length j₀ ≤ rowCells → Known (first .used) (candidatesIn P (firstRows (w .used) j)) (firstRows (w .used) j)
+      close-known z few = pass-known a e {r = outcome.Going w} x (again z) few
+
+  -- where the pass has begun
+  pub stand-on : {first : Counts} {j₁ : Journal} (y : PassBegun P B j₀ s first j₁) {t : List ℕ} {w : Counts} {j : Journal} {p : Place} → Listed (firstRows (first .used) j₁) (listsIn t)
+      → InPass (s .terms) P (listsIn t) first j₁ t w j p → p .rule < length (P .rules) → Onward P B j₀ w (standing s (s .terms) w p) j t
+  stand-on {first} {j₁} y {t} {w} {j} {p} listed g h =
+      subst (λ (b : Terms). Onward P B j₀ w (standing s b w p) j t) (sym (y .terms))
+      (stand-there (y .at-pass) (y .before) (y .fits) (y .known) listed (subst (λ (b : Terms). InPass b P (listsIn t) first j₁ t w j p) (y .terms) g) h)
+
+  -- and has come over places that need no work
+  pub over-reached : {first : Counts} {j₁ : Journal} (y : PassBegun P B j₀ s first j₁) {t : List ℕ} {j : Journal} {x r : Reached} → PassesOver (P .rules) t (s .terms) x r → Listed (firstRows (first .used) j₁) (listsIn t)
+      → InPass (s .terms) P (listsIn t) first j₁ t (x .counts) j (x .place) → InPass (s .terms) P (listsIn t) first j₁ t (r .counts) j (r .place)
+  over-reached {first} {j₁} y {t} {j} v listed g =
+      v .stands P first j₁ j (omega (arith, ap (λ (b : Terms). b .before) (y .terms), y .fits)) listed g
+
+  -- ---- a pass begins
+
+  module _ (z : InLimits P B j₀) {w : Counts} {j : Journal} {k : ℕ} (a : AtPass P B (target P B j₀) j₀ w j k) (n : ℕ) (fits : n ≤ rowCells) (known : Known n (candidatesIn P (firstRows (w .used) j)) (firstRows (w .used) j)) {t t′ : List ℕ} (c : Covering (firstRows (w .used) j) t) (g : Gathered (w .used) t t′) where
+    size-first : length (firstRows (w .used) j) ≡ w .used
+    size-first = rows-length (w .used) j (omega (arith, a .room, a .same))
+
+    few : length (firstRows (w .used) j) ≤ rowCells
+    few = omega (arith, size-first, a .room, z .limit)
+
+    g′ : Gathered (length (firstRows (w .used) j)) t t′
+    g′ = subst (λ (m : ℕ). Gathered m t t′) (sym size-first) g
+
+    listed : Listed (firstRows (w .used) j) (listsIn t′)
+    listed = gathered-listed (firstRows (w .used) j) few t t′ c g′
+
+    ready : PassReady (at k n w) w j t′
+    ready =
+        record { room = omega (arith, a .room, a .same); limit = omega (arith, z .limit, a .same); paid = a .paid; pass = omega (arith, a .first); covering = gathered-covering (firstRows (w .used) j) few t t′ c g′ }
+
+    -- at its first place, and then at one that is reached from there
+    module _ (p : Place) (o : places.FirstPlace (listsIn t′) (P .rules) 0 p) {r : Reached} (v : PassesOver (P .rules) t′ (at k n w) (record { counts = w; place = p }) r) where
+      reached : InPass (at k n w) P (listsIn t′) w j t′ (r .counts) j (r .place)
+      reached = v .stands P w j j fits listed (pass-start (at k n w) P (listsIn t′) w j listed t′ p ready known o)
+
+      pub open-reached : Onward P B j₀ w (opening s (at k n w) r) j t′
+      open-reached = onward-from (v .counted .joins) (by (ltb (r .place .rule) (s .rules)) refl)
+        where
+          by : (b : Bool) → ltb (r .place .rule) (s .rules) ≡ b → Onward P B j₀ (r .counts) (openingBy b s (at k n w) r) j t′
+          by true e = stand-there a n fits known listed reached (omega (arith, ltb-true (r .place .rule) (s .rules) e, count))
+          by false e = close-last a n refl (pass-end (at k n w) P (listsIn t′) w j listed reached (omega (arith, ltb-false (r .place .rule) (s .rules) e, count))) t′ (v .counted .added ∙ a .none-added)

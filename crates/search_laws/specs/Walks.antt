@@ -1,0 +1,49 @@
+-- One candidate, candidates one after the other, and a pass, under the terms of the pass; and those that the pass before formed too.
+-- Definitions only. Assumes nothing.
+use mathlib.Core.Path.{_≡_}
+use mathlib.Core.Bool.{Bool, true, _&&_, _||_}
+use mathlib.Core.List.{List, []}
+use Prim.Native.Nat.{ℕ, _<_}
+use lib.Dec.{eqb, ltb}
+use lib.ListN.{length}
+use Rattle.spec_basics.specs.Elements.{In}
+use Rattle.relation.specs.Relation.{contained}
+use Rattle.spec_order.specs.Candidates.{passCandidates}
+use Rattle.spec_order.specs.Journal.{absent}
+use Rattle.spec_order.specs.Order.{dropped, consider, walk}
+use Rattle.spec_order.specs.Repeating.{Repeats}
+use Rattle.search_rows.specs.Base.{Row, Candidate, Progress, Outcome}
+use Rattle.search_state.specs.declared.Place.{Place}
+use Rattle.spec_calls.specs.Rows.{Journal}
+use Rattle.search_links.specs.Rows.{firstRows}
+use Rattle.search_state.specs.declared.Counts.{Counts}
+use Rattle.search_state.specs.declared.Terms.{Terms}
+use Rattle.search_laws.specs.Meanings.{progressOf}
+use Rattle.search_laws.specs.Problems.{Problem, algebraOf, rulesIn, problemIn}
+
+abbrev pub considerIn : Terms → ℕ → Candidate → Progress → Outcome
+considerIn t J = consider contained (algebraOf (problemIn t [] []) .breaks) J (t .budget) (t .pass)
+
+abbrev pub walkIn : Terms → ℕ → List Candidate → Progress → Outcome
+walkIn t J = walk contained (algebraOf (problemIn t [] []) .breaks) J (t .budget) (t .pass)
+
+abbrev pub candidatesIn : Problem → List Row → List Candidate
+candidatesIn P rows = passCandidates (algebraOf P .forms) rows 0 (rulesIn P)
+
+-- the whole pass that begins at w over the journal j
+abbrev pub passIn : Terms → Problem → Counts → Journal → Outcome
+passIn t P w j = walkIn t (length j) (candidatesIn P (firstRows (w .used) j)) (progressOf w j)
+
+-- ---- what the pass before formed
+
+-- no row, or one of the first n
+abbrev pub isBefore : ℕ → ℕ → Bool
+isBefore n i = ltb i n || eqb i absent
+
+-- the rows of the place are such rows; where there were none, the first pass may be under way, and nothing was formed before
+abbrev pub repeatsAt : ℕ → Place → Bool
+repeatsAt n p = ltb 0 n && (isBefore n (p .left) && isBefore n (p .right))
+
+-- every candidate of `cs` whose rows are all below n is already covered by a live row of `rows`
+abbrev pub Known : ℕ → List Candidate → List Row → Type 0
+Known n cs rows = 0 < n → (c : Candidate) → In c cs → Repeats n c → dropped contained c rows ≡ true

@@ -1,0 +1,64 @@
+-- The plain data of the search (`PlainData.antt`), the places of the fields that the walks read, and the type of a cell. These stand here alone.
+-- Assumes nothing.
+use mathlib.Core.List.{[], _∷_}
+use Prim.Native.Nat.{_<_, _^_}
+use denote.RattleType.{RattleType}
+use denote.Builtin.{u32}
+use denote.Struct.Laws as LL
+use Rattle.search_rows.specs.declared.Candidate.{Candidate}
+use Rattle.search_order.specs.Lists.{heads}
+use Rattle.search_rows.proofs.Candidate as D
+use Rattle.search_rows.proofs.Candidate.Laws as D′
+use Rattle.search_state.specs.declared.State.{State}
+use Rattle.search_cover.specs.declared.CoverCursor.{CoverCursor}
+use Rattle.search_retire.specs.declared.RetireCursor.{RetireCursor}
+use Rattle.search_state.proofs.State as S
+use Rattle.search_state.proofs.State.Laws as S′
+use Rattle.search_state.proofs.Comparison as M
+use Rattle.search_state.proofs.Comparison.Laws as M′
+use Rattle.search_state.proofs.Fate as F
+use Rattle.search_state.proofs.Fate.Laws as F′
+use Rattle.search_cover.proofs.CoverCursor as L
+use Rattle.search_cover.proofs.CoverCursor.Laws as L′
+use Rattle.search_retire.proofs.RetireCursor as G
+use Rattle.search_retire.proofs.RetireCursor.Laws as G′
+use Rattle.walk_kit.proofs.PlainData.{Data, Means}
+
+abbrev pub candidate : Data
+candidate = record { type = D.the-type; laws = D′.the-laws; plain = D′.the-plain; copy = D′.the-copy; low = D′.lowers }
+
+abbrev pub state : Data
+state = record { type = S.the-type; laws = S′.the-laws; plain = S′.the-plain; copy = S′.the-copy; low = S′.lowers }
+
+abbrev pub comparison : Data
+comparison = record { type = M.the-type; laws = M′.the-laws; plain = M′.the-plain; copy = M′.the-copy; low = M′.lowers }
+
+abbrev pub fate : Data
+fate = record { type = F.the-type; laws = F′.the-laws; plain = F′.the-plain; copy = F′.the-copy; low = F′.lowers }
+
+abbrev pub cover-cursor : Data
+cover-cursor = record { type = L.the-type; laws = L′.the-laws; plain = L′.the-plain; copy = L′.the-copy; low = L′.lowers }
+
+abbrev pub retire-cursor : Data
+retire-cursor = record { type = G.the-type; laws = G′.the-laws; plain = G′.the-plain; copy = G′.the-copy; low = G′.lowers }
+
+-- ---- the places of the fields
+module _ (s : State) (is : Means state s) where
+  pub left-fits : s .left < 2 ^ 64
+  left-fits = LL.owed S.the-type S′.the-laws s (S′.lowered s ∷ []) is .1 .0 .1
+
+  pub right-fits : s .right < 2 ^ 64
+  right-fits = LL.owed S.the-type S′.the-laws s (S′.lowered s ∷ []) is .1 .1 .0 .1
+
+pub head-fits : (c : Candidate) → Means candidate c → c .head < heads
+head-fits c is = LL.owed D.the-type D′.the-laws c (D′.lowered c ∷ []) is .0 .1
+
+pub cover-row-fits : (l : CoverCursor) → Means cover-cursor l → l .row < 2 ^ 64
+cover-row-fits l is = LL.owed L.the-type L′.the-laws l (L′.lowered l ∷ []) is .1 .1 .1 .0 .1
+
+pub retire-row-fits : (g : RetireCursor) → Means retire-cursor g → g .row < 2 ^ 64
+retire-row-fits g is = LL.owed G.the-type G′.the-laws g (G′.lowered g ∷ []) is .1 .1 .0 .1
+
+-- a cell of the table
+abbrev pub cell : RattleType
+cell = u32

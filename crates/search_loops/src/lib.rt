@@ -1,0 +1,85 @@
+// The three loops that hold the lent journal; all else is covered code on values. Only here and in `rows` is an effect named: a loop reads a
+// row, has `rows` compare it with the candidate, and hands two bools on to steps that know neither.
+use relation::Letter;
+use search_cover::CoverCursor;
+use search_rows::Candidate;
+use search_state::Fate;
+use search_state::State;
+use spec_calls::Row;
+ghost use Rattle.search_rows.specs.Meanings.{candidateOf};
+ghost use Rattle.search_retire.specs.Clearing.{Settled};
+ghost use Rattle.search_laws.specs.Running.{MayFind, CoverFound, MaySettle, Running, Ran};
+
+// Looks for a live row that covers `candidate`, until one is found or none is left: at the row of its nonterminal that covered last, at the
+// row that is noted for its relation, and then along the linked rows. Any that covers will do: the contract is whether there is one.
+fn find(journal: &[Row], table: &[u32], state: State, candidate: Candidate) -> CoverCursor
+    requires { ⌜ MayFind state (now journal) (now table) ⌝ }
+    ensures { λ r. ⌜ CoverFound state candidate (now (journal .entry)) (now (table .entry)) r ⌝ }
+{
+    let head = candidate.head;
+    let last = search_cover::last_row(table, state, head);
+    let noted = journal[last];
+    let compared = search_rows::compare(noted, candidate);
+    let slot = search_rows::slot_unless(compared, candidate);
+    let mut cursor = search_cover::begin(table, state, head, last, compared, slot);
+    while cursor.active {
+        let at = cursor.row;
+        let held = journal[at];
+        let linked = cursor.linked;
+        let compared = search_rows::compare_at(held, candidate, linked);
+        cursor = search_cover::step(table, state, head, cursor, compared);
+    }
+    cursor
+}
+
+// Where `fate` says that no row covers `candidate` and there is room, the larger rows retire and it becomes the next row. `found` is where
+// looking for a cover ended.
+fn settle(
+    journal: &mut [Row],
+    table: &mut [u32],
+    state: State,
+    candidate: Candidate,
+    fate: Fate,
+    found: CoverCursor,
+)
+    requires { ⌜ MaySettle state candidate fate found (now journal) (now table) ⌝ }
+    ensures { λ r. ⌜ Settled (state .terms .pass) (candidateOf candidate) (state .counts .used) found (now (journal .entry)) (now (table .entry)) (now (journal .exit)) (now (table .exit)) ⌝ }
+{
+    let mut cursor = search_retire::begin(table, state, fate, found);
+    while cursor.active {
+        let row = cursor.row;
+        let held = journal[row];
+        let compared = search_rows::compare(held, candidate);
+        let new = cursor.new;
+        journal[row] = search_rows::replacement(state, candidate, new, compared, held);
+        cursor = search_retire::step(table, state, cursor, compared);
+    }
+}
+
+// Takes the candidates one after the other, to the end of the search. Between `find` and `settle` it is decided, once for both `settle` and
+// `advance`, what becomes of the candidate: rows that are used again (request C-19) make room at that seam, before it is asked.
+pub fn run(
+    journal: &mut [Row],
+    table: &mut [u32],
+    letters: &[Letter],
+    rules: &[[u8; 4]],
+    state: State,
+) -> State
+    requires { ⌜ Running (now letters) (now rules) state (now journal) state (now journal) (now table) ⌝ }
+    ensures { λ r. ⌜ Ran (now (letters .entry)) (now (rules .entry)) state (now (journal .entry)) (now (journal .exit)) (now (table .exit)) r ⌝ }
+{
+    let mut state = state;
+    while state.going {
+        let i = state.left;
+        let left = journal[i];
+        let k = state.right;
+        let right = journal[k];
+        let candidate = search_rows::form(letters, rules, state, left, right);
+        let found = find(journal, table, state, candidate);
+        let covered = found.covers;
+        let fate = search_rows::fate(state, candidate, covered);
+        settle(journal, table, state, candidate, fate, found);
+        state = search_passes::advance(rules, table, state, fate, found);
+    }
+    state
+}

@@ -1,0 +1,36 @@
+-- `search_passes::advance` meets its contract: the search stops, or goes on. Assumes nothing.
+use mathlib.Core.Path.{sym, ap, _∙_, subst}
+use Prim.Native.Nat.{ℕ, _≤_}
+use borrow.Author.Needs.{needs}
+use Rattle.search_laws.specs.Advancing.{Right, decided-so, decided-right, stopped-running, going-running, decided-used}
+use Rattle.search_laws.specs.Meanings.{countsIn}
+use Rattle.search_laws.specs.declared.Outcome.{Outcome}
+use Rattle.search_order.specs.Lists.{rowCells}
+use Rattle.search_passes.proofs.advance.Statement.{statement}
+use Rattle.search_passes.proofs.advance.Tie as tie
+
+go-on-requires : tie.Need-go-on-requires
+go-on-requires c κs =
+    let s = c .before .before .before .before .before .before .before .before .before .before in
+    let o = c .before .before .before .before .decide in
+    let u = decided-used (s .args .state) (s .args .fate) (s .pre .full) (s .pre .room) (s .pre .limit) in
+    record {
+      opens = record {
+        table = c .before .before .before .before .before .before .before .note .ensures .size ∙ s .pre .note .table;
+        count = s .pre .count;
+        used = subst (λ (n : ℕ). n ≤ rowCells) (ap (λ (z : Outcome). countsIn z .used) (sym (o .ensures) ∙ c .before .before .outcome .given .1)) u;
+      };
+      pass = s .pre .pass;
+    }
+
+returns : tie.Need-returns
+returns c letters start j₀ j d x =
+    going-running x _ (c .before .before .before .before .before .before .before .before .before .before .note .ensures) (sym (c .before .before .before .before .before .outcome .given .1) ∙ c .before .before .before .before .before .before .before .decide .ensures ∙ decided-so x) (c .before .before .go-on .ensures)
+
+returns-2 : tie.Need-returns-2
+returns-2 c letters start j₀ j d x =
+    let o = c .before .before .before .before .decide in
+    rw (c .stop .ensures) (stopped-running x _ (subst (Right x) (sym (o .ensures ∙ decided-so x) ∙ c .before .before .outcome2 .given .1) (decided-right x)) _)
+
+pub advance-spec : {M : Type 1} → statement M
+advance-spec = tie.close (tie.spec (λ c κs. search needs) (λ c κs. search needs) (λ c. search needs) go-on-requires (λ c. search needs) (λ c κs. search needs) (λ c. search needs) returns (λ c. search needs) returns-2)

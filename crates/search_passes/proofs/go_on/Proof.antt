@@ -1,0 +1,37 @@
+-- `search_passes::go_on` meets its contract: at the place of the next right, or from the next left or rule on. Assumes nothing.
+use mathlib.Core.Path.{_≡_, sym, _∙_}
+use lib.ListN.{length, take}
+use lib.Seq.{length-take-le}
+use borrow.Author.Needs.{needs}
+use Rattle.search_state.specs.declared.Place.{Place}
+use Rattle.search_order.specs.PlaceLaws.{follows-right}
+use Rattle.search_links.specs.Covers.{listsIn}
+use Rattle.search_laws.specs.Problems.{withRules}
+use Rattle.search_laws.specs.RunningLaws.{stand-on}
+use Rattle.search_passes.proofs.go_on.Statement.{statement}
+use Rattle.search_passes.proofs.go_on.Tie as tie
+
+returns : tie.Need-returns
+returns c P B j₀ first j₁ j z rows here y listed next =
+    let s = c .before .before .before .before .before .before .before .before in
+    let st = s .args .state in
+    let rs = take (st .rules) (s .args .rules .now) in
+    let Q = withRules P rs in
+    let r = c .before .before .before .after-in in
+    let q : Place = record { rule = st .place .rule; left = st .place .left; right = r .result } in
+    let n : st .rules ≡ length rs = sym (length-take-le (st .rules) (s .args .rules .now) (s .pre .opens .count)) in
+    rw (c .stand-at .ensures, c .before .with-right .ensures)
+    (stand-on Q B j₀ st rows n y listed (next q (follows-right (listsIn (s .args .table .now)) rs (st .place) (r .result) (r .ensures) (c .before .before .if1 .taken))) here)
+
+asked : tie.Need-next-row-in-requires
+asked c κs =
+    let s = c .before .before .before .before .before .before .before in
+    (s .pre .opens .table, s .pre .opens .count, sym (c .before .before .after-in .ensures) ∙ c .before .if1 .left)
+
+returns-2 : tie.Need-returns-2
+returns-2 c P B j₀ first j₁ j z rows here y listed next =
+    let p = c .before .before .before .before .next-row-in in
+    c .before .before .go-from .ensures P B j₀ first j₁ j z rows y listed (next (p .result) (p .ensures))
+
+pub go-on-spec : {M : Type 1} → statement M
+go-on-spec = tie.close (tie.spec (λ c κs. search needs) (λ c κs. search needs) (λ c κs. search needs) (λ c. search needs) returns asked (λ c κs. search needs) (λ c. search needs) returns-2)

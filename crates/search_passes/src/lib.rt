@@ -1,0 +1,103 @@
+// The passes of the search, in steps on values: the place after a candidate, the pass after this one, and the end.
+use search_cover::CoverCursor;
+use search_laws::Outcome;
+use search_laws::Reached;
+use search_state::Counts;
+use search_state::END;
+use search_state::Fate;
+use search_state::State;
+use search_state::Terms;
+ghost use Rattle.search_laws.specs.Running.{MayOpen, OpensPass, MayGoOn, Closes, GoesFrom, GoesOn, MayAdvance, Advances};
+
+// A pass over n rules begins: the lists first, then its first place that needs work. The state is not here: a call that is handed one, or
+// gives one, made the compiler copy its padding for each candidate.
+pub fn open_pass(
+    rules: &[[u8; 4]],
+    table: &mut [u32],
+    n: usize,
+    terms: Terms,
+    counts: Counts,
+) -> Reached
+    requires { ⌜ MayOpen (now rules) n counts (now table) ⌝ }
+    ensures { λ r. ⌜ OpensPass (now (rules .entry)) (now (table .entry)) n terms counts (now (table .exit)) r ⌝ }
+{
+    search_links::gather(table, counts.used);
+    let place = search_skip::first_in(rules, table, n);
+    search_skip::pass_over(rules, table, n, terms, Reached { counts, place })
+}
+
+// Ends the pass of `state`, which has come to `counts`: it added no row and was the last, or the next begins, and has added none.
+fn close_pass(rules: &[[u8; 4]], table: &mut [u32], state: State, counts: Counts) -> State
+    requires { ⌜ MayGoOn (now rules) state counts (now table) ⌝ }
+    ensures { λ r. ⌜ Closes (now (rules .entry)) (now (table .entry)) state counts (now (table .exit)) r ⌝ }
+{
+    let terms = state.terms;
+    if counts.added == 0 {
+        return search_step::finish(state, terms, counts);
+    }
+    let next = Terms {
+        budget: terms.budget,
+        finals: terms.finals,
+        pass: terms.pass + 1,
+        start: counts.used,
+        before: terms.start,
+    };
+    let fresh = Counts {
+        used: counts.used,
+        joins: counts.joins,
+        added: 0,
+    };
+    let at = open_pass(rules, table, state.rules, next, fresh);
+    search_step::stand_or_finish(state, next, at)
+}
+
+// From a place on to the first that needs work, or to the end of the pass.
+fn go_from(rules: &[[u8; 4]], table: &mut [u32], state: State, from: Reached) -> State
+    requires { ⌜ MayGoOn (now rules) state (from .counts) (now table) ⌝ }
+    ensures { λ r. ⌜ GoesFrom (now (rules .entry)) (now (table .entry)) state from (now (table .exit)) r ⌝ }
+{
+    let n = state.rules;
+    let terms = state.terms;
+    let at = search_skip::pass_over(rules, table, n, terms, from);
+    let counts = at.counts;
+    let place = at.place;
+    if place.rule < n {
+        return search_step::stand_at(state, terms, counts, place);
+    }
+    close_pass(rules, table, state, counts)
+}
+
+// Moves the search to the next place whose candidate must be formed, or ends the pass. The current candidate was formed, so its rows are not
+// both old. Later rights are younger, so their candidates must be formed too: no test is necessary.
+fn go_on(rules: &[[u8; 4]], table: &mut [u32], state: State, counts: Counts) -> State
+    requires { ⌜ MayGoOn (now rules) state counts (now table) ⌝ }
+    ensures { λ r. ⌜ GoesOn (now (rules .entry)) (now (table .entry)) state counts (now (table .exit)) r ⌝ }
+{
+    let terms = state.terms;
+    let here = state.place;
+    let right = search_skip::after_in(table, here.right);
+    if right != END {
+        return search_step::stand_at(state, terms, counts, here.with_right(right));
+    }
+    let place = search_skip::next_row_in(rules, table, state.rules, here);
+    go_from(rules, table, state, Reached { counts, place })
+}
+
+// After a candidate: the next place, the next pass, or the end.
+pub fn advance(
+    rules: &[[u8; 4]],
+    table: &mut [u32],
+    state: State,
+    fate: Fate,
+    found: CoverCursor,
+) -> State
+    requires { ⌜ MayAdvance (now rules) state fate found (now table) ⌝ }
+    ensures { λ r. ⌜ Advances (now (rules .entry)) (now (table .entry)) state fate found (now (table .exit)) r ⌝ }
+{
+    search_decide::note(table, state, fate, found);
+    let outcome = search_decide::decide(state, fate);
+    match outcome {
+        Outcome::Going(counts) => go_on(rules, table, state, counts),
+        Outcome::Stopped(stop) => search_step::stop(state, stop),
+    }
+}

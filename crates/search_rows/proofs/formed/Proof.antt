@@ -1,0 +1,20 @@
+-- `search_rows::formed` meets its contract: one case for each size of the body. Assumes nothing.
+use mathlib.Core.Path.{ap, ap₂, _∙_}
+use borrow.Author.Needs.{needs}
+use borrow.Author.Tests.{eq-eqb, ne-eqb}
+use Rattle.spec_order.specs.Candidates.{sole}
+use Rattle.search_rows.specs.Base.{joined}
+use Rattle.search_rows.proofs.formed.Statement.{statement}
+use Rattle.search_rows.proofs.formed.Tie as tie
+
+returns : tie.Need-returns
+returns c = rw (eq-eqb _ _ (c .before .if1 .taken)) (c .empty-body .ensures)
+
+returns-2 : tie.Need-returns-2
+returns-2 c = rw (ne-eqb _ _ (c .before .before .before .if1 .left), eq-eqb _ _ (c .before .if2 .taken)) (c .one-symbol .ensures ∙ ap (sole _ _) (c .before .before .taken .ensures))
+
+returns-3 : tie.Need-returns-3
+returns-3 c = rw (ne-eqb _ _ (c .before .before .before .before .if1 .left), ne-eqb _ _ (c .before .before .if2 .left)) (c .two-symbols .ensures ∙ ap₂ (joined _ _) (c .before .before .before .taken .ensures) (c .before .taken2 .ensures))
+
+pub formed-spec : {M : Type 1} → statement M
+formed-spec = tie.close (tie.spec (λ c. search needs) (λ c. search needs) (λ c κs. search needs) returns (λ c. search needs) (λ c κs. search needs) (λ c κs. search needs) returns-2 (λ c. search needs) (λ c κs. search needs) (λ c κs. search needs) returns-3)

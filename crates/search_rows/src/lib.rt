@@ -1,0 +1,281 @@
+// One row of the journal, one way to take a symbol, and one candidate of the working order, each by value. All that is done with an effect in
+// a search stands here: forming, comparing, retiring, opening, breaking, the digest. A rule is four bytes: its head, its body's size and its
+// symbols.
+use relation::Effect;
+use relation::Letter;
+use relation::StateSet;
+use search_state::Comparison;
+use search_state::Fate;
+use search_state::Place;
+use search_state::State;
+use spec_calls::ABSENT;
+use spec_calls::Row;
+use spec_file::TERMINALS;
+ghost use mathlib.Core.Path.{_≡_};
+ghost use Prim.Native.Nat.{_≤_, _<_};
+ghost use lib.ListN.{length};
+ghost use Rattle.relation.specs.Relation.{contained};
+ghost use Rattle.spec_file.specs.Limits.{letterWords};
+ghost use Rattle.spec_file.specs.Views.{symbolOf};
+ghost use Rattle.spec_order.specs.Candidates.{sole};
+ghost use Rattle.spec_order.specs.Order.{larger, born};
+ghost use Rattle.spec_file.specs.Entries.{entryOf};
+ghost use Rattle.spec_calls.specs.Rows.{rowOf};
+ghost use Rattle.search_rows.specs.Base.{emptyBody, joined, breaking};
+ghost use Rattle.search_rows.specs.Meanings.{candidateOf, choiceOf};
+ghost use Rattle.search_state.specs.Fates.{fateIn};
+ghost use Rattle.search_rows.specs.Forming.{isBelow, retiredIn, ComparedAt, replacedBy, slotCells, symbolChoice, formedBy, amongFirst, formedIn};
+
+// What would become a row.
+pub struct Candidate {
+    pub head: u8,
+    pub rule: u64,
+    pub relation: Effect,
+    pub left: u64,
+    pub right: u64,
+    pub len: u64,
+}
+
+// A nonterminal and a rule of it.
+struct Origin {
+    head: u8,
+    rule: u64,
+}
+
+// One way to take a symbol.
+struct Choice {
+    relation: Effect,
+    pointer: u64,
+    len: u64,
+}
+
+// ---- a row and a candidate
+
+// Compares `row` with `candidate`: `row` covers it where it is live, of the same nonterminal, and its relation is contained in the
+// candidate's; it is larger where the candidate's is contained in its own, and not the other way round.
+pub fn compare(row: Row, candidate: Candidate) -> Comparison
+    ensures { λ r. ⌜ (r .covers ≡ isBelow (candidateOf candidate) (rowOf row)) × (r .larger ≡ larger contained (candidateOf candidate) (rowOf row)) ⌝ }
+{
+    let held = row.relation;
+    let formed = candidate.relation;
+    let alike = (row.head == candidate.head as u64) & (row.retired == 0);
+    let within = held.contained(formed);
+    let over = formed.contained(held);
+    Comparison {
+        covers: alike & within,
+        larger: alike & (over & !within),
+    }
+}
+
+// Compares `row` with `candidate`, by their relations alone if `linked`: a linked row is live and of the candidate's nonterminal, so that the
+// search spends no instruction on asking. A row that is a hint is compared as `compare` does.
+pub fn compare_at(row: Row, candidate: Candidate, linked: bool) -> Comparison
+    ensures { λ r. ⌜ ComparedAt linked (candidateOf candidate) (rowOf row) r ⌝ }
+{
+    if linked {
+        let held = row.relation;
+        let formed = candidate.relation;
+        return Comparison {
+            covers: held.contained(formed),
+            larger: formed.contained(held),
+        };
+    }
+    compare(row, candidate)
+}
+
+// The row, retired in this pass.
+fn retired(row: Row, pass: u64) -> Row
+    ensures { λ r. ⌜ rowOf r ≡ retiredIn pass (rowOf row) ⌝ }
+{
+    let relation = row.relation;
+    Row {
+        head: row.head,
+        rule: row.rule,
+        relation,
+        left: row.left,
+        right: row.right,
+        len: row.len,
+        birth: row.birth,
+        retired: pass,
+    }
+}
+
+// The row that the candidate becomes.
+fn opened(pass: u64, candidate: Candidate) -> Row
+    ensures { λ r. ⌜ rowOf r ≡ born pass (candidateOf candidate) ⌝ }
+{
+    let relation = candidate.relation;
+    Row {
+        head: candidate.head as u64,
+        rule: candidate.rule,
+        relation,
+        left: candidate.left,
+        right: candidate.right,
+        len: candidate.len,
+        birth: pass,
+        retired: 0,
+    }
+}
+
+// Returns what is to be stored in the place of `held`: the row that `candidate` becomes, if `new`, which is past the used rows; else `held`,
+// retired in this pass if it is larger than `candidate`, which `compared` says.
+pub fn replacement(
+    state: State,
+    candidate: Candidate,
+    new: bool,
+    compared: Comparison,
+    held: Row,
+) -> Row
+    ensures { λ r. ⌜ rowOf r ≡ replacedBy (state .terms .pass) (candidateOf candidate) new (compared .larger) (rowOf held) ⌝ }
+{
+    let terms = state.terms;
+    if new {
+        return opened(terms.pass, candidate);
+    }
+    if compared.larger {
+        return retired(held, terms.pass);
+    }
+    held
+}
+
+// Returns whether `candidate` is of the initial nonterminal and its relation rejects, where `finals` are the final states.
+fn breaks(finals: StateSet, candidate: Candidate) -> bool
+    ensures { λ r. ⌜ r ≡ breaking finals (candidateOf candidate) ⌝ }
+{
+    let formed = candidate.relation;
+    (candidate.head == 0) & formed.rejects(finals)
+}
+
+// Decides what becomes of `candidate`, where a row covers it or not.
+pub fn fate(state: State, candidate: Candidate, covered: bool) -> Fate
+    ensures { λ r. ⌜ r ≡ fateIn state (candidate .head) covered (breaking (state .terms .finals) (candidateOf candidate)) ⌝ }
+{
+    let terms = state.terms;
+    search_state::fate_of(
+        state,
+        candidate.head,
+        covered,
+        breaks(terms.finals, candidate),
+    )
+}
+
+// Returns where the hints have a row for the nonterminal and the relation of `candidate`, unless `compared` says that a row covers it: then
+// no such hint is read, and the remainder that the digest takes is saved.
+pub fn slot_unless(compared: Comparison, candidate: Candidate) -> usize
+    ensures { λ r. ⌜ r < slotCells ⌝ }
+{
+    if compared.covers {
+        return 0;
+    }
+    let formed = candidate.relation;
+    formed.digest() + 16 * candidate.head as usize
+}
+
+// ---- forming a candidate
+
+// Returns how `symbol` is taken: a terminal by its relation in `letters`, a nonterminal by row `i`, which is `row`.
+fn taken(letters: &[Letter], symbol: u8, i: usize, row: Row) -> Choice
+    requires { ⌜ letterWords ≤ length (now letters) ⌝ }
+    ensures { λ r. ⌜ choiceOf r ≡ symbolChoice (now (letters .entry)) (symbolOf symbol) i (rowOf row) ⌝ }
+{
+    if symbol < TERMINALS {
+        return Choice {
+            relation: Effect::read(letters, symbol as usize),
+            pointer: ABSENT,
+            len: 1,
+        };
+    }
+    let relation = row.relation;
+    Choice {
+        relation,
+        pointer: i as u64,
+        len: row.len,
+    }
+}
+
+fn empty_body(origin: Origin) -> Candidate
+    ensures { λ r. ⌜ candidateOf r ≡ emptyBody (origin .head) (origin .rule) ⌝ }
+{
+    Candidate {
+        head: origin.head,
+        rule: origin.rule,
+        relation: Effect::identity(),
+        left: ABSENT,
+        right: ABSENT,
+        len: 0,
+    }
+}
+
+fn one_symbol(origin: Origin, first: Choice) -> Candidate
+    ensures { λ r. ⌜ candidateOf r ≡ sole (origin .head) (origin .rule) (choiceOf first) ⌝ }
+{
+    let relation = first.relation;
+    Candidate {
+        head: origin.head,
+        rule: origin.rule,
+        relation,
+        left: first.pointer,
+        right: ABSENT,
+        len: first.len,
+    }
+}
+
+fn two_symbols(origin: Origin, first: Choice, second: Choice) -> Candidate
+    ensures { λ r. ⌜ candidateOf r ≡ joined (origin .head) (origin .rule) (choiceOf first) (choiceOf second) ⌝ }
+{
+    let left = first.relation;
+    let right = second.relation;
+    Candidate {
+        head: origin.head,
+        rule: origin.rule,
+        relation: left.compose(right),
+        left: first.pointer,
+        right: second.pointer,
+        len: spec_calls::capped_sum(first.len, second.len),
+    }
+}
+
+// Returns the candidate of `place`, whose rule is `rule` and whose rows are `left` and `right`.
+fn formed(letters: &[Letter], rule: [u8; 4], place: Place, left: Row, right: Row) -> Candidate
+    requires { ⌜ letterWords ≤ length (now letters) ⌝ }
+    ensures { λ r. ⌜ candidateOf r ≡ formedBy (now (letters .entry)) (entryOf rule) place (rowOf left) (rowOf right) ⌝ }
+{
+    let origin = Origin {
+        head: rule[0],
+        rule: place.rule as u64,
+    };
+    let size = rule[1];
+    if size == 0 {
+        return empty_body(origin);
+    }
+    let first = taken(letters, rule[2], place.left, left);
+    if size == 1 {
+        return one_symbol(origin, first);
+    }
+    let second = taken(letters, rule[3], place.right, right);
+    two_symbols(origin, first, second)
+}
+
+// Returns `row`, which was read for `position`, or a row of zeros where `position` is none of the `used` rows.
+fn among(row: Row, position: usize, used: usize) -> Row
+    ensures { λ r. ⌜ r ≡ amongFirst row position used ⌝ }
+{
+    if position < used {
+        return row;
+    }
+    Row::blank()
+}
+
+// Forms the candidate of the place at which `state` stands, from the two rows that were read for it.
+pub fn form(letters: &[Letter], rules: &[[u8; 4]], state: State, left: Row, right: Row) -> Candidate
+    requires { ⌜ (letterWords ≤ length (now letters)) × (state .place .rule < length (now rules)) ⌝ }
+    ensures { λ r. ⌜ candidateOf r ≡ formedIn (now (letters .entry)) (now (rules .entry)) state left right ⌝ }
+{
+    let counts = state.counts;
+    let place = state.place;
+    let r = place.rule;
+    let rule = rules[r];
+    let first = among(left, place.left, counts.used);
+    let second = among(right, place.right, counts.used);
+    formed(letters, rule, place, first, second)
+}

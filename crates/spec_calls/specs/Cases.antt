@@ -1,0 +1,122 @@
+-- The cases that document 01 marks P, as one table about the definitions, from file bytes. Assumes nothing.
+use mathlib.Core.Path.{_≡_, refl}
+use mathlib.Core.List.{List, [], _∷_, map}
+use Prim.Native.Nat.{ℕ}
+use Prim.Native.String.{String}
+use Rattle.relation.specs.Digits.{bit, number, some, count, subset}
+use Rattle.relation.specs.Relation.{has, table, identity, compose, pairs, rejects}
+use Rattle.spec_language.specs.WordRelation.{moves, letterRelation, wordRelation, isFinal, rejected}
+use Rattle.spec_file.specs.Records.{countIn}
+use Rattle.spec_file.specs.Refusals.{kindKnown, risesFrom, overLimit, aboveRangeIn, exceedsIn, faultAtIn, faultByIn, faultFromIn, faultIn, lengthFaultIn, strayByteIn}
+use Rattle.spec_file.specs.Views.{collect, rulesOf, transitionsOf, finalsOf}
+use Rattle.spec_order.specs.Journal.{capped, live, liveOf}
+use Rattle.spec_order.specs.Candidates.{liveRows, sole, paired, bare, choices, bodyCandidates, passCandidates}
+use Rattle.spec_order.specs.Order.{Answer, born, answer, dropped, larger, retire, added, decide, consider, walk, onePass, passes, check}
+use Rattle.spec_order.specs.Behind.{symbolWord, bodyWord, rowWord, wordsFrom, wordsOf, wordBehind}
+use Rattle.spec_order.specs.Fitting.{pointerFits, symbolLen, bodyFits, rowFits, rowsFit}
+use Rattle.spec_calls.specs.Replies.{Reply, refused, answered}
+use Rattle.spec_calls.specs.Checking.{journalFault, orderOn, checkOf}
+use Rattle.spec_calls.specs.Writing.{rowFault, roomFault, wordOf, writeOf, bufferAfter}
+use Rattle.spec_calls.specs.Printing.{bytes, decimal, blanked, separated, numbersLine, wordLine, refusedLine, lineOne, lineTwo, lineThree, brokenLines, textOf, programRoom, programText}
+use Rattle.spec_calls.specs.Judging.{Judgement, accepted, turnedAway, wordFault, judgeOf}
+
+-- a record of kind k with the bytes 1 to 4
+abbrev pub entry : ℕ → ℕ → ℕ → ℕ → ℕ → List ℕ → List ℕ
+entry k a b c d rest = k ∷ a ∷ b ∷ c ∷ d ∷ 0 ∷ 0 ∷ 0 ∷ rest
+
+-- sheet S: 0 on 1 to 1, 0 on 3 to 2, 1 on 2 to 0; finishing 2
+unfoldable pub sheetS : List ℕ
+sheetS = entry 2 0 1 1 0 (entry 2 0 3 2 0 (entry 2 1 2 0 0 (entry 3 2 0 0 0 [])))
+
+-- 0 gives (procedure 1) 3; 1 gives nothing; 1 gives 1 (procedure 2); 2 gives 2 (procedure 1)
+unfoldable pub planA : List ℕ → List ℕ
+planA rest = entry 1 0 2 129 3 (entry 1 1 0 0 0 (entry 1 1 2 1 130 (entry 1 2 2 2 129 rest)))
+
+-- and 2 gives (procedure 1)
+unfoldable pub planB : List ℕ → List ℕ
+planB rest = entry 1 0 2 129 3 (entry 1 1 0 0 0 (entry 1 1 2 1 130 (entry 1 2 1 129 0 (entry 1 2 2 2 129 rest))))
+
+-- only "0 gives nothing"
+unfoldable pub lone : List ℕ → List ℕ
+lone rest = entry 1 0 0 0 0 rest
+
+-- what is printed, what judging a run answers, or what refuses a call: the number and the place
+pub data Output : Type 0 where
+  printed : List ℕ → Output
+  judged : Judgement → Output
+  refusal : ℕ → ℕ → Output
+
+abbrev says : String → Output
+says text = printed (bytes text)
+
+-- of a check with J rows and a budget of B joins, and a run buffer of `room` bytes
+checkedIn : ℕ → List ℕ → ℕ → ℕ → Output
+unfolding textOf brokenLines lineOne lineTwo lineThree refusedLine wordLine numbersLine separated blanked decimal writeOf bufferAfter wordOf rowFault roomFault rowsFit rowFits bodyFits pointerFits symbolLen wordBehind wordsOf wordsFrom rowWord bodyWord symbolWord pairs count checkOf orderOn journalFault faultIn lengthFaultIn faultFromIn faultAtIn faultByIn kindKnown aboveRangeIn strayByteIn risesFrom exceedsIn overLimit countIn rulesOf transitionsOf finalsOf collect check passes onePass walk consider decide added retire larger dropped answer born passCandidates bodyCandidates choices bare sole paired liveRows live liveOf capped letterRelation moves isFinal rejects compose identity table has some number subset bit
+checkedIn room bs J B = printed (textOf bs (record { rows = J; budget = B }) room)
+
+-- with the check program's
+checked : List ℕ → ℕ → ℕ → Output
+unfolding checkedIn
+checked bs J B = checkedIn programRoom bs J B
+
+program : List ℕ → Output
+unfolding checkedIn programText
+program bs = printed (programText bs)
+
+numbers : List ℕ → Output
+unfolding separated blanked decimal
+numbers ns = printed (separated ns)
+
+-- what refuses the check
+refusedBy : Reply (Answer ℕ) → Output
+refusedBy (refused r) = refusal (r .number) (r .place)
+refusedBy (answered a) = refusal 0 0
+
+refusing : List ℕ → ℕ → ℕ → Output
+unfolding refusedBy checkedIn
+refusing bs J B = refusedBy (checkOf bs (record { rows = J; budget = B }))
+
+judgedBy : Reply Judgement → Output
+judgedBy (refused r) = refusal (r .number) (r .place)
+judgedBy (answered j) = judged j
+
+judging : List ℕ → List ℕ → Output
+unfolding judgedBy judgeOf wordFault faultIn lengthFaultIn faultFromIn faultAtIn faultByIn kindKnown aboveRangeIn strayByteIn risesFrom exceedsIn overLimit countIn transitionsOf finalsOf collect rejected wordRelation letterRelation moves isFinal rejects compose identity table has some number bit
+judging bs w = judgedBy (judgeOf bs w)
+
+pub record Case : Type 0 where
+  pub got : Output
+  pub want : Output
+
+abbrev case : Output → Output → Case
+case a b = record { got = a; want = b }
+
+pub table-P : List Case
+unfolding planA planB lone sheetS checkedIn checked program numbers refusing judging
+table-P =
+    case (checked (planA sheetS) 1024 1000000) (says "holds 12 4 4\n")
+    ∷ case (checked (planB sheetS) 1024 1000000) (says "broken 12 7 4\n6 0 2\n1 3\n")
+    ∷ case (checked (planA sheetS) 1024 11) (says "spent 11 4 4\n")
+    ∷ case (checked (planA sheetS) 1024 12) (says "holds 12 4 4\n")
+    ∷ case (checked (planA sheetS) 3 1000000) (says "full 7 3 3\n")
+    ∷ case (checked (planA sheetS) 4 1000000) (says "holds 12 4 4\n")
+    ∷ case (checked [] 1024 0) (says "holds 0 0 1\n")
+    ∷ case (checked (lone []) 1024 1000000) (says "broken 1 1 1\n0 8 0\n\n")
+    ∷ case (checked (lone (entry 3 0 0 0 0 [])) 1024 1000000) (says "holds 2 1 2\n")
+    ∷ case (judging sheetS (1 ∷ 3 ∷ [])) (judged turnedAway)
+    ∷ case (judging sheetS (1 ∷ 2 ∷ 3 ∷ [])) (judged accepted)
+    ∷ case (checked (entry 1 0 1 191 0 []) 1024 1000000) (says "holds 0 0 1\n")
+    ∷ case (checked (entry 1 0 1 192 0 []) 1024 1000000) (says "refused 4\n")
+    ∷ case (refusing (entry 1 0 1 192 0 []) 1024 1000000) (refusal 4 0)
+    ∷ case (checked (lone (lone [])) 1024 1000000) (says "refused 6\n")
+    ∷ case (refusing (lone (lone [])) 1024 1000000) (refusal 6 1)
+    ∷ case (checked (planA sheetS) 0 1000000) (says "refused 8\n")
+    ∷ case (program (planB sheetS)) (says "broken 12 7 4\n6 0 2\n1 3\n")
+    ∷ case (checkedIn 2 (planB sheetS) 1024 1000000) (says "broken 12 7 4\n6 0 2\n1 3\n")
+    ∷ case (checkedIn 1 (planB sheetS) 1024 1000000) (says "broken 12 7 4\n6 0 2\nrefused 10\n")
+    ∷ case (numbers (0 ∷ 9 ∷ 10 ∷ 191 ∷ 1000000 ∷ 18446744073709551615 ∷ [])) (says "0 9 10 191 1000000 18446744073709551615")
+    ∷ []
+
+pub cases : map (λ (c : Case). c .got) table-P ≡ map (λ (c : Case). c .want) table-P
+unfolding table-P
+cases = refl

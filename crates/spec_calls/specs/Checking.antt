@@ -1,0 +1,53 @@
+-- What the inclusion check answers on a file, and what the lent journal holds afterwards (document 01, "Working order").
+-- Definitions only. Assumes nothing.
+use mathlib.Core.Bool.{_||_, cond}
+use mathlib.Core.List.{List, [], _∷_, _++_}
+use Prim.Native.Nat.{ℕ}
+use lib.Dec.{eqb, ltb}
+use lib.ListN.{drop}
+use Rattle.relation.specs.Relation.{states}
+use Rattle.spec_file.specs.Refusals.{Refusal, refuse, fault}
+use Rattle.spec_file.specs.Views.{rulesOf, automatonOf}
+use Rattle.spec_order.specs.Journal.{Row}
+use Rattle.spec_order.specs.Order.{Answer, check}
+use Rattle.spec_order.specs.Behind.{wordBehind}
+use Rattle.spec_calls.specs.Base.{base, words}
+use Rattle.spec_calls.specs.Replies.{Reply, refused, answered, reply}
+
+-- rows of a journal at most
+abbrev pub journalLimit : ℕ
+journalLimit = 4096
+
+-- what a check is given beside the file: the number of rows of the lent journal, and the joins that it may make
+pub record Settings : Type 0 where
+  pub rows : ℕ
+  pub budget : ℕ
+
+-- 8: the journal has no row or too many
+unfoldable pub journalFault : ℕ → ℕ
+journalFault J = cond (eqb J 0 || ltb journalLimit J) 8 0
+
+-- the working order on the file
+unfoldable pub orderOn : List ℕ → Settings → Answer ℕ
+orderOn bs g = check (base states (automatonOf bs)) (rulesOf bs) (g .rows) (g .budget)
+
+-- what may refuse a check, in its order: the file's refusal, then 8
+abbrev pub checkRefusals : List ℕ → ℕ → List Refusal
+checkRefusals bs J = fault bs ∷ refuse (journalFault J) 0 ∷ []
+
+-- the first of them, and else the answer
+unfoldable pub checkOf : List ℕ → Settings → Reply (Answer ℕ)
+checkOf bs g = let a = orderOn bs g in reply (checkRefusals bs (g .rows)) a
+
+-- the used rows, and then the old contents; the old contents whole on a refusal
+abbrev pub keptBy : List (Row ℕ) → Reply (Answer ℕ) → List (Row ℕ)
+keptBy old (refused r) = old
+keptBy old (answered a) = a .journal ++ drop (a .used) old
+
+-- the journal after the check, which held the rows `old` before
+unfoldable pub journalAfter : List ℕ → Settings → List (Row ℕ) → List (Row ℕ)
+journalAfter bs g old = keptBy old (checkOf bs g)
+
+-- the word that a broken answer shows: the one behind its row
+unfoldable pub shown : List ℕ → Answer ℕ → List ℕ
+shown bs a = wordBehind words (rulesOf bs) (a .journal) (a .row)

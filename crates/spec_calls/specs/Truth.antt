@@ -1,0 +1,206 @@
+-- Demand 3, the counts, what the rows are and stability, on the bytes of a file that is not refused, for all settings.
+-- Assumes nothing.
+use mathlib.Core.Path.{_≡_, refl, sym, ap, _∙_, subst}
+use mathlib.Core.Bool.{true, false, true≢false}
+use mathlib.Core.List.{List}
+use Prim.Native.Nat.{ℕ, suc, _+_, _*_, _^_, _≤_, _<_}
+use native.Mathlib.Nat.{le-refl, le-trans, le-of-eq, mul-comm, mul-assoc, mul-one}
+use native.Mathlib.Numerals.{add-one}
+use native.Mathlib.Omega.{arith}
+use lib.Dec.{eqb}
+use lib.ListN.{length}
+use borrow.Author.Tests.{eqb-true, eq-eqb}
+use Rattle.spec_basics.specs.Tests.{and-intro, and-snd}
+use Rattle.relation.specs.Relation.{states, has, rejects}
+use Rattle.relation.specs.RelationLaws.{has-contained}
+use Rattle.spec_language.specs.Grammar.{initial}
+use Rattle.spec_language.specs.Spelling.{DerivesWithin}
+use Rattle.spec_language.specs.Agreement.{language}
+use Rattle.spec_language.specs.Automaton.{Automaton, Accepts, TurnsAway}
+use Rattle.spec_language.specs.WordRelation.{wordRelation, isFinal, rejected}
+use Rattle.spec_language.specs.Paths.{wordRelation-lt, path-of, of-path, turns-away, accepts}
+use Rattle.spec_file.specs.Refusals.{fault}
+use Rattle.spec_file.specs.Views.{rulesOf, productionsOf, automatonOf}
+use Rattle.spec_file.specs.Valid.{automaton-within}
+use Rattle.spec_order.specs.Order.{Answer, Verdict, holds, broken, full, spent, check}
+use Rattle.spec_order.specs.Behind.{wordBehind}
+use Rattle.spec_order.specs.Truth.{SaysBy, check-says, holds-calm, shownRow}
+use Rattle.spec_order.specs.Journal.{Row, absent, live, liveOf}
+use Rattle.spec_order.specs.Stopping.{Stops}
+use Rattle.spec_order.specs.Exactly.{stops-so, ends-so}
+use Rattle.spec_order.specs.Counting.{Exact, ExactBy, StopsBy, check-exact, never-spent}
+use Rattle.spec_order.specs.Stability.{Firm, check-mono}
+use Rattle.spec_calls.specs.Base.{starts, base, words}
+use Rattle.spec_calls.specs.BaseLaws.{base-laws, word-sizes, relation-derived, word-derived}
+use Rattle.spec_calls.specs.Checking.{Settings, orderOn, shown}
+use Rattle.spec_calls.specs.DemandThree.{Derivable, Counterexample, OneVerdict, Counts, LeastHeight, RowMeans, LiveAntichain, Extends}
+use Rattle.spec_calls.specs.JournalTruth.{rowAt, wordAt, row-true, incomparable}
+use Rattle.spec_calls.specs.Writing.{wordOf}
+
+-- a live row of the nonterminal x
+alive : (x : ℕ) (r : Row ℕ) → r .head ≡ x → r .retired ≡ 0 → liveOf x r ≡ true
+unfolding liveOf live
+alive x r h z = and-intro (eqb (r .head) x) (eqb (r .retired) 0) (eq-eqb (r .head) x h) (eq-eqb (r .retired) 0 z)
+
+module _ (bs : List ℕ) (v : fault bs .number ≡ 0) (g : Settings) where
+  abbrev J : ℕ
+  J = g .rows
+
+  abbrev B : ℕ
+  B = g .budget
+
+  abbrev A : Automaton
+  A = automatonOf bs
+
+  -- what each verdict means
+  abbrev VerdictMeans : Verdict → Answer ℕ → Type 0
+  VerdictMeans holds a = (w : List ℕ) → Derivable bs w → Accepts A w
+  VerdictMeans broken a =
+      DerivesWithin (productionsOf bs) (a .pass) initial (shown bs a) × TurnsAway A (shown bs a)
+      × ((h : ℕ) → h < a .pass → (w : List ℕ) → DerivesWithin (productionsOf bs) h initial w → Accepts A w)
+  VerdictMeans full a = Unit {0}
+  VerdictMeans spent a = Unit {0}
+
+  -- a word whose relation does not break is accepted
+  calm : (w : List ℕ) → base states A .breaks initial (wordRelation states (A .transitions) w) ≡ false → Accepts A w
+  unfolding rejected
+  calm w b = accepts states A (automaton-within bs v) w b
+
+  means : (x : Verdict) (a : Answer ℕ) → SaysBy (base states A) words (rulesOf bs) x a → VerdictMeans x a
+  unfolding rejected shown
+  means holds a s =
+      λ w d.
+      let t = language (productionsOf bs) initial w .0 d in
+      calm w (holds-calm (base states A) (base-laws states A) words word-sizes (rulesOf bs) J B a s (t .0) initial (wordRelation states (A .transitions) w) (relation-derived states A (rulesOf bs) (t .0) initial w (t .1)))
+  means broken a s =
+      let r = shownRow (base states A) a in
+      let w = wordBehind words (rulesOf bs) (a .journal) (a .row) in
+      let t = word-derived states A (rulesOf bs) (a .pass) (r .head) (r .effect) w (s .0) in
+      let reject = rejects states (isFinal A) in (
+        subst (λ (x : ℕ). DerivesWithin (productionsOf bs) (a .pass) x w) (eqb-true (r .head) initial (base-laws states A .breaks-starts (r .head) (r .effect) (s .1))) (t .0),
+        turns-away states A (automaton-within bs v) w (ap reject (t .1) ∙ and-snd (starts (r .head)) (reject (r .effect)) (s .1)),
+        λ h l u d. calm u (s .3 h l initial (wordRelation states (A .transitions) u) (relation-derived states A (rulesOf bs) h initial u d)),
+      )
+  means full a s = tt
+  means spent a s = tt
+
+  meaning : (x : Verdict) → orderOn bs g .verdict ≡ x → VerdictMeans x (orderOn bs g)
+  unfolding orderOn
+  meaning x e =
+      means x (orderOn bs g)
+      (subst (λ (y : Verdict). SaysBy (base states A) words (rulesOf bs) y (orderOn bs g)) e (check-says (base states A) (base-laws states A) words word-sizes (rulesOf bs) J B .verdict))
+
+  shows : orderOn bs g .verdict ≡ broken → Counterexample bs (shown bs (orderOn bs g))
+  shows e = let m = meaning broken e in (language (productionsOf bs) initial (shown bs (orderOn bs g)) .1 (orderOn bs g .pass, m .0), m .1)
+
+  -- where a word is turned away and the verdict is firm, it is "broken"
+  found : (x : Verdict) → orderOn bs g .verdict ≡ x → (x ≡ full → ⊥) → (x ≡ spent → ⊥) → (w : List ℕ) × Counterexample bs w → x ≡ broken
+  found holds e f s c = absurd (c .1 .1 (meaning holds e (c .0) (c .1 .0)))
+  found broken e f s c = refl
+  found full e f s c = absurd (f refl)
+  found spent e f s c = absurd (s refl)
+
+  pub least-height : LeastHeight bs (orderOn bs g)
+  least-height = record { shown-within = λ e. meaning broken e .0; none-lower = λ e. meaning broken e .2 }
+
+  module _ (pos : 1 ≤ J) where
+    abbrev counts : Exact (base states A) 1 (λ x y. le-refl 1) (le-refl 1) (rulesOf bs) J B pos (check (base states A) (rulesOf bs) J B)
+    counts = check-exact (base states A) 1 (λ x y. le-refl 1) (le-refl 1) (rulesOf bs) J B pos
+
+    stops : (x : Verdict) → orderOn bs g .verdict ≡ x → StopsBy (base states A) 1 (λ x y. le-refl 1) (le-refl 1) (rulesOf bs) J B pos x (orderOn bs g)
+    unfolding orderOn
+    stops x e = subst (λ (y : Verdict). StopsBy (base states A) 1 (λ x y. le-refl 1) (le-refl 1) (rulesOf bs) J B pos y (orderOn bs g)) e (counts .stops)
+
+    so : (x : Verdict) → Stops (base states A) (rulesOf bs) J B x (orderOn bs g) → orderOn bs g .verdict ≡ x
+    unfolding orderOn
+    so x h = stops-so (base states A) (rulesOf bs) J B x (orderOn bs g) h
+
+    exact : (x : Verdict) → orderOn bs g .verdict ≡ x → ExactBy (base states A) 1 (λ x y. le-refl 1) (le-refl 1) (rulesOf bs) J B pos x (orderOn bs g)
+    unfolding orderOn
+    exact x e = subst (λ (y : Verdict). ExactBy (base states A) 1 (λ x y. le-refl 1) (le-refl 1) (rulesOf bs) J B pos y (orderOn bs g)) e (counts .by-verdict)
+
+    -- no row unless broken
+    rowless : (x : Verdict) → orderOn bs g .verdict ≡ x → (x ≡ broken → ⊥) → orderOn bs g .row ≡ absent
+    rowless holds e n = exact holds e
+    rowless broken e n = absurd (n refl)
+    rowless full e n = exact full e .1
+    rowless spent e n = exact spent e .1
+
+    -- demand 3
+    pub one-verdict : OneVerdict bs g (orderOn bs g)
+    unfolding orderOn
+    one-verdict =
+        record {
+          holds-for-all = meaning holds;
+          broken-shows = shows;
+          broken-exactly = λ f s. (λ e. (shown bs (orderOn bs g), shows e), λ c. found (orderOn bs g .verdict) refl f s c);
+          stops-full = (stops full, so full);
+          stops-spent = (stops spent, so spent);
+          stops-broken = (stops broken, so broken);
+          ends-holds = (stops holds, ends-so (base states A) (rulesOf bs) J B (orderOn bs g));
+        }
+
+    -- the bound as the counting has it, and as document 01 writes it
+    bound : suc J * (length (rulesOf bs) * (J * (J * 1))) ≡ length (rulesOf bs) * J * J * (J + 1)
+    bound =
+        mul-comm (suc J) (length (rulesOf bs) * (J * (J * 1)))
+        ∙ ap (λ (x : ℕ). length (rulesOf bs) * (J * x) * suc J) (mul-one J)
+        ∙ ap (λ (x : ℕ). x * suc J) (sym (mul-assoc (length (rulesOf bs)) J J))
+        ∙ ap (λ (x : ℕ). length (rulesOf bs) * J * J * x) (sym (add-one J))
+
+    pub counted : Counts bs g (orderOn bs g)
+    unfolding orderOn
+    counted =
+        record {
+          no-row = rowless (orderOn bs g .verdict) refl;
+          last-row = exact broken;
+          all-rows = λ e. exact full e .0;
+          all-joins = λ e. exact spent e .0;
+          used-rows = counts .used-is;
+          rows-bound = counts .rows-bound;
+          pass-bound = omega (arith, counts .pass-bound);
+          joins-bound = le-trans (counts .joins-bound) (le-of-eq bound);
+          never-spent = λ h e. never-spent (base states A) 1 (λ x y. le-refl 1) (le-refl 1) (rulesOf bs) J B pos (le-trans (le-of-eq bound) h) e;
+        }
+
+    -- ---- the rows
+
+    there : (i : ℕ) → i < orderOn bs g .used → i < length (orderOn bs g .journal)
+    unfolding orderOn
+    there i l = subst (λ (n : ℕ). i < n) (counts .used-is) l
+
+    pub rows-mean : (i : ℕ) → i < orderOn bs g .used → RowMeans bs (orderOn bs g) i
+    unfolding wordOf
+    rows-mean i l =
+        let t = row-true bs g i (there i l) in
+        let w = wordAt bs g i in
+        let within = automaton-within bs v .targets in
+        record {
+          derived = language (productionsOf bs) (rowAt bs g i .head) w .1 (rowAt bs g i .birth, t .derived);
+          pairs-exactly = λ p q hp hq. (
+            λ h. path-of states (A .transitions) within w p q hp hq (ap (λ (e : ℕ). has states e p q) (t .relation-is) ∙ h),
+            λ h. sym (ap (λ (e : ℕ). has states e p q) (t .relation-is)) ∙ of-path states (A .transitions) within w p q hp hq h,
+          );
+          length-is = t .length-is;
+          fits = t .fits;
+        }
+
+    pub antichain : LiveAntichain bs (orderOn bs g)
+    antichain i j li lj ne head-same live-i live-j sub =
+        let x = rowAt bs g i in
+        let y = rowAt bs g j in
+        let z = incomparable bs g i j (there i li) (there j lj) ne (x .head) (alive (x .head) x refl live-i) (alive (x .head) y (sym head-same) live-j) in
+        true≢false (sym (has-contained states (x .effect) (y .effect) (subst (λ (e : ℕ). e < 2 ^ (states * states)) (row-true bs g i (there i li) .relation-is) (wordRelation-lt states (A .transitions) (wordAt bs g i))) sub) ∙ z)
+
+-- once a verdict is neither "full" nor "spent", a longer journal or a larger budget leaves the whole answer as it is: verdict, joins,
+-- used rows, pass, row and the rows themselves
+pub same-answer : (bs : List ℕ) (g g′ : Settings) → Extends g g′ → (orderOn bs g .verdict ≡ full → ⊥) → (orderOn bs g .verdict ≡ spent → ⊥) → orderOn bs g′ ≡ orderOn bs g
+unfolding orderOn
+same-answer bs g g′ x f s =
+    check-mono (base states (automatonOf bs)) (rulesOf bs) (g .rows) (g .budget) (g′ .rows) (g′ .budget) (x .more-rows) (x .more-joins) (firm (orderOn bs g .verdict) f s)
+  where
+    firm : (x : Verdict) → (x ≡ full → ⊥) → (x ≡ spent → ⊥) → Firm x
+    firm holds f s = tt
+    firm broken f s = tt
+    firm full f s = f refl
+    firm spent f s = s refl

@@ -1,0 +1,239 @@
+// One file: compares the answer of the inclusion check with the unpruned search, and with its own answers over other journals and budgets.
+use call_judge::Judged;
+use host_result::CheckResult;
+use relation::Relation;
+use spec_calls::Options;
+use spec_calls::Row;
+use test_random::Trial;
+use test_unpruned::Found;
+use test_unpruned::Numbers;
+use test_unpruned::rows;
+
+const ROWS: usize = 1024;
+
+const MORE_ROWS: usize = 2048;
+
+const BUDGET: u64 = 1000000;
+
+const LARGER_BUDGET: u64 = 4000000;
+
+// How many rows of a journal are compared: no file uses as many.
+const KEPT: usize = 64;
+
+// ---- rows as numbers
+
+// Returns a row as eight numbers, its relation as one of them.
+fn numbers(row: Row) -> Numbers {
+    let relation = row.relation;
+    let mut words = [0; relation::WORDS];
+    relation.store(&mut words, 0);
+    [
+        row.head,
+        row.rule,
+        words[0],
+        row.left,
+        row.right,
+        row.len,
+        row.birth,
+        row.retired,
+    ]
+}
+
+// Returns the row of eight numbers.
+fn row_of(x: Numbers) -> Row {
+    let words = [x[2]; relation::WORDS];
+    Row {
+        head: x[0],
+        rule: x[1],
+        relation: Relation::read(&words, 0),
+        left: x[3],
+        right: x[4],
+        len: x[5],
+        birth: x[6],
+        retired: x[7],
+    }
+}
+
+// Returns how many rows to compare where `used` rows are used: two more, so that there are rows that should be untouched.
+fn looked_at(used: u64) -> usize {
+    if used < 62 {
+        return used as usize + 2;
+    }
+    KEPT
+}
+
+// ---- checks
+
+fn ask(file: &[u8], rows: usize, old: Row, budget: u64, probe: usize) -> CheckResult {
+    let mut buffer = [0u8; 4096];
+    host_check::check_and_write(file, rows, old, Options { budget }, probe, &mut buffer)
+}
+
+fn put(journal: &mut [Numbers], i: usize, row: Numbers) {
+    if i < journal.len() {
+        journal[i] = row;
+    }
+}
+
+// Stores the first `count` rows that a check leaves in `journal`, each from a check of its own.
+fn collect(file: &[u8], rows: usize, old: Row, budget: u64, count: usize, journal: &mut [Numbers]) {
+    for i in 0..count {
+        let told = ask(file, rows, old, budget, i);
+        let row = numbers(told.shown);
+        put(journal, i, row);
+    }
+}
+
+fn same(x: CheckResult, y: CheckResult) -> bool {
+    (x.code == y.code)
+        & (x.row == y.row)
+        & (x.joins == y.joins)
+        & (x.used == y.used)
+        & (x.pass == y.pass)
+}
+
+// Tests whether the word that is the first `size` letters of `buffer` is turned away.
+fn turned_away(file: &[u8], buffer: &[u8], size: usize) -> bool {
+    if buffer.len() < size {
+        return false;
+    }
+    let judged = call_judge::judge(file, &buffer[0..size]);
+    match judged {
+        Judged::TurnedAway => true,
+        Judged::Accepted => false,
+        Judged::Refused(_) => false,
+    }
+}
+
+// Tests whether the word in `buffer` is as long as the broken row says, is turned away, and has the row's relation.
+fn shown(file: &[u8], journal: &[Numbers], told: CheckResult, buffer: &[u8]) -> bool {
+    let row = told.row as usize;
+    if journal.len() <= row {
+        return false;
+    }
+    let held = journal[row];
+    let size = told.length as usize;
+    (told.refused == 0)
+        & (held[5] == told.length)
+        & turned_away(file, buffer, size)
+        & (held[2] == test_unpruned::word(file, buffer, size))
+}
+
+// Tests whether the verdict is the one of the unpruned search, and a broken one has a word to show.
+fn right(file: &[u8], journal: &[Numbers], told: CheckResult, buffer: &[u8], broken: bool) -> bool {
+    if broken {
+        return (told.code == host_result::BROKEN) & shown(file, journal, told, buffer);
+    }
+    told.code == host_result::HOLDS
+}
+
+// Tests whether the used rows have relations that the unpruned search found, and the live ones are an antichain; if the check holds, no relation
+// is without a live row below it, so that the live rows are the smallest relations.
+fn accounted(journal: &[Numbers], told: CheckResult, found: &Found, count: usize) -> bool {
+    let used = told.used as usize;
+    let sound = rows::sound(journal, used, found, count);
+    if told.code == host_result::HOLDS {
+        return sound & rows::covering(journal, used, found, count);
+    }
+    sound
+}
+
+// Tests whether a longer journal and a larger budget give the same answer and the same rows.
+fn same_with_more(file: &[u8], journal: &[Numbers], told: CheckResult) -> bool {
+    let mut longer = [[0u64; 8]; KEPT];
+    let again = ask(file, MORE_ROWS, Row::blank(), LARGER_BUDGET, 0);
+    let n = looked_at(again.used);
+    collect(file, MORE_ROWS, Row::blank(), LARGER_BUDGET, n, &mut longer);
+    same(told, again) & rows::same(journal, &longer, 0, told.used as usize)
+}
+
+// Returns a row that no file uses, one of the 960 from row 64 on, by a number below 1,024.
+fn far_row(drawn: u64) -> usize {
+    KEPT + (drawn % 960) as usize
+}
+
+// Tests whether a journal with other old contents gives the same answer and the same rows, and the rest of it is untouched.
+fn same_with_old(file: &[u8], journal: &[Numbers], told: CheckResult, old: Numbers) -> bool {
+    let mut other = [old; KEPT];
+    let again = ask(file, ROWS, row_of(old), BUDGET, 0);
+    let n = looked_at(again.used);
+    collect(file, ROWS, row_of(old), BUDGET, n, &mut other);
+    let far = ask(file, ROWS, row_of(old), BUDGET, far_row(old[3]));
+    let fresh = [old; KEPT];
+    let used = told.used as usize;
+    same(told, again)
+        & rows::same(journal, &other, 0, used)
+        & rows::same(&other, &fresh, used, KEPT)
+        & rows::same_row(numbers(far.shown), old)
+}
+
+// Tests an answer with few rows and a small budget: it is full or spent just where the rows or the joins run out, and else the same answer.
+fn fair(told: CheckResult, small: CheckResult, few: usize, budget: u64) -> bool {
+    if small.code == host_result::SPENT {
+        return (small.joins == budget) & (budget < told.joins);
+    }
+    if small.code == host_result::FULL {
+        return (small.used == few as u64) & ((few as u64) < told.used);
+    }
+    same(told, small)
+}
+
+// Returns the number of the first comparison that fails; 0 if none does.
+fn first_failing(verdict: bool, relations: bool, more: bool, old: bool, less: bool) -> u64 {
+    if !verdict {
+        return 1;
+    }
+    if !relations {
+        return 2;
+    }
+    if !more {
+        return 3;
+    }
+    if !old {
+        return 4;
+    }
+    if !less {
+        return 5;
+    }
+    0
+}
+
+// The result for one file: the verdict and the used rows, the verdict with few rows and a small budget, and the first comparison that failed.
+pub struct Outcome {
+    pub verdict: u64,
+    pub used: u64,
+    pub small: u64,
+    pub failing: u64,
+}
+
+// Makes the comparisons of `file`, of which the unpruned search has listed the first `count` pairs of `found`, and said whether it is `broken`.
+pub fn compare(file: &[u8], found: &Found, count: usize, broken: bool, trial: Trial) -> Outcome {
+    let mut buffer = [0u8; 4096];
+    let old = Row::blank();
+    let told = host_check::check_and_write(
+        file,
+        ROWS,
+        old,
+        Options { budget: BUDGET },
+        0,
+        &mut buffer,
+    );
+    let mut journal = [[0u64; 8]; KEPT];
+    let n = looked_at(told.used);
+    collect(file, ROWS, old, BUDGET, n, &mut journal);
+    let small = ask(file, trial.few, old, trial.budget, 0);
+    let other = trial.old;
+    let failing = first_failing(
+        right(file, &journal, told, &buffer, broken),
+        accounted(&journal, told, found, count),
+        same_with_more(file, &journal, told),
+        same_with_old(file, &journal, told, other),
+        fair(told, small, trial.few, trial.budget),
+    );
+    Outcome {
+        verdict: told.code,
+        used: told.used,
+        small: small.code,
+        failing,
+    }
+}

@@ -1,0 +1,147 @@
+// Compares the inclusion check with an unpruned search that shares no code with it, on small files made from a fixed seed (the crate
+// random_files). The search (the crate `test_unpruned`) finds all relations of all words of each nonterminal and discards none. Of each file
+// (comparison.rt):
+//
+// 1. With 1,024 rows and a budget of 1,000,000 the file is not refused, and the verdict is holds or broken as the search says. The word
+//    behind a broken answer's row is as long as the row says, is turned away by judging, and has the row's relation.
+// 2. Each used row has a relation that the search found, no live row is above another of its nonterminal, and where the verdict is holds
+//    each relation that the search found is above a live row.
+// 3. A longer journal and a larger budget give the same verdict, joins, used rows, pass, row and journal rows.
+// 4. So does a journal with old contents that look like rows; past the used rows it keeps them.
+// 5. With 1 to 6 rows and a budget of 0 to 40 the answer is spent with as many joins as the budget has and fewer than the check makes,
+//    or full with all rows used and fewer than the check uses, or the same whole answer.
+//
+// Written are the counts of files, of those that hold, of these those without a word and those in which the check keeps fewer rows than
+// there are relations, of broken ones; of full, spent and other answers under 5; of files with more relations than the search has room
+// for, which are skipped; and of mismatches, each of which is also written with the file's number and the comparison that fails.
+mod comparison;
+
+use comparison::Outcome;
+use test_random::Trial;
+use test_unpruned::Verdict;
+
+const FILES: u64 = 10000;
+
+// What is counted: the places in the tally.
+const HOLDS: usize = 0;
+
+const WORDLESS: usize = 1;
+
+const PRUNED: usize = 2;
+
+const BROKEN: usize = 3;
+
+const FULL: usize = 4;
+
+const SPENT: usize = 5;
+
+const NEITHER: usize = 6;
+
+const SKIPPED: usize = 7;
+
+const MISMATCHES: usize = 8;
+
+fn count_one(tally: &mut [u64; 9], i: usize) {
+    if i < 9 {
+        let n = tally[i];
+        tally[i] = std::num::wrapping_add_u64(n, 1);
+    }
+}
+
+fn line(name: &[u8], n: u64) {
+    io::write_all(1, name);
+    io::print_decimal(1, n);
+    io::write_all(1, b"\n");
+}
+
+// Counts the verdict with ample rows and joins.
+fn count_verdict(tally: &mut [u64; 9], outcome: Outcome, verdict: Verdict) {
+    if outcome.verdict == host_result::BROKEN {
+        count_one(tally, BROKEN);
+        return;
+    }
+    count_one(tally, HOLDS);
+    if !verdict.words {
+        count_one(tally, WORDLESS);
+    }
+    if outcome.used < verdict.relations {
+        count_one(tally, PRUNED);
+    }
+}
+
+// Counts the verdict with few rows and a small budget.
+fn count_small(tally: &mut [u64; 9], verdict: u64) {
+    if verdict == host_result::FULL {
+        count_one(tally, FULL);
+    } else if verdict == host_result::SPENT {
+        count_one(tally, SPENT);
+    } else {
+        count_one(tally, NEITHER);
+    }
+}
+
+fn count_mismatch(tally: &mut [u64; 9], number: u64, failing: u64) {
+    if failing != 0 {
+        count_one(tally, MISMATCHES);
+        line(b"file ", number);
+        line(b"fails ", failing);
+    }
+}
+
+// Searches the file that is the first `size` bytes of `buffer`, and compares.
+fn try_file(number: u64, buffer: &[u8; 192], size: usize, trial: Trial, tally: &mut [u64; 9]) {
+    let whole: &[u8] = buffer;
+    if whole.len() < size {
+        return;
+    }
+    let file = &whole[0..size];
+    let mut found = [[0u64; 2]; test_unpruned::LIMIT];
+    let count = test_unpruned::search(file, &mut found);
+    if count == test_unpruned::LIMIT {
+        count_one(tally, SKIPPED);
+        return;
+    }
+    let verdict = test_unpruned::decide(file, &found, count);
+    let outcome = comparison::compare(file, &found, count, verdict.broken, trial);
+    count_verdict(tally, outcome, verdict);
+    count_small(tally, outcome.small);
+    count_mismatch(tally, number, outcome.failing);
+}
+
+// Draws the next file and what is tried on it, and tries it.
+fn try_next(number: u64, seed: &mut u64, tally: &mut [u64; 9]) {
+    let mut buffer = [0u8; 192];
+    let size = test_random::next(seed, &mut buffer);
+    let trial = test_random::draw_trial(seed);
+    try_file(number, &buffer, size, trial, tally);
+}
+
+fn try_all(tally: &mut [u64; 9]) {
+    let mut seed: u64 = 1;
+    for number in 0..FILES {
+        try_next(number, &mut seed, tally);
+    }
+}
+
+fn report_checks(tally: [u64; 9]) {
+    line(b"files ", FILES);
+    line(b"holds ", tally[HOLDS]);
+    line(b"without a word ", tally[WORDLESS]);
+    line(b"pruned ", tally[PRUNED]);
+    line(b"broken ", tally[BROKEN]);
+}
+
+fn report_trials(tally: [u64; 9]) {
+    line(b"full ", tally[FULL]);
+    line(b"spent ", tally[SPENT]);
+    line(b"neither ", tally[NEITHER]);
+    line(b"skipped ", tally[SKIPPED]);
+    line(b"mismatches ", tally[MISMATCHES]);
+}
+
+fn main() {
+    let mut tally = [0u64; 9];
+    try_all(&mut tally);
+    report_checks(tally);
+    report_trials(tally);
+}

@@ -1,5 +1,5 @@
-// The three loops that hold the lent journal; all else is covered code on values. Only here and in `rows` is an effect named: a loop reads a
-// row, has `rows` compare it with the candidate, and hands two bools on to steps that know neither.
+// The three loops that hold the lent journal; all else is covered code on values. Only here and in `search_rows` is an effect named: a loop reads a
+// row, has `search_rows` compare it with the candidate, and hands two bools on to steps that know neither.
 use relation::Letter;
 use search_cover::CoverCursor;
 use search_rows::Candidate;

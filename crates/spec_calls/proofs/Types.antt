@@ -1,4 +1,4 @@
--- The types that the walks by hand of all crates share, each said here alone: a row of the lent journal as plain data (`lent`, PlainData.antt), with
+-- The types that the walks by hand of all crates share, each said here alone: a row of the lent journal as plain data (`walk_kit`, PlainData.antt), with
 -- its type and how many bytes it takes; the options of a check; a rule of the table, which is its four bytes; and a word of the letters' table. Assumes nothing.
 use Prim.Native.Nat.{ℕ, _+_, _*_}
 use denote.Array.{Array}

@@ -1,4 +1,4 @@
-// For tests only (cases_writing): a check, one row of its journal replaced, and the run behind a row written. The parameters and the answer
+// For tests only (test_writing): a check, one row of its journal replaced, and the run behind a row written. The parameters and the answer
 // are plain values and lent bytes, so a caller needs no walk.
 use call_write::Writing;
 use spec_calls::JOURNAL_LIMIT;

@@ -1,5 +1,5 @@
 // Compares the inclusion check with an unpruned search that shares no code with it, on small files made from a fixed seed (the crate
-// random_files). The search (the crate `test_unpruned`) finds all relations of all words of each nonterminal and discards none. Of each file
+// test_random). The search (the crate `test_unpruned`) finds all relations of all words of each nonterminal and discards none. Of each file
 // (comparison.rt):
 //
 // 1. With 1,024 rows and a budget of 1,000,000 the file is not refused, and the verdict is holds or broken as the search says. The word

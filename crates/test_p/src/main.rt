@@ -1,5 +1,5 @@
 // The cases that document 01 marks P, as far as the library can be given rows and a budget, each as the check program prints it.
-// The stored output is what document 01 asks for; cases_judging compares the judged runs.
+// The stored output is what document 01 asks for; test_judging compares the judged runs.
 use libc::STDOUT_FILENO;
 use relation::Relation;
 use spec_calls::Options;

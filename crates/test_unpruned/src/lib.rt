@@ -1,4 +1,4 @@
-// For tests only (cases_inclusion): lists the relations of all words of each nonterminal, none left out, with no code of the inclusion check.
+// For tests only (test_inclusion): lists the relations of all words of each nonterminal, none left out, with no code of the inclusion check.
 // The list holds pairs of a symbol, as a rule's body spells it, and the relation of a word of that symbol. A relation has pair (a, b) at bit
 // a * 8 + b.
 pub mod rows;

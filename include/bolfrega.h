@@ -7,7 +7,8 @@
  * The archive is for x86-64 Linux; link it alone: cc program.c -Iinclude target/staticlib/libbolfrega.a
  *
  * A file is a sequence of 8-byte records: a plan's rules, then the moves and finishing stages of its order sheet. A run is a sequence of
- * step codes, one to a byte.
+ * step codes, one to a byte. The codes from 120 to 127 are remarks: a sheet stays in its stage on each of them, and none of its moves
+ * is on one. A plan's rules may use them; they count in a run's length and are written out with it.
  *
  * What every call asks of its caller:
  * - A pointer and the length after it are those of one area of memory. With length 0 the pointer may be null.
@@ -25,7 +26,8 @@
  *    8  The journal has no row or more than 4,096 rows.
  *   10  The run to be written has 65,535 or more steps, or more than the buffer has bytes.
  *   11  A run given to be judged has more than 65,534 steps or a code above 127.
- * 1 and 2 are tested first, then 3 to 7 record by record: the earliest record wins, and within it the lowest number.
+ *   12  A move is on a remark: its code is 120 or above.
+ * 1 and 2 are tested first, then 3, 4, 5, 12, 6, 7 record by record: the earliest record wins, and within it the earliest of these.
  */
 #ifndef BOLFREGA_H
 #define BOLFREGA_H
@@ -63,17 +65,17 @@ uint64_t bolfrega_version(void);
 /*
  * Reads a file.
  *
- * Returns 0 if nothing refuses the file, else the number that does, 1 to 7.
- * Sets *record to the number of the record at fault, from 0, if it returns 3 to 7, and else to 0.
+ * Returns 0 if nothing refuses the file, else the number that does, 1 to 7 or 12.
+ * Sets *record to the number of the record at fault, from 0, if it returns 3 to 7 or 12, and else to 0.
  */
 uint64_t bolfrega_refusal(const uint8_t *file, size_t file_length, uint64_t *record);
 
 /*
  * Judges a run by the order sheet in a file.
  *
- * Returns 1 to 7 if the file is refused; else 11 if the run is refused; else BOLFREGA_ACCEPTED if the sheet has a path on the run from
+ * Returns 1 to 7 or 12 if the file is refused; else 11 if the run is refused; else BOLFREGA_ACCEPTED if the sheet has a path on the run from
  * stage 0 to a finishing stage, and BOLFREGA_TURNED_AWAY if it has none.
- * Sets *record as bolfrega_refusal does: to 0 if it returns anything but 3 to 7.
+ * Sets *record as bolfrega_refusal does: to 0 if it returns anything but 3 to 7 or 12.
  */
 uint64_t bolfrega_judge(const uint8_t *file, size_t file_length, const uint8_t *run, size_t run_length, uint64_t *record);
 
@@ -85,7 +87,7 @@ uint64_t bolfrega_judge(const uint8_t *file, size_t file_length, const uint8_t *
  * has 8 MiB.)
  *
  * Returns, and sets all eight details:
- * - 1 to 7 if the file is refused; else 8 if `rows` is 0 or above 4,096. The record is that of bolfrega_refusal (0 for 1, 2 and 8), and
+ * - 1 to 7 or 12 if the file is refused; else 8 if `rows` is 0 or above 4,096. The record is that of bolfrega_refusal (0 for 1, 2 and 8), and
  *   the other details are 0.
  * - BOLFREGA_HOLDS, BOLFREGA_FULL or BOLFREGA_SPENT. Joins, used and pass are those of the check, the row is 65,535, the rest is 0.
  * - BOLFREGA_BROKEN. Joins, used, pass, row, pairs and length are those of the check, the record is 0. If the run has at most 65,534

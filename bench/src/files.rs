@@ -4,6 +4,7 @@
 //! number of joins can be told beforehand.
 
 use plain::making::{procedure, Making, Numbers};
+use plain::FIRST_REMARK;
 
 /// A file and what it is checked with.
 pub struct Case {
@@ -47,6 +48,9 @@ const TURNS: [Mapping; 2] = [[2, 0, 3, 1, 6, 4, 7, 5], [0, 2, 4, 6, 1, 3, 5, 7]]
 const CUBE: [Mapping; 3] = [TURNS[0], TURNS[1], [7, 6, 5, 4, 3, 2, 1, 0]];
 /// The 8 turns of a ring.
 const RING: [Mapping; 1] = [[1, 2, 3, 4, 5, 6, 7, 0]];
+
+/// The codes below this one lead to one stage from each in a full sheet; those from here up to the remarks lead to two.
+const FIRST_DOUBLE: u8 = FIRST_REMARK - 8;
 
 /// All files of the table.
 pub fn all() -> Vec<Case> {
@@ -99,7 +103,7 @@ pub fn by_moves() -> Vec<Case> {
         }
         Case::new(&format!("{} moves", making.count(2)), &making)
     };
-    [3, 32, 64, 128].map(with).into()
+    [3, 32, 64, FIRST_REMARK].map(with).into()
 }
 
 /// Plan A of document 01 with its sheet S.
@@ -123,14 +127,12 @@ fn sheet_and_plan_a() -> Making {
     making
 }
 
-/// 128 codes, each in two rules of its own: two passes, and two live rows for each of 64 procedures.
+/// 128 codes, remarks among them, each in two rules of its own: two passes, and two or three live rows for each of 64 procedures.
 fn nothing_but_codes() -> Case {
     let mut making = Making::new();
+    full_sheet(&mut making, || RING[0]);
     for code in 0..128 {
-        making
-            .mapping(code, RING[0])
-            .rule(code % 64, &[code, code])
-            .rule(code % 64, &[code]);
+        making.rule(code % 64, &[code, code]).rule(code % 64, &[code]);
     }
     finish_everywhere(&mut making);
     Case::new("codes", &making)
@@ -139,8 +141,9 @@ fn nothing_but_codes() -> Case {
 /// A long chain: 64 procedures with one live row each, which come one to a pass.
 fn chain() -> Case {
     let mut making = Making::new();
-    for code in 0..128 {
-        making.mapping(code, RING[0]).rule(63, &[code]);
+    full_sheet(&mut making, || RING[0]);
+    for code in 0..FIRST_DOUBLE {
+        making.rule(63, &[code]);
     }
     for head in 0..63 {
         making
@@ -160,26 +163,25 @@ fn ring(rules: usize) -> Making {
     making
 }
 
-/// The largest file that holds: 256 rules, 64 procedures, 1,024 moves, 48 live rows for each procedure.
+/// The largest file that holds: 256 rules, 64 procedures, 1,024 moves, 48 live rows for each procedure. Its rules use no code that leads
+/// to two stages.
 fn cube_largest() -> Making {
     let symmetries = generated(&CUBE);
     let mut numbers = Numbers::new(8);
     let mut making = Making::new();
-    for code in 0..128 {
-        making.mapping(code, numbers.pick(&symmetries));
-    }
-    pairs_at_random(&mut making, 9, 256, |numbers| numbers.byte(128));
+    full_sheet(&mut making, || numbers.pick(&symmetries));
+    pairs_at_random(&mut making, 9, 256, |numbers| numbers.byte(FIRST_DOUBLE.into()));
     finish_everywhere(&mut making);
     making
 }
 
-/// Rules that add a code on the right, 126 of them, over 720 live rows.
+/// Rules that add a code on the right, 120 of them, over 720 live rows.
 fn left_linear() -> Making {
     let orders = generated(&ORDERS_OF_SIX);
     let mut numbers = Numbers::new(10);
     let mut making = Making::new();
     making.rule(1, &[]);
-    for code in 0..126 {
+    for code in 0..FIRST_REMARK {
         making.mapping(code, numbers.pick(&orders)).rule(1, &[procedure(1), code]);
     }
     making
@@ -257,13 +259,11 @@ fn random_relations(seed: u64, procedures: usize, codes: u8, moves: usize) -> Ma
     making
 }
 
-/// 256 rules, 64 procedures and 1,024 moves at random.
+/// 256 rules, in which any code stands, 64 procedures and 1,024 moves at random.
 fn random_largest() -> Making {
     let mut numbers = Numbers::new(3);
     let mut making = Making::new();
-    for code in 0..128 {
-        making.mapping(code, std::array::from_fn(|_| numbers.byte(8)));
-    }
+    full_sheet(&mut making, || std::array::from_fn(|_| numbers.byte(8)));
     pairs_at_random(&mut making, 11, 256, |numbers| numbers.byte(128));
     finish_everywhere(&mut making);
     making
@@ -284,6 +284,17 @@ fn pairs_at_random(making: &mut Making, seed: u64, rules: usize, code: impl Fn(&
             making.rule(head, &[procedure(left), code]);
         } else {
             making.rule(head, &[procedure(left), procedure(right)]);
+        }
+    }
+}
+
+/// Adds 1,024 moves: a mapping for each code that is no remark, and for the last eight of them the next stages besides.
+fn full_sheet(making: &mut Making, mut mapping: impl FnMut() -> Mapping) {
+    for code in 0..FIRST_REMARK {
+        let to = mapping();
+        making.mapping(code, to);
+        if code >= FIRST_DOUBLE {
+            making.mapping(code, to.map(|stage| (stage + 1) % 8));
         }
     }
 }

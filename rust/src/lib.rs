@@ -30,6 +30,11 @@
 //! # Ok::<(), bolfrega::Refusal>(())
 //! ```
 //!
+//! # Remarks
+//!
+//! The step codes from 120 to 127 are *remarks*, notes between steps: a sheet stays in its stage on each of them, and none of its moves is on
+//! one ([`Refusal::Remark`]). A plan's rules may use them; they count in a run's length and are written out with it.
+//!
 //! # Linking
 //!
 //! The build links `libbolfrega.a` from the folder in `BOLFREGA_LIB_DIR`, or from `../target/staticlib`, where
@@ -109,7 +114,7 @@ pub fn version() -> u64 {
     raw::version()
 }
 
-/// Reads a file, and says why it is refused if it is: 1 to 7.
+/// Reads a file, and says why it is refused if it is: 1 to 7 or 12.
 ///
 /// ```
 /// use bolfrega::{refusal, Refusal};
@@ -128,9 +133,9 @@ pub fn refusal(file: &[u8]) -> Result<(), Refusal> {
     }
 }
 
-/// Judges one run by the sheet in a file. A run is a slice of step codes, one to a byte.
+/// Judges one run by the sheet in a file. A run is a slice of step codes, one to a byte. On a remark the sheet stays in its stage.
 ///
-/// It refuses a file with 1 to 7, and then a run with 11.
+/// It refuses a file with 1 to 7 or 12, and then a run with 11.
 ///
 /// ```
 /// use bolfrega::{judge, Judgement, Refusal};
@@ -139,6 +144,7 @@ pub fn refusal(file: &[u8]) -> Result<(), Refusal> {
 /// let file = [2, 0, 5, 1, 0, 0, 0, 0, 3, 1, 0, 0, 0, 0, 0, 0];
 /// assert_eq!(judge(&file, &[5]), Ok(Judgement::Accepted));
 /// assert_eq!(judge(&file, &[5, 5]), Ok(Judgement::TurnedAway));
+/// assert_eq!(judge(&file, &[120, 5, 127]), Ok(Judgement::Accepted));
 /// assert_eq!(judge(&file, &[128]), Err(Refusal::Run));
 /// ```
 pub fn judge(file: &[u8], run: &[u8]) -> Result<Judgement, Refusal> {
@@ -153,7 +159,7 @@ pub fn judge(file: &[u8], run: &[u8]) -> Result<Judgement, Refusal> {
 /// Checks a file's plan against its sheet, with a journal of `rows` rows and at most `budget` joins.
 ///
 /// The run of a broken answer is written to the front of `buffer`; all other bytes of `buffer` keep their values, and so do all of them
-/// with any other answer and with a refusal. It refuses a file with 1 to 7, and then with 8 a number of rows that is 0 or above
+/// with any other answer and with a refusal. It refuses a file with 1 to 7 or 12, and then with 8 a number of rows that is 0 or above
 /// [`MOST_ROWS`]. More rows and a larger budget never change an answer that is `Holds` or `Broken`.
 ///
 /// It keeps about 440 KiB on the stack ([see above](crate#stack)).

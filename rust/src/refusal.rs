@@ -3,9 +3,10 @@
 use std::error::Error;
 use std::fmt;
 
-/// Why a call refused. Each case is one of document 01's numbers; 3 to 7 name the first record at fault, counted from 0.
+/// Why a call refused. Each case is one of document 01's numbers, or C-11's 12; 3 to 7 and 12 name the first record at fault,
+/// counted from 0.
 ///
-/// The numbers 9, 12 and above belong to calls that this library doesn't have.
+/// The numbers 9, 13 and above belong to calls that this library doesn't have.
 ///
 /// ```
 /// use bolfrega::Refusal;
@@ -40,6 +41,8 @@ pub enum Refusal {
     Room,
     /// 11: a run given to be judged has more than 65,534 steps or a code above 127.
     Run,
+    /// 12: a move is on a remark, a code of 120 or above.
+    Remark { record: u64 },
 }
 
 impl Refusal {
@@ -56,17 +59,19 @@ impl Refusal {
             Refusal::Journal => 8,
             Refusal::Room => 10,
             Refusal::Run => 11,
+            Refusal::Remark { .. } => 12,
         }
     }
 
-    /// The record at fault, for 3 to 7.
+    /// The record at fault, for 3 to 7 and 12.
     pub fn record(self) -> Option<u64> {
         match self {
             Refusal::Kind { record }
             | Refusal::AboveRange { record }
             | Refusal::Unused { record }
             | Refusal::Order { record }
-            | Refusal::Count { record } => Some(record),
+            | Refusal::Count { record }
+            | Refusal::Remark { record } => Some(record),
             Refusal::Length | Refusal::Records | Refusal::Journal | Refusal::Room | Refusal::Run => None,
         }
     }
@@ -84,6 +89,7 @@ impl Refusal {
             8 => Refusal::Journal,
             10 => Refusal::Room,
             11 => Refusal::Run,
+            12 => Refusal::Remark { record },
             _ => return None,
         })
     }
@@ -101,6 +107,7 @@ impl Refusal {
             Refusal::Journal => "the journal has no row or more than 4,096 rows",
             Refusal::Room => "the run has 65,535 or more steps, or more than the buffer has bytes",
             Refusal::Run => "the run has more than 65,534 steps or a code above 127",
+            Refusal::Remark { .. } => "it is a move on a remark, a code of 120 or above",
         }
     }
 }

@@ -4,10 +4,21 @@ mod common;
 
 use common::{checking, judging, reading};
 use plain::making::{procedure, Making};
+use plain::FIRST_REMARK;
 
 /// A mapping of the stages that takes each one further; with `swap` it makes every order of the eight stages.
 const ROUND: [u8; 8] = [1, 2, 3, 4, 5, 6, 7, 0];
 const SWAP: [u8; 8] = [1, 0, 2, 3, 4, 5, 6, 7];
+
+/// 1,024 moves: each code that is no remark leads to one stage from each, and the first eight of them lead to another besides.
+fn moves_on_every_code(making: &mut Making) {
+    for code in 0..FIRST_REMARK {
+        making.mapping(code, ROUND.map(|to| (to + code) % 8));
+    }
+    for code in 0..8 {
+        making.mapping(code, ROUND.map(|to| (to + code + 1) % 8));
+    }
+}
 
 /// The largest file: 256 rules, 1,024 moves and 8 finishing stages.
 fn largest() -> Making {
@@ -15,9 +26,7 @@ fn largest() -> Making {
     for rule in 0..=255 {
         making.rule(rule / 4, &[procedure(63 - rule / 4), rule % 128]);
     }
-    for code in 0..128 {
-        making.mapping(code, ROUND.map(|to| (to + code) % 8));
-    }
+    moves_on_every_code(&mut making);
     (0..8).for_each(|stage| {
         making.finishing(stage);
     });
@@ -55,19 +64,17 @@ fn a_rule_or_a_move_too_many() {
     assert_eq!(reading(&rules.rule(63, &[191, 190]).bytes()), (7, 256));
 
     let mut moves = Making::new();
-    (0..128).for_each(|code| {
-        moves.mapping(code, [0; 8]);
-    });
+    moves_on_every_code(&mut moves);
     moves.finishing(0);
     assert_eq!(reading(&moves.bytes()), (0, 0));
-    assert_eq!(reading(&moves.step(7, 127, 7).bytes()), (7, 1_024));
+    assert_eq!(reading(&moves.step(7, FIRST_REMARK - 1, 1).bytes()), (7, 1_024));
     assert_eq!(reading(&moves.rule(0, &[]).bytes()), (7, 1_025));
 }
 
 #[test]
 fn last_values() {
     let mut making = Making::new();
-    making.rule(63, &[191, 127]).step(7, 127, 7).finishing(7);
+    making.rule(63, &[191, 127]).step(7, FIRST_REMARK - 1, 7).finishing(7);
     assert_eq!(reading(&making.bytes()), (0, 0));
     for record in [
         [1, 63, 2, 191, 192, 0, 0, 0],
@@ -202,13 +209,21 @@ fn rows_of_length_0() {
 
 #[test]
 fn runs_to_judge() {
-    let file = Making::new().mapping(0, SWAP).mapping(127, ROUND).finishing(0).bytes();
+    let file = Making::new()
+        .mapping(0, SWAP)
+        .mapping(FIRST_REMARK - 1, ROUND)
+        .finishing(0)
+        .bytes();
     for length in [0, 1, 2, 65_533, 65_534] {
         let expected = if length % 2 == 0 { (110, 0) } else { (111, 0) };
         assert_eq!(judging(&file, &vec![0; length]), expected);
     }
-    assert_eq!(judging(&file, &vec![127; 65_528]), (110, 0));
+    assert_eq!(judging(&file, &vec![FIRST_REMARK - 1; 65_528]), (110, 0));
+    // Remarks count in the length, and stay in the stage.
+    assert_eq!(judging(&file, &vec![127; 65_534]), (110, 0));
+    assert_eq!(judging(&file, &[0, FIRST_REMARK, 127]), (111, 0));
     assert_eq!(judging(&file, &vec![0; 65_535]), (11, 0));
+    assert_eq!(judging(&file, &vec![127; 65_535]), (11, 0));
     assert_eq!(judging(&file, &vec![0; 1_000_000]), (11, 0));
     assert_eq!(judging(&file, &[128]), (11, 0));
     let mut run = vec![0; 65_534];

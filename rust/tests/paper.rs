@@ -1,13 +1,15 @@
-//! The cases of document 01, through the library.
+//! The cases of document 01, and those of C-11's remarks, through the library.
 
 mod common;
 
 use bolfrega::{check, judge, refusal, Judgement, Refusal, Verdict};
 use common::{checking, judging, reading};
 use plain::making::{procedure, Making};
+use plain::FIRST_REMARK;
 
 const PLAN_A: &[u8] = include_bytes!("../../samples/plan-a.plan");
 const PLAN_B: &[u8] = include_bytes!("../../samples/plan-b.plan");
+const REMARKS: &[u8] = include_bytes!("../../samples/remarks.plan");
 
 /// Sheet S: code 1 writes a tile row, 2 an index row, 3 closes.
 fn sheet_s() -> Making {
@@ -34,6 +36,18 @@ fn plan_b() -> Making {
     making
 }
 
+/// Plan A with sheet S, and a remark before each index row: 2 gives a remark and 3, and 3 gives what 2 gave.
+fn plan_a_with_a_remark() -> Making {
+    let mut making = sheet_s();
+    making
+        .rule(0, &[procedure(1), 3])
+        .rule(1, &[])
+        .rule(1, &[1, procedure(2)])
+        .rule(2, &[FIRST_REMARK, procedure(3)])
+        .rule(3, &[2, procedure(1)]);
+    making
+}
+
 /// The verdict without what a broken one shows, and the counts.
 fn line(file: &[u8], rows: usize, budget: u64) -> (&'static str, u64, u64, u64) {
     checking(file, rows, budget, 16);
@@ -52,6 +66,7 @@ fn line(file: &[u8], rows: usize, budget: u64) -> (&'static str, u64, u64, u64) 
 fn samples_are_the_plans() {
     assert_eq!(plan_a().bytes(), PLAN_A);
     assert_eq!(plan_b().bytes(), PLAN_B);
+    assert_eq!(plan_a_with_a_remark().bytes(), REMARKS);
 }
 
 #[test]
@@ -131,6 +146,50 @@ fn runs_on_s() {
     assert_eq!(judge(&file, &[1, 2, 3]), Ok(Judgement::Accepted));
     judging(&file, &[1, 3]);
     judging(&file, &[1, 2, 3]);
+}
+
+#[test]
+fn a_with_a_remark_holds() {
+    assert_eq!(line(REMARKS, 1_024, 1_000_000), ("holds", 18, 5, 5));
+}
+
+#[test]
+fn remarks_alone() {
+    // The run is written out with its remarks, and its effect has all eight pairs.
+    let mut making = Making::new();
+    let file = making.rule(0, &[FIRST_REMARK, 127]).bytes();
+    assert_eq!(line(&file, 1_024, 1_000_000), ("broken", 1, 1, 1));
+    let (_, details, buffer) = checking(&file, 1_024, 1_000_000, 3);
+    assert_eq!(
+        (&details[4..], &buffer[..]),
+        (&[0, 8, 2, 0][..], &[FIRST_REMARK, 127, 202][..])
+    );
+    assert_eq!(judging(&file, &[FIRST_REMARK, 127]), (111, 0));
+
+    let file = making.finishing(0).bytes();
+    assert_eq!(line(&file, 1_024, 1_000_000), ("holds", 2, 1, 2));
+    assert_eq!(judging(&file, &[FIRST_REMARK, 127]), (110, 0));
+}
+
+#[test]
+fn runs_with_remarks_on_s() {
+    let file = sheet_s().bytes();
+    assert_eq!(judging(&file, &[1, FIRST_REMARK, 2, 127, 3]), (110, 0));
+    assert_eq!(judging(&file, &[1, FIRST_REMARK - 1, 2, 3]), (111, 0));
+    assert_eq!(judging(&file, &[1, FIRST_REMARK, 3]), (111, 0));
+}
+
+#[test]
+fn a_move_on_a_remark() {
+    let file = [[2, 0, FIRST_REMARK - 1, 1, 0, 0, 0, 0], [2, 0, FIRST_REMARK, 1, 0, 0, 0, 0]].concat();
+    assert_eq!(reading(&file), (12, 1));
+    assert_eq!(refusal(&file), Err(Refusal::Remark { record: 1 }));
+    assert_eq!(
+        refusal(&file).unwrap_err().to_string(),
+        "record 1: it is a move on a remark, a code of 120 or above (12)"
+    );
+    assert_eq!(reading(&[2, 0, 127, 1, 0, 0, 0, 0]), (12, 0));
+    assert_eq!(reading(&[2, 0, 128, 1, 0, 0, 0, 0]), (4, 0));
 }
 
 #[test]

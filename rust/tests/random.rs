@@ -4,6 +4,7 @@ mod common;
 
 use common::{checking, judging, ordinary, valid_file, Size};
 use plain::making::Numbers;
+use plain::FIRST_REMARK;
 
 const TINY: Size = Size {
     procedures: 2,
@@ -32,7 +33,7 @@ const DENSE: Size = Size {
 const LARGE: Size = Size {
     procedures: 64,
     rules: 256,
-    codes: 128,
+    codes: FIRST_REMARK as usize,
     moves: 1_024,
 };
 
@@ -142,14 +143,35 @@ fn shown_runs() {
     assert!(longest > 3, "the longest shown run has {longest} steps");
 }
 
+/// A code below 5, and once in 6 a remark.
+fn step_or_remark(numbers: &mut Numbers) -> u8 {
+    if numbers.once_in(6) {
+        FIRST_REMARK + numbers.byte(8)
+    } else {
+        numbers.byte(5)
+    }
+}
+
 #[test]
 fn runs_at_random() {
     let mut numbers = Numbers::new(18);
     let mut seen = [0; 2];
     for round in 0..3_000 {
         let file = valid_file(&mut numbers, SMALL);
-        let run: Vec<u8> = (0..round % 12).map(|_| numbers.byte(5)).collect();
+        let run: Vec<u8> = (0..round % 12).map(|_| step_or_remark(&mut numbers)).collect();
         seen[judging(&file, &run).0 as usize - 110] += 1;
     }
     assert!(seen.iter().all(|&times| times > 200), "{seen:?}");
+}
+
+/// Striking the remarks from a run changes no judgement.
+#[test]
+fn runs_without_their_remarks() {
+    let mut numbers = Numbers::new(19);
+    for round in 0..3_000 {
+        let file = valid_file(&mut numbers, SMALL);
+        let run: Vec<u8> = (0..round % 12).map(|_| step_or_remark(&mut numbers)).collect();
+        let struck: Vec<u8> = run.iter().copied().filter(|&code| code < FIRST_REMARK).collect();
+        assert_eq!(judging(&file, &run), judging(&file, &struck));
+    }
 }

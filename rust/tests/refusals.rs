@@ -4,6 +4,7 @@ mod common;
 
 use common::{checking, judging, reading, valid_file, Size};
 use plain::making::Numbers;
+use plain::FIRST_REMARK;
 
 const RULE: [u8; 8] = [1, 5, 2, 7, 130, 0, 0, 0];
 const STEP: [u8; 8] = [2, 3, 90, 4, 0, 0, 0, 0];
@@ -29,7 +30,7 @@ fn every_call(file: &[u8]) -> (u64, u64) {
 
 #[test]
 fn every_value_of_every_byte() {
-    let mut seen = [0; 8];
+    let mut seen = [0; 13];
     for record in 0..3 {
         for byte in 0..8 {
             for value in 0..=255 {
@@ -37,7 +38,10 @@ fn every_value_of_every_byte() {
             }
         }
     }
-    assert!(seen[0] > 0 && seen[3..=6].iter().all(|&times| times > 0), "{seen:?}");
+    assert!(
+        seen[0] > 0 && seen[12] > 0 && seen[3..=6].iter().all(|&times| times > 0),
+        "{seen:?}"
+    );
 }
 
 #[test]
@@ -50,6 +54,9 @@ fn each_number_where_it_belongs() {
     assert_eq!(changed(0, 4, 192), (4, 0));
     assert_eq!(changed(1, 1, 8), (4, 1));
     assert_eq!(changed(1, 2, 128), (4, 1));
+    assert_eq!(changed(1, 2, FIRST_REMARK - 1), (0, 0));
+    assert_eq!(changed(1, 2, FIRST_REMARK), (12, 1));
+    assert_eq!(changed(1, 2, 127), (12, 1));
     assert_eq!(changed(1, 3, 8), (4, 1));
     assert_eq!(changed(2, 1, 8), (4, 2));
     assert_eq!(changed(0, 2, 1), (5, 0)); // the second symbol is no longer used
@@ -61,7 +68,7 @@ fn each_number_where_it_belongs() {
 }
 
 #[test]
-fn the_earliest_record_and_then_the_lowest_number() {
+fn the_earliest_record_and_then_the_earliest_check() {
     // A file with a wrong length and too many records gives 1; with both 2 and a bad kind it gives 2.
     assert_eq!(every_call(&[9; 8 * 1_289 + 4]), (1, 0));
     assert_eq!(every_call(&[9; 8 * 1_289]), (2, 0));
@@ -69,6 +76,10 @@ fn the_earliest_record_and_then_the_lowest_number() {
     assert_eq!(every_call(&[STEP, [1, 64, 0, 1, 0, 0, 0, 0]].concat()), (4, 1));
     assert_eq!(every_call(&[STEP, [1, 63, 0, 1, 0, 0, 0, 0]].concat()), (5, 1));
     assert_eq!(every_call(&[STEP, STEP, [9; 8]].concat()), (6, 1));
+    // 12 comes after 4 and 5, and before 6.
+    assert_eq!(every_call(&[[2, 8, FIRST_REMARK, 0, 0, 0, 0, 0]].concat()), (4, 0));
+    assert_eq!(every_call(&[[2, 0, FIRST_REMARK, 0, 1, 0, 0, 0]].concat()), (5, 0));
+    assert_eq!(every_call(&[STEP, [2, 0, FIRST_REMARK, 0, 0, 0, 0, 0]].concat()), (12, 1));
 }
 
 #[test]
@@ -98,12 +109,12 @@ fn damage(numbers: &mut Numbers, file: &mut Vec<u8>) {
 #[test]
 fn damaged_at_random() {
     let mut numbers = Numbers::new(1);
-    let mut seen = [0; 8];
+    let mut seen = [0; 13];
     for round in 0..6_000 {
         let size = Size {
             procedures: 64,
             rules: 1 + round % 40,
-            codes: 128,
+            codes: FIRST_REMARK.into(),
             moves: round % 60,
         };
         let mut file = valid_file(&mut numbers, size);
@@ -115,7 +126,7 @@ fn damaged_at_random() {
         seen[every_call(&file).0 as usize] += 1;
     }
     assert!(
-        seen[0] > 0 && seen[1] > 0 && seen[3..=6].iter().all(|&times| times > 0),
+        seen[0] > 0 && seen[1] > 0 && seen[12] > 0 && seen[3..=6].iter().all(|&times| times > 0),
         "{seen:?}"
     );
 }

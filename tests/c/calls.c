@@ -83,16 +83,22 @@ static void refusals(void)
     EXPECT(bolfrega_refusal(damaged, sizeof damaged, &record) == 5 && record == 6);
     memcpy(damaged + 8 * 5, plan_b, 8);
     EXPECT(bolfrega_refusal(damaged, sizeof damaged, &record) == 6 && record == 5);
+
+    static const uint8_t on_remark[16] = {2, 0, 119, 1, 0, 0, 0, 0, 2, 0, 120, 1, 0, 0, 0, 0};
+    record = 77;
+    EXPECT(bolfrega_refusal(on_remark, 8, &record) == 0 && record == 0);
+    EXPECT(bolfrega_refusal(on_remark, 16, &record) == 12 && record == 1);
 }
 
 static void judgements(void)
 {
-    static const uint8_t accepted[] = {1, 2, 3}, turned_away[] = {1, 3}, no_code[] = {128};
+    static const uint8_t accepted[] = {1, 2, 3}, turned_away[] = {1, 3}, no_code[] = {128}, with_remarks[] = {120, 1, 2, 127, 3};
     static const uint8_t long_run[65535];
     uint64_t record = 77;
     EXPECT(bolfrega_judge(SHEET, SHEET_LENGTH, accepted, 3, &record) == BOLFREGA_ACCEPTED && record == 0);
     record = 77;
     EXPECT(bolfrega_judge(SHEET, SHEET_LENGTH, turned_away, 2, &record) == BOLFREGA_TURNED_AWAY && record == 0);
+    EXPECT(bolfrega_judge(SHEET, SHEET_LENGTH, with_remarks, 5, &record) == BOLFREGA_ACCEPTED && record == 0);
     EXPECT(bolfrega_judge(SHEET, SHEET_LENGTH, NULL, 0, &record) == BOLFREGA_TURNED_AWAY && record == 0);
     record = 77;
     EXPECT(bolfrega_judge(SHEET, SHEET_LENGTH, no_code, 1, &record) == 11 && record == 0);
@@ -131,6 +137,13 @@ static void checks(void)
     EXPECT(said(0, 0, 0, 0, 0, 0, 0, 0) && untouched(0));
     static const uint8_t twice[16] = {3, 0, 0, 0, 0, 0, 0, 0, 3, 0, 0, 0, 0, 0, 0, 0};
     EXPECT(check(twice, 16, 0, 0, 64) == 6);
+    EXPECT(said(1, 0, 0, 0, 0, 0, 0, 0) && untouched(0));
+
+    /* The sheet turns every run away, and a remark is written out with its run. */
+    static const uint8_t remark_alone[16] = {1, 0, 1, 120, 0, 0, 0, 0, 2, 0, 120, 0, 0, 0, 0, 0};
+    EXPECT(check(remark_alone, 8, 1024, 1000000, 64) == BOLFREGA_BROKEN);
+    EXPECT(said(0, 1, 1, 1, 0, 8, 1, 0) && buffer[0] == 120 && untouched(1));
+    EXPECT(check(remark_alone, 16, 1024, 1000000, 64) == 12);
     EXPECT(said(1, 0, 0, 0, 0, 0, 0, 0) && untouched(0));
 
     EXPECT(bolfrega_check(NULL, 0, 1, 0, details, NULL, 0) == BOLFREGA_HOLDS);

@@ -5,9 +5,10 @@ use mathlib.Core.List.{List, [], _∷_}
 use Prim.Native.Nat.{ℕ, suc, _+_, _*_, _≤_, _<_, zero-le}
 use native.Mathlib.Omega.{arith}
 use lib.ListN.{length, take}
+use Rattle.spec_basics.specs.Elements.{In}
 use Rattle.relation.specs.Relation.{states}
 use Rattle.spec_language.specs.Automaton.{Accepts}
-use Rattle.spec_file.specs.Refusals.{Refusal, fault}
+use Rattle.spec_file.specs.Refusals.{Refusal, fileNumbers, fault}
 use Rattle.spec_file.specs.Views.{rulesOf, automatonOf}
 use Rattle.spec_order.specs.Stopping.{Stops}
 use Rattle.spec_order.specs.Order.{Answer, Verdict, holds, broken, full, spent}
@@ -22,7 +23,7 @@ use Rattle.bolfrega.specs.BrokenLaws.{if-not-broken}
 use Rattle.bolfrega.specs.Contracts.{Refuses, ChecksZeros}
 use Rattle.bolfrega.specs.Hosts.{FilePasses, FileRefused, RowsRefused, FileTells, toldRecord, toldJoins, toldUsed, toldPass, toldRow, toldPairs, toldLength, toldRefused, Decided, Refusing, RunsOut, Verdicts, Details, Stays, CheckTells}
 use Rattle.bolfrega.specs.HostReplies.{same-verdict, verdict-high, Why, brokenRow, writing, rows-refused, refused-rows, why-refused, ToldRefusal, ToldAnswer, told-refusal, told-answer}
-use Rattle.host_result.specs.LowNumbers.{file-refusal, record-none, low-high}
+use Rattle.host_result.specs.LowNumbers.{file-refusal, file-number, record-none, low-high}
 use Rattle.bolfrega.specs.HostJudging.{judge-tells}
 use Rattle.bolfrega.specs.HostShows.{run-shown}
 use Rattle.bolfrega.specs.HostStays.{tells-alike}
@@ -41,9 +42,6 @@ module _ (bs : List ℕ) (g : Settings) (d old new : List ℕ) (r : ℕ) where
     zeros : d ≡ toldRecord d ∷ 0 ∷ 0 ∷ 0 ∷ 0 ∷ 0 ∷ 0 ∷ 0 ∷ []
     zeros = t .details ∙ ap (λ (k : ℕ). k ∷ 0 ∷ 0 ∷ 0 ∷ 0 ∷ 0 ∷ 0 ∷ 0 ∷ []) (sym record-is)
 
-    file-number : r ≡ fault bs .number → FileRefused bs → (1 ≤ r) × (r ≤ 7)
-    file-number e n = (omega (arith, e, n), omega (arith, e, file-refusal bs .number))
-
     refusing-by : Why (fault bs) (journalFault (g .rows)) y → Refusing bs g d old new r
     refusing-by (inl (n, q)) =
         let number-is = t .number ∙ ap (λ (x : Refusal). x .number) q in
@@ -51,7 +49,7 @@ module _ (bs : List ℕ) (g : Settings) (d old new : List ℕ) (r : ℕ) where
         record {
           refused-exactly = (λ l. inl n, λ x. t .low);
           file-refused = λ m. (number-is, place-is);
-          file-numbers = λ m. file-number number-is n;
+          file-numbers = λ m. file-number bs r number-is n;
           rows-number = λ z. absurd (n z);
           no-record = record-none bs r (toldRecord d) number-is place-is;
           rest-zero = λ l. zeros;
@@ -264,8 +262,8 @@ pub file-tells : (bs : List ℕ) (r i : ℕ) → Refuses bs r i → FileTells bs
 file-tells bs r i h =
     let x = file-refusal bs in
     record {
-      numbers = subst (λ (n : ℕ). n ≤ 7) (sym (h .number)) (x .number);
-      no-record = λ l. h .place ∙ x .no-record (subst (λ (n : ℕ). n < 3) (h .number) l);
+      numbers = subst (λ (n : ℕ). (n ≡ 0) ⊎ In n fileNumbers) (sym (h .number)) (x .number);
+      no-record = record-none bs r i (h .number) (h .place);
       judging-same = λ n w r′ i′ j. let y = judge-tells bs w r′ i′ j .file-refused (λ z. n (h .number ∙ z)) in (y .0 ∙ sym (h .number), y .1 ∙ sym (h .place));
       checking-same = λ n g d old new r′ c.
           let y = check-tells bs g d old new r′ c .refusing .file-refused (λ z. n (h .number ∙ z)) in

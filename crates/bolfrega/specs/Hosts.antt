@@ -5,12 +5,13 @@ use mathlib.Core.Logic.{_↔_, _⊎_}
 use mathlib.Core.List.{List, [], _∷_}
 use Prim.Native.Nat.{ℕ, suc, _+_, _*_, _≤_, _<_}
 use lib.ListN.{length, getD, take, drop}
+use Rattle.spec_basics.specs.Elements.{In}
 use Rattle.relation.specs.Relation.{states, pairs}
 use Rattle.spec_language.specs.Grammar.{initial}
 use Rattle.spec_language.specs.Spelling.{DerivesWithin}
 use Rattle.spec_language.specs.Automaton.{Accepts, TurnsAway}
 use Rattle.spec_language.specs.WordRelation.{wordRelation}
-use Rattle.spec_file.specs.Refusals.{fault}
+use Rattle.spec_file.specs.Refusals.{recordNumbers, fileNumbers, fault}
 use Rattle.spec_file.specs.Views.{rulesOf, productionsOf, automatonOf}
 use Rattle.spec_order.specs.Stopping.{Stops}
 use Rattle.spec_order.specs.Journal.{absent, capped}
@@ -27,7 +28,7 @@ use Rattle.bolfrega.specs.Contracts.{Judges, ChecksZeros}
 
 -- ---- what is refused
 
--- nothing refuses the file; one of the numbers 1 to 7 does
+-- nothing refuses the file; one of the numbers 1 to 7 or 12 does
 abbrev pub FilePasses : List ℕ → Type 0
 FilePasses bs = fault bs .number ≡ 0
 
@@ -45,8 +46,8 @@ pub record JudgeTells (bs w : List ℕ) (r i : ℕ) : Type 0 where
   pub file-refused : FileRefused bs → (r ≡ fault bs .number) × (i ≡ fault bs .place)
   pub run-refused : FilePasses bs → (r < firstAnswerCode) ↔ (wordFault w ≡ 11)
   pub run-number : FilePasses bs → r < firstAnswerCode → r ≡ 11
-  -- a record is named for 3 to 7 only
-  pub no-record : (r < 3) ⊎ (7 < r) → i ≡ 0
+  -- a record is named for 3 to 7 and 12 only
+  pub no-record : (In r recordNumbers → ⊥) → i ≡ 0
   -- from 100 on it is 110 exactly when there is an accepting path, and 111 exactly when there is none
   pub accepted-exactly : firstAnswerCode ≤ r → (r ≡ acceptedCode) ↔ Accepts (automatonOf bs) w
   pub turned-away-exactly : firstAnswerCode ≤ r → (r ≡ turnedAwayCode) ↔ TurnsAway (automatonOf bs) w
@@ -90,11 +91,11 @@ module _ (bs : List ℕ) (g : Settings) (d old new : List ℕ) (r : ℕ) where
   pub record Refusing : Type 0 where
     pub refused-exactly : (r < firstAnswerCode) ↔ (FileRefused bs ⊎ RowsRefused (g .rows))
     pub file-refused : FileRefused bs → (r ≡ fault bs .number) × (toldRecord d ≡ fault bs .place)
-    pub file-numbers : FileRefused bs → (1 ≤ r) × (r ≤ 7)
+    pub file-numbers : FileRefused bs → In r fileNumbers
     -- else it is the rows
     pub rows-number : FilePasses bs → r < firstAnswerCode → r ≡ 8
-    -- a record is named for 3 to 7 only
-    pub no-record : (r < 3) ⊎ (7 < r) → toldRecord d ≡ 0
+    -- a record is named for 3 to 7 and 12 only
+    pub no-record : (In r recordNumbers → ⊥) → toldRecord d ≡ 0
     -- the other details are 0
     pub rest-zero : r < firstAnswerCode → d ≡ toldRecord d ∷ 0 ∷ 0 ∷ 0 ∷ 0 ∷ 0 ∷ 0 ∷ 0 ∷ []
 
@@ -186,9 +187,9 @@ module _ (bs : List ℕ) (g : Settings) (d old new : List ℕ) (r : ℕ) where
 -- ---- reading: the number r and the record i that bolfrega_refusal gave
 
 pub record FileTells (bs : List ℕ) (r i : ℕ) : Type 0 where
-  pub numbers : r ≤ 7
-  -- a record is named for 3 to 7 only
-  pub no-record : r < 3 → i ≡ 0
+  pub numbers : (r ≡ 0) ⊎ In r fileNumbers
+  -- a record is named for 3 to 7 and 12 only
+  pub no-record : (In r recordNumbers → ⊥) → i ≡ 0
   -- where it is not 0, every judging and every check of the file is refused with the same number and the same record
   pub judging-same : (r ≡ 0 → ⊥) → (w : List ℕ) (r′ i′ : ℕ) → Judges bs w r′ i′ → (r′ ≡ r) × (i′ ≡ i)
   pub checking-same : (r ≡ 0 → ⊥) → (g : Settings) (d old new : List ℕ) (r′ : ℕ) → ChecksZeros bs g d old new r′

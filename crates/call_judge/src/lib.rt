@@ -21,7 +21,7 @@ use spec_file::TERMINALS;
 // The most letters of a word that is judged.
 const WORD_LIMIT: usize = LONG_WORD as usize - 1;
 
-// A refusal has a number from 1 to 7 or 11.
+// A refusal has one of a file's numbers, or 11.
 pub enum Judged {
     Accepted,
     TurnedAway,

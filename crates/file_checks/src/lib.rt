@@ -1,10 +1,11 @@
-// Checks 3 to 7 of one record's bytes (document 01, "Numbers a call may refuse with"), each a test of its own.
+// Checks 3 to 7 and 12 of one record's bytes (document 01, "Numbers a call may refuse with"; C-11), each a test of its own.
 ghost use mathlib.Core.Path.{_≡_};
 ghost use mathlib.Core.Bool.{cond};
 ghost use Rattle.spec_file.specs.Refusals as refusals;
 ghost use Rattle.file_checks.specs.BigEndian.{bigEndian};
 use relation::STATES;
 use spec_file::FINAL_KIND;
+use spec_file::FIRST_REMARK;
 use spec_file::NONTERMINALS;
 use spec_file::RULE_KIND;
 use spec_file::RULE_LIMIT;
@@ -47,6 +48,13 @@ pub fn stray_byte(r: [u8; 8]) -> bool
     ((kind == RULE_KIND) & ((((b2 < 1) & (0 < b3)) | ((b2 < 2) & (0 < b4))) | last))
         | (((kind == TRANSITION_KIND) & ((0 < b4) | last))
             | ((kind == FINAL_KIND) & ((0 < b2) | ((0 < b3) | ((0 < b4) | last)))))
+}
+
+// Check 12: returns whether the record `r` is a transition on a remark. Above the remarks are no terminals, and check 4 has refused these.
+pub fn on_remark(r: [u8; 8]) -> bool
+    ensures { λ x. ⌜ x ≡ refusals.onRemark r ⌝ }
+{
+    (r[0] == TRANSITION_KIND) & (FIRST_REMARK <= r[2])
 }
 
 // A record's bytes as one number, the first byte the highest.

@@ -50,6 +50,7 @@ fn fault_by(file: &[u8], i: usize, rules: usize, transitions: usize) -> u64
     let r = file_bytes::whole_record(file, i);
     let f = file_checks::number_or(7, file_checks::over_limit(r, rules, transitions), 0);
     let f = file_checks::number_or(6, !exceeds(file, i), f);
+    let f = file_checks::number_or(12, file_checks::on_remark(r), f);
     let f = file_checks::number_or(5, file_checks::stray_byte(r), f);
     let f = file_checks::number_or(4, file_checks::above_range(r), f);
     file_checks::number_or(3, !file_checks::kind_known(r), f)

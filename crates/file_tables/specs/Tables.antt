@@ -1,15 +1,16 @@
 -- The tables that are read from a file: the relations of the terminals, the mask of final states, the rows of the rules.
 -- Definitions only. Assumes nothing.
 use mathlib.Core.Path.{_≡_}
-use mathlib.Core.Bool.{_||_, cond}
+use mathlib.Core.Bool.{_&&_, _||_, cond}
 use mathlib.Core.List.{List, [], _∷_, _++_, map}
 use Prim.Native.Nat.{ℕ, _+_}
-use lib.Dec.{eqb, ltb}
+use lib.Dec.{eqb, leb, ltb}
 use lib.ListN.{length, take, drop, set}
 use Rattle.relation.specs.Digits.{bit, number}
-use Rattle.relation.specs.Relation.{insert}
+use Rattle.relation.specs.Relation.{identity, insert}
 use Rattle.relation.specs.Representation.{value}
 use Rattle.relation.specs.Stored.{relationIn, withRelation, relationsOf}
+use Rattle.spec_language.specs.Remarks.{firstRemark, isRemark}
 use Rattle.spec_language.specs.Automaton.{Transition}
 use Rattle.spec_language.specs.WordRelation.{letterRelation}
 use Rattle.spec_file.specs.Limits.{terminals, ruleLimit}
@@ -23,9 +24,14 @@ use Rattle.spec_file.specs.Entries.{entryOf}
 unfoldable pub letterTable : ℕ → List Transition → List ℕ
 letterTable n ts = relationsOf (letterRelation n ts) terminals
 
--- with one transition more; the same table where its letter is no terminal
+-- the first relations of the table without transitions: the remarks below `c` have every (a, a), and nothing else has a pair
+abbrev pub remarksBelow : ℕ → ℕ → ℕ → ℕ
+remarksBelow n c j = cond (isRemark j && ltb j c) (identity n) 0
+
+-- with one transition more; the same table where its letter is a remark, or no terminal
 abbrev pub withTransition : ℕ → List ℕ → Transition → List ℕ
-withTransition n table t = withRelation table (t .letter) (insert n (value (relationIn table (t .letter))) (t .source) (t .target))
+withTransition n table t =
+    cond (leb firstRemark (t .letter)) table (withRelation table (t .letter) (insert n (value (relationIn table (t .letter))) (t .source) (t .target)))
 
 -- ---- the mask of final states (document 01: finishing stages)
 

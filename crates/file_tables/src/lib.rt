@@ -2,9 +2,10 @@
 // terminal, the mask of final states, and the rules as rows of numbers.
 ghost use mathlib.Core.Path.{_≡_};
 ghost use mathlib.Core.Bool.{cond};
+ghost use mathlib.Core.List.{[]};
 ghost use Prim.Native.Nat.{_≤_, _<_};
 ghost use lib.Dec.{eqb};
-ghost use lib.ListN.{length, replicate};
+ghost use lib.ListN.{length};
 ghost use Rattle.relation.specs.Relation.{states};
 ghost use Rattle.relation.specs.Digits.{number};
 ghost use Rattle.spec_language.specs.WordRelation.{isFinal};
@@ -16,6 +17,7 @@ use relation::Relation;
 use relation::STATES;
 use relation::StateSet;
 use spec_file::FINAL_KIND;
+use spec_file::FIRST_REMARK;
 use spec_file::LETTER_WORDS;
 use spec_file::Letters;
 use spec_file::RULE_KIND;
@@ -33,14 +35,22 @@ fn of_kind(file: &[u8], i: usize, kind: u8) -> bool
 
 // ---- the relations of the terminals
 
-// Makes every relation of `table` empty, as they are without a transition.
-fn clear(table: &mut Letters)
-    ensures { λ _. ⌜ now (table .exit) ≡ replicate letterWords 0 ⌝ }
+// Stores in `table` what the relations of the terminals are without a transition: that of the empty word for each remark, and no pair for
+// any other. So nothing but transitions is read from the file.
+fn without_transitions(table: &mut Letters)
+    ensures { λ _. ⌜ now (table .exit) ≡ letterTable states [] ⌝ }
 {
     *table = [0; LETTER_WORDS];
+    let stays = Relation::identity();
+    let mut c = FIRST_REMARK as usize;
+    while c < TERMINALS as usize {
+        stays.store(table, c);
+        c += 1;
+    }
 }
 
-// Stores the pair of record `i` in its letter's relation in `table`, where the record is a transition on a terminal; else stores nothing.
+// Stores the pair of record `i` in its letter's relation in `table`, where the record is a transition on a terminal that is no remark; else
+// stores nothing: on a remark no transition is taken, also in a file that is refused for it.
 fn read_transition(file: &[u8], i: usize, table: &mut Letters)
     requires { ⌜ (i < recordCount (now file)) × (length (now table) ≡ letterWords) ⌝ }
     ensures { λ _. ⌜ now (table .exit) ≡ cond (eqb (kindAt (now (file .entry)) i) transitionKind) (withTransition states (now (table .entry)) (transitionOf (recordAt (now (file .entry)) i))) (now (table .entry)) ⌝ }
@@ -50,7 +60,7 @@ fn read_transition(file: &[u8], i: usize, table: &mut Letters)
     }
     let t = file_views::transition_at(file, i);
     let letter = t.letter;
-    if TERMINALS <= letter {
+    if FIRST_REMARK <= letter {
         return;
     }
     let at = letter as usize;
@@ -59,11 +69,12 @@ fn read_transition(file: &[u8], i: usize, table: &mut Letters)
     new.store(table, at);
 }
 
-// Stores the relation of each terminal in `table`: relation `c` has the pairs of the transitions of `file` on terminal `c`.
+// Stores the relation of each terminal in `table`: relation `c` has the pairs of the transitions of `file` on terminal `c`, and that of a
+// remark every (a, a).
 pub fn letter_relations(file: &[u8], table: &mut Letters)
     ensures { λ _. ⌜ now (table .exit) ≡ letterTable states (transitionsOf (now (file .entry))) ⌝ }
 {
-    clear(table);
+    without_transitions(table);
     let n = file.len() / 8;
     let mut i: usize = 0;
     while i < n {

@@ -1,19 +1,20 @@
--- The numbers that refuse: a file is refused with 1 to 7, with a record for 3 to 7 only, and every refusal's number is below those of the answers.
--- Assumes nothing.
-use mathlib.Core.Path.{_≡_, refl, _∙_, subst}
+-- The numbers that refuse: a file is refused with one of `fileNumbers`, with a record for `recordNumbers` only, and every refusal's number is
+-- below those of the answers. Assumes nothing.
+use mathlib.Core.Path.{_≡_, refl, sym, _∙_, subst}
 use mathlib.Core.Logic.{_⊎_, inl, inr}
-use mathlib.Core.Bool.{Bool, true, false, not, _&&_, _||_, cond}
-use mathlib.Core.List.{List, [], _∷_}
-use Prim.Native.Nat.{ℕ, zero, suc, _≤_, _<_, _%_}
+use mathlib.Core.Bool.{Bool, true, false, _||_, cond, false≢true}
+use mathlib.Core.List.{List, [], _∷_, map}
+use Prim.Native.Nat.{ℕ, zero, suc, _≤_, _<_}
 use native.Mathlib.Omega.{arith}
 use lib.Dec.{eqb, leb, ltb}
 use lib.ListN.{length}
-use borrow.Author.Tests.{leb-true}
-use Rattle.spec_basics.specs.Tests.{and-fst, and-snd}
-use Rattle.spec_basics.specs.Elements.{any}
-use Rattle.spec_file.specs.Limits.{recordLimit, terminals}
+use borrow.Author.Tests.{leb-false}
+use Rattle.spec_basics.specs.Elements.{In, any}
+use Rattle.spec_basics.specs.Lists.{any-at}
+use Rattle.spec_file.specs.Limits.{terminals}
+use Rattle.spec_file.specs.Forms.{eight}
 use Rattle.spec_file.specs.Records.{recordCount, ruleKind, transitionKind, countOf}
-use Rattle.spec_file.specs.Refusals.{Refusal, refuse, orNext, firstHolding, recordTests, faultAt, faultFrom, fault, byNumber, faultAtIn, faultByIn, faultFromIn, faultIn, lengthFaultIn, lengthFault}
+use Rattle.spec_file.specs.Refusals.{Refusal, refuse, orNext, firstHolding, recordNumbers, fileNumbers, recordTests, lengthTestsIn, faultAt, faultFrom, fault, byNumber, faultAtIn, faultByIn, faultFromIn, faultIn, lengthFaultIn, lengthFault}
 use Rattle.spec_calls.specs.Checking.{Settings, journalLimit, journalFault, checkRefusals, checkOf}
 use Rattle.spec_calls.specs.Judging.{wordLimit, wordFault, judgeRefusals, judgeOf}
 use Rattle.spec_calls.specs.Replies.{Reply, refused, answered, unless, reply}
@@ -21,79 +22,77 @@ use Rattle.spec_calls.specs.Codes.{firstAnswerCode}
 
 -- ---- a file
 
--- the numbers of document 01 that name a record are those from here
-abbrev firstOfRecord : ℕ
-firstOfRecord = 3
-
--- to here, and a file is refused with no number above it
-abbrev lastOfFile : ℕ
-lastOfFile = 7
-
--- the refusals of a file
+-- the refusals of a file, by number and record
 pub record FileRefusal (x : Refusal) : Type 0 where
-  pub number : x .number ≤ lastOfFile
-  pub no-record : x .number < firstOfRecord → x .place ≡ 0
+  pub number : (x .number ≡ 0) ⊎ In (x .number) fileNumbers
+  pub no-record : (In (x .number) recordNumbers → ⊥) → x .place ≡ 0
 
--- the refusals of a record
-record RecordNumber (f : ℕ) : Type 0 where
-  low : f ≤ lastOfFile
-  high : 0 < f → firstOfRecord ≤ f
-
--- each number of a list of tests is one of these
-abbrev ofRecord : List (ℕ × Bool) → Bool
-ofRecord [] = true
-ofRecord (t ∷ ts) = (leb firstOfRecord (t .0) && leb (t .0) lastOfFile) && ofRecord ts
-
-first-number : (ts : List (ℕ × Bool)) → ofRecord ts ≡ true → RecordNumber (firstHolding ts)
-first-number [] p = record { low = omega arith; high = λ h. omega arith }
-first-number (t ∷ ts) p = by (t .1) (first-number ts (and-snd (leb firstOfRecord (t .0) && leb (t .0) lastOfFile) (ofRecord ts) p))
+-- the number of the first test that holds is one of the list's
+first-among : (ts : List (ℕ × Bool)) → (firstHolding ts ≡ 0) ⊎ In (firstHolding ts) (map (λ (t : ℕ × Bool). t .0) ts)
+first-among [] = inl refl
+first-among (t ∷ ts) = by (t .1) (first-among ts)
   where
-    one : (leb firstOfRecord (t .0) && leb (t .0) lastOfFile) ≡ true
-    one = and-fst (leb firstOfRecord (t .0) && leb (t .0) lastOfFile) (ofRecord ts) p
+    numbers : List ℕ
+    numbers = map (λ (t : ℕ × Bool). t .0) ts
 
-    by : (b : Bool) → RecordNumber (firstHolding ts) → RecordNumber (cond b (t .0) (firstHolding ts))
-    by true next = record {
-      low = leb-true (t .0) lastOfFile (and-snd (leb firstOfRecord (t .0)) (leb (t .0) lastOfFile) one);
-      high = λ h. leb-true firstOfRecord (t .0) (and-fst (leb firstOfRecord (t .0)) (leb (t .0) lastOfFile) one);
-    }
-    by false next = next
-
--- a number of the file's length names no record
-length-number : (bs : List ℕ) → lengthFault bs ≤ 2
-unfolding lengthFaultIn
-length-number bs = by (not (eqb (length bs % 8) 0)) (ltb recordLimit (recordCount bs))
-  where
-    by : (a b : Bool) → cond a 1 (cond b 2 0) ≤ 2
-    by true b = omega arith
-    by false true = omega arith
-    by false false = omega arith
+    by : (b : Bool) → (firstHolding ts ≡ 0) ⊎ In (firstHolding ts) numbers
+        → (cond b (t .0) (firstHolding ts) ≡ 0) ⊎ In (cond b (t .0) (firstHolding ts)) (t .0 ∷ numbers)
+    by true next = inr (inl refl)
+    by false (inl e) = inl e
+    by false (inr h) = inr (inr h)
 
 -- the first of two, by the number of the one
-next-refusal : (f i : ℕ) (next : Refusal) → f ≤ lastOfFile → (0 < f → (firstOfRecord ≤ f) ⊎ (i ≡ 0)) → FileRefusal next → FileRefusal (orNext (refuse f i) next)
-next-refusal zero i next low place l = l
-next-refusal (suc f) i next low place l = record { number = low; no-record = λ e. by e (place (omega arith)) }
+next-refusal : (f i : ℕ) (next : Refusal) → (f ≡ 0) ⊎ In f fileNumbers → ((f ≡ 0) ⊎ In f recordNumbers) ⊎ (i ≡ 0)
+    → FileRefusal next → FileRefusal (orNext (refuse f i) next)
+next-refusal zero i next n place l = l
+next-refusal (suc f) i next n place l = record { number = n; no-record = λ none. by none place }
   where
-    by : suc f < firstOfRecord → (firstOfRecord ≤ suc f) ⊎ (i ≡ 0) → i ≡ 0
-    by e (inl h) = absurd (let z : ⊥ = omega (arith, e, h) in z)
-    by e (inr h) = h
+    by : (In (suc f) recordNumbers → ⊥) → ((suc f ≡ 0) ⊎ In (suc f) recordNumbers) ⊎ (i ≡ 0) → i ≡ 0
+    by none (inl (inl e)) = absurd (let z : ⊥ = omega (arith, e) in z)
+    by none (inl (inr h)) = absurd (none h)
+    by none (inr e) = e
 
-at-number : (bs : List ℕ) (i : ℕ) → RecordNumber (faultAt bs i)
+of-file : {f : ℕ} → (f ≡ 0) ⊎ In f recordNumbers → (f ≡ 0) ⊎ In f fileNumbers
+of-file (inl e) = inl e
+of-file (inr h) = inr (inr (inr h))
+
+by-length : {f : ℕ} → (f ≡ 0) ⊎ In f (1 ∷ 2 ∷ []) → (f ≡ 0) ⊎ In f fileNumbers
+by-length (inl e) = inl e
+by-length (inr (inl e)) = inr (inl e)
+by-length (inr (inr (inl e))) = inr (inr (inl e))
+by-length (inr (inr (inr h))) = absurd h
+
+at-number : (bs : List ℕ) (i : ℕ) → (faultAt bs i ≡ 0) ⊎ In (faultAt bs i) recordNumbers
 unfolding faultAtIn faultByIn
-at-number bs i = first-number (recordTests bs i (countOf bs ruleKind i) (countOf bs transitionKind i)) refl
+at-number bs i = first-among (recordTests bs i (countOf bs ruleKind i) (countOf bs transitionKind i))
+
+length-number : (bs : List ℕ) → (lengthFault bs ≡ 0) ⊎ In (lengthFault bs) (1 ∷ 2 ∷ [])
+unfolding lengthFaultIn
+length-number bs = first-among (lengthTestsIn eight bs)
 
 from-refusal : (bs : List ℕ) (m i : ℕ) → FileRefusal (faultFrom bs m i)
 unfolding faultFromIn
-from-refusal bs zero i = record { number = omega arith; no-record = λ e. refl }
-from-refusal bs (suc m) i = let n = at-number bs i in next-refusal (faultAt bs i) i (faultFrom bs m (suc i)) (n .low) (λ h. inl (n .high h)) (from-refusal bs m (suc i))
+from-refusal bs zero i = record { number = inl refl; no-record = λ none. refl }
+from-refusal bs (suc m) i =
+    let n = at-number bs i in
+    next-refusal (faultAt bs i) i (faultFrom bs m (suc i)) (of-file n) (inl n) (from-refusal bs m (suc i))
 
 pub file-refusal : (bs : List ℕ) → FileRefusal (fault bs)
 unfolding faultIn
-file-refusal bs = next-refusal (lengthFault bs) 0 (faultFrom bs (recordCount bs) 0) (omega (arith, length-number bs)) (λ h. inr refl) (from-refusal bs (recordCount bs) 0)
+file-refusal bs =
+    next-refusal (lengthFault bs) 0 (faultFrom bs (recordCount bs) 0) (by-length (length-number bs)) (inr refl) (from-refusal bs (recordCount bs) 0)
 
--- so a call that the file refuses names a record for 3 to 7 only
-pub record-none : (bs : List ℕ) (r i : ℕ) → r ≡ fault bs .number → i ≡ fault bs .place → (r < firstOfRecord) ⊎ (lastOfFile < r) → i ≡ 0
-record-none bs r i e q (inl l) = q ∙ file-refusal bs .no-record (subst (λ (n : ℕ). n < firstOfRecord) e l)
-record-none bs r i e q (inr l) = absurd (let z : ⊥ = omega (arith, e, l, file-refusal bs .number) in z)
+-- so a call that the file refuses names a record for 3 to 7 and 12 only
+pub record-none : (bs : List ℕ) (r i : ℕ) → r ≡ fault bs .number → i ≡ fault bs .place → (In r recordNumbers → ⊥) → i ≡ 0
+record-none bs r i e q none = q ∙ file-refusal bs .no-record (λ h. none (subst (λ (n : ℕ). In n recordNumbers) (sym e) h))
+
+-- and its number is one of a file's
+pub file-number : (bs : List ℕ) (r : ℕ) → r ≡ fault bs .number → (fault bs .number ≡ 0 → ⊥) → In r fileNumbers
+file-number bs r e refuses = by (file-refusal bs .number)
+  where
+    by : (fault bs .number ≡ 0) ⊎ In (fault bs .number) fileNumbers → In r fileNumbers
+    by (inl z) = absurd (refuses z)
+    by (inr h) = subst (λ (n : ℕ). In n fileNumbers) (sym e) h
 
 -- ---- a reply
 
@@ -104,8 +103,19 @@ Low x = x .number < firstAnswerCode
 pub low-high : {n : ℕ} → n < firstAnswerCode → firstAnswerCode ≤ n → ⊥
 low-high l h = omega (arith, l, h)
 
+among-low : (ns : List ℕ) → any (λ n. leb firstAnswerCode n) ns ≡ false → (n : ℕ) → In n ns → n < firstAnswerCode
+among-low ns none n h = by (leb firstAnswerCode n) refl
+  where
+    by : (b : Bool) → leb firstAnswerCode n ≡ b → n < firstAnswerCode
+    by true e = absurd (false≢true (sym none ∙ any-at (λ (m : ℕ). leb firstAnswerCode m) n ns h e))
+    by false e = leb-false firstAnswerCode n e
+
 fault-low : (bs : List ℕ) → Low (fault bs)
-fault-low bs = omega (arith, file-refusal bs .number)
+fault-low bs = by (file-refusal bs .number)
+  where
+    by : (fault bs .number ≡ 0) ⊎ In (fault bs .number) fileNumbers → Low (fault bs)
+    by (inl e) = omega (arith, e)
+    by (inr h) = among-low fileNumbers refl (fault bs .number) h
 
 number-low : (b : Bool) (f : ℕ) → f < firstAnswerCode → cond b f 0 < firstAnswerCode
 number-low true f h = h

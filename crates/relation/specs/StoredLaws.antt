@@ -11,7 +11,7 @@ use lib.ListN.{length, getD, set, replicate, length-set, List·getD-eq-default}
 use lib.Seq.{ext-getD, getD-set-same, getD-set-other, set-out}
 use borrow.Author.Tests.{eqb-true, eqb-false}
 use Rattle.spec_basics.specs.Elements.{every}
-use Rattle.spec_basics.specs.Lists.{length-every, getD-every, every-one}
+use Rattle.spec_basics.specs.Lists.{length-every, getD-every, every-one, every-same}
 use Rattle.relation.specs.Relation.{states}
 use Rattle.relation.specs.Representation.{value}
 use Rattle.relation.specs.Stored.{relationWords, relationIn, withRelation, relationsOf}
@@ -40,6 +40,11 @@ module _ (f : ℕ → ℕ) (k : ℕ) where
   pub relations-none : ((c : ℕ) → f c ≡ 0) → replicate (k * relationWords) 0 ≡ relationsOf f k
   unfolding relationsOf
   relations-none h = ap (λ (m : ℕ). replicate m 0) (mul-one k) ∙ every-one f 0 h k 0
+
+  -- and a table of other relations that are equal up to the last
+  pub relations-same : (g : ℕ → ℕ) → ((c : ℕ) → c < k → f c ≡ g c) → relationsOf f k ≡ relationsOf g k
+  unfolding relationsOf
+  relations-same g h = every-same f g k 0 0 (λ c l. let z : 0 + c ≡ c = omega arith in ap f z ∙ h c l ∙ sym (ap g z))
 
   -- with x stored as relation i: the relations g, where g is x at i and f elsewhere
   pub relations-with : (g : ℕ → ℕ) (i x : ℕ) → (i < k → g i ≡ x) → ((c : ℕ) → (c ≡ i → ⊥) → g c ≡ f c) → withRelation (relationsOf f k) i x ≡ relationsOf g k

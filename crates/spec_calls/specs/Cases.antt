@@ -1,13 +1,14 @@
--- The cases that document 01 marks P, as one table about the definitions, from file bytes. Assumes nothing.
+-- The cases that document 01 marks P, as one table about the definitions, from file bytes; and one of remarks (C-11). Assumes nothing.
 use mathlib.Core.Path.{_≡_, refl}
 use mathlib.Core.List.{List, [], _∷_, map}
 use Prim.Native.Nat.{ℕ}
 use Prim.Native.String.{String}
 use Rattle.relation.specs.Digits.{bit, number, some, count, subset}
 use Rattle.relation.specs.Relation.{has, table, identity, compose, pairs, rejects}
+use Rattle.spec_language.specs.Remarks.{isRemark}
 use Rattle.spec_language.specs.WordRelation.{moves, letterRelation, wordRelation, isFinal, rejected}
 use Rattle.spec_file.specs.Records.{countIn}
-use Rattle.spec_file.specs.Refusals.{kindKnown, risesFrom, overLimit, aboveRangeIn, exceedsIn, faultAtIn, faultByIn, faultFromIn, faultIn, lengthFaultIn, strayByteIn}
+use Rattle.spec_file.specs.Refusals.{kindKnown, onRemark, risesFrom, overLimit, aboveRangeIn, exceedsIn, faultAtIn, faultByIn, faultFromIn, faultIn, lengthFaultIn, strayByteIn}
 use Rattle.spec_file.specs.Views.{collect, rulesOf, transitionsOf, finalsOf}
 use Rattle.spec_order.specs.Journal.{capped, live, liveOf}
 use Rattle.spec_order.specs.Candidates.{liveRows, sole, paired, bare, choices, bodyCandidates, passCandidates}
@@ -36,6 +37,10 @@ planA rest = entry 1 0 2 129 3 (entry 1 1 0 0 0 (entry 1 1 2 1 130 (entry 1 2 2 
 unfoldable pub planB : List ℕ → List ℕ
 planB rest = entry 1 0 2 129 3 (entry 1 1 0 0 0 (entry 1 1 2 1 130 (entry 1 2 1 129 0 (entry 1 2 2 2 129 rest))))
 
+-- plan A with a remark before each index row: 2 gives 120 (procedure 3), and 3 gives what 2 gave
+unfoldable pub planR : List ℕ → List ℕ
+planR rest = entry 1 0 2 129 3 (entry 1 1 0 0 0 (entry 1 1 2 1 130 (entry 1 2 2 120 131 (entry 1 3 2 2 129 rest))))
+
 -- only "0 gives nothing"
 unfoldable pub lone : List ℕ → List ℕ
 lone rest = entry 1 0 0 0 0 rest
@@ -51,7 +56,7 @@ says text = printed (bytes text)
 
 -- of a check with J rows and a budget of B joins, and a run buffer of `room` bytes
 checkedIn : ℕ → List ℕ → ℕ → ℕ → Output
-unfolding textOf brokenLines lineOne lineTwo lineThree refusedLine wordLine numbersLine separated blanked decimal writeOf bufferAfter wordOf rowFault roomFault rowsFit rowFits bodyFits pointerFits symbolLen wordBehind wordsOf wordsFrom rowWord bodyWord symbolWord pairs count checkOf orderOn journalFault faultIn lengthFaultIn faultFromIn faultAtIn faultByIn kindKnown aboveRangeIn strayByteIn risesFrom exceedsIn overLimit countIn rulesOf transitionsOf finalsOf collect check passes onePass walk consider decide added retire larger dropped answer born passCandidates bodyCandidates choices bare sole paired liveRows live liveOf capped letterRelation moves isFinal rejects compose identity table has some number subset bit
+unfolding textOf brokenLines lineOne lineTwo lineThree refusedLine wordLine numbersLine separated blanked decimal writeOf bufferAfter wordOf rowFault roomFault rowsFit rowFits bodyFits pointerFits symbolLen wordBehind wordsOf wordsFrom rowWord bodyWord symbolWord pairs count checkOf orderOn journalFault faultIn lengthFaultIn faultFromIn faultAtIn faultByIn kindKnown aboveRangeIn strayByteIn onRemark risesFrom exceedsIn overLimit countIn rulesOf transitionsOf finalsOf collect check passes onePass walk consider decide added retire larger dropped answer born passCandidates bodyCandidates choices bare sole paired liveRows live liveOf capped letterRelation isRemark moves isFinal rejects compose identity table has some number subset bit
 checkedIn room bs J B = printed (textOf bs (record { rows = J; budget = B }) room)
 
 -- with the check program's
@@ -81,7 +86,7 @@ judgedBy (refused r) = refusal (r .number) (r .place)
 judgedBy (answered j) = judged j
 
 judging : List ℕ → List ℕ → Output
-unfolding judgedBy judgeOf wordFault faultIn lengthFaultIn faultFromIn faultAtIn faultByIn kindKnown aboveRangeIn strayByteIn risesFrom exceedsIn overLimit countIn transitionsOf finalsOf collect rejected wordRelation letterRelation moves isFinal rejects compose identity table has some number bit
+unfolding judgedBy judgeOf wordFault faultIn lengthFaultIn faultFromIn faultAtIn faultByIn kindKnown aboveRangeIn strayByteIn onRemark risesFrom exceedsIn overLimit countIn transitionsOf finalsOf collect rejected wordRelation letterRelation isRemark moves isFinal rejects compose identity table has some number bit
 judging bs w = judgedBy (judgeOf bs w)
 
 pub record Case : Type 0 where
@@ -120,3 +125,34 @@ table-P =
 pub cases : map (λ (c : Case). c .got) table-P ≡ map (λ (c : Case). c .want) table-P
 unfolding table-P
 cases = refl
+
+-- ---- remarks
+
+-- a move on 119, and then one on 120
+unfoldable pub movesR : List ℕ
+movesR = entry 2 0 119 1 0 (entry 2 0 120 1 0 [])
+
+-- plan A with a remark between its steps holds. A remark alone has all eight pairs, counts in the length and is written out, and is accepted
+-- where stage 0 finishes; 119 is a step, and has none. A move on a remark is refused with its record, and 128 is no code
+pub table-remarks : List Case
+unfolding planR sheetS movesR checkedIn checked refusing judging
+table-remarks =
+    case (checked (planR sheetS) 1024 1000000) (says "holds 18 5 5\n")
+    ∷ case (checked (entry 1 0 1 120 0 []) 1024 1000000) (says "broken 1 1 1\n0 8 1\n120\n")
+    ∷ case (checked (entry 1 0 2 120 127 (entry 3 0 0 0 0 [])) 1024 1000000) (says "holds 2 1 2\n")
+    ∷ case (checked (entry 1 0 1 119 0 []) 1024 1000000) (says "broken 1 1 1\n0 0 1\n119\n")
+    ∷ case (judging sheetS (1 ∷ 120 ∷ 2 ∷ 127 ∷ 3 ∷ [])) (judged accepted)
+    ∷ case (judging sheetS (1 ∷ 119 ∷ 2 ∷ 3 ∷ [])) (judged turnedAway)
+    ∷ case (judging sheetS (1 ∷ 120 ∷ 3 ∷ [])) (judged turnedAway)
+    ∷ case (judging sheetS (120 ∷ 127 ∷ [])) (judged turnedAway)
+    ∷ case (judging (entry 3 0 0 0 0 []) (120 ∷ 127 ∷ [])) (judged accepted)
+    ∷ case (judging sheetS (128 ∷ [])) (refusal 11 0)
+    ∷ case (checked movesR 1024 1000000) (says "refused 12\n")
+    ∷ case (refusing movesR 1024 1000000) (refusal 12 1)
+    ∷ case (judging movesR (119 ∷ [])) (refusal 12 1)
+    ∷ case (refusing (entry 2 1 1 1 0 (entry 2 0 120 1 0 [])) 1024 1000000) (refusal 12 1)
+    ∷ []
+
+pub remark-cases : map (λ (c : Case). c .got) table-remarks ≡ map (λ (c : Case). c .want) table-remarks
+unfolding table-remarks
+remark-cases = refl

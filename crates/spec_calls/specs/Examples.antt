@@ -4,9 +4,10 @@ use mathlib.Core.List.{List, [], _∷_, map}
 use Prim.Native.Nat.{ℕ}
 use Rattle.relation.specs.Digits.{bit, number, some, subset}
 use Rattle.relation.specs.Relation.{has, table, identity, compose, rejects}
+use Rattle.spec_language.specs.Remarks.{isRemark}
 use Rattle.spec_language.specs.WordRelation.{moves, letterRelation, isFinal}
 use Rattle.spec_file.specs.Records.{ruleRecord, transitionRecord, finalRecord, countIn}
-use Rattle.spec_file.specs.Refusals.{refuse, kindKnown, risesFrom, overLimit, aboveRangeIn, exceedsIn, faultAtIn, faultByIn, faultFromIn, faultIn, lengthFaultIn, strayByteIn}
+use Rattle.spec_file.specs.Refusals.{refuse, kindKnown, onRemark, risesFrom, overLimit, aboveRangeIn, exceedsIn, faultAtIn, faultByIn, faultFromIn, faultIn, lengthFaultIn, strayByteIn}
 use Rattle.spec_file.specs.Reading.{ReaderStep, gives, refuses, ended, stepFrom, stepAt, stretch}
 use Rattle.spec_file.specs.Views.{collect, rulesOf, transitionsOf, finalsOf}
 use Rattle.spec_order.specs.Journal.{Row, capped, live, liveOf}
@@ -18,13 +19,14 @@ use Rattle.spec_calls.specs.Replies.{Reply, refused, answered}
 use Rattle.spec_calls.specs.Checking.{journalFault, orderOn}
 use Rattle.spec_calls.specs.Printing.{programSettings}
 use Rattle.spec_calls.specs.Writing.{rowFault, roomFault, wordOf, writeOf, bufferAfter}
-use Rattle.spec_calls.specs.Cases.{entry, sheetS, planA, planB, lone}
+use Rattle.spec_calls.specs.Cases.{entry, sheetS, planA, planB, lone, movesR}
 
 pub step : List ℕ → ℕ → ReaderStep
-unfolding stepAt stepFrom lengthFaultIn faultByIn kindKnown aboveRangeIn strayByteIn risesFrom exceedsIn overLimit countIn
+unfolding stepAt stepFrom lengthFaultIn faultByIn kindKnown aboveRangeIn strayByteIn onRemark risesFrom exceedsIn overLimit countIn
 step bs i = stepAt bs i
 
--- the first and the last record of plan A with sheet S, the place after it, a far place; a length that is no multiple of 8; two equal records
+-- the first and the last record of plan A with sheet S, the place after it, a far place; a length that is no multiple of 8; two equal
+-- records, and two equal moves on a remark: 12 before 6, which as a whole file is refused at the first of them
 pub steps : (step (planA sheetS) 0 ≡ gives (ruleRecord 0 2 129 3) 1)
     × (step (planA sheetS) 5 ≡ gives (transitionRecord 0 3 2) 6)
     × (step (planA sheetS) 7 ≡ gives (finalRecord 2) 8)
@@ -32,21 +34,22 @@ pub steps : (step (planA sheetS) 0 ≡ gives (ruleRecord 0 2 129 3) 1)
     × (step (planA sheetS) 18446744073709551615 ≡ ended)
     × (step (1 ∷ []) 3 ≡ refuses (refuse 1 0))
     × (step (lone (lone [])) 1 ≡ refuses (refuse 6 1))
+    × (step (entry 2 0 120 1 0 (entry 2 0 120 1 0 [])) 1 ≡ refuses (refuse 12 1))
 unfolding step planA sheetS lone
-steps = (refl, refl, refl, refl, refl, refl, refl)
+steps = (refl, refl, refl, refl, refl, refl, refl, refl)
 
 -- the moves of sheet S, and none of a refused file
-pub stretches : (stretch (planA sheetS) ≡ entry 2 0 1 1 0 (entry 2 0 3 2 0 (entry 2 1 2 0 0 []))) × (stretch (lone (lone [])) ≡ [])
-unfolding stretch faultIn lengthFaultIn faultFromIn faultAtIn faultByIn kindKnown aboveRangeIn strayByteIn risesFrom exceedsIn overLimit countIn planA sheetS lone
-stretches = (refl, refl)
+pub stretches : (stretch (planA sheetS) ≡ entry 2 0 1 1 0 (entry 2 0 3 2 0 (entry 2 1 2 0 0 []))) × (stretch (lone (lone [])) ≡ []) × (stretch movesR ≡ [])
+unfolding stretch faultIn lengthFaultIn faultFromIn faultAtIn faultByIn kindKnown aboveRangeIn strayByteIn onRemark risesFrom exceedsIn overLimit countIn planA sheetS lone movesR
+stretches = (refl, refl, refl)
 
 -- the journal of plan B's check
 pub journalB : List (Row ℕ)
-unfolding planB sheetS orderOn rulesOf transitionsOf finalsOf collect check passes onePass walk consider decide added retire larger dropped answer born passCandidates bodyCandidates choices bare sole paired liveRows live liveOf capped letterRelation moves isFinal rejects compose identity table has some number subset bit
+unfolding planB sheetS orderOn rulesOf transitionsOf finalsOf collect check passes onePass walk consider decide added retire larger dropped answer born passCandidates bodyCandidates choices bare sole paired liveRows live liveOf capped letterRelation isRemark moves isFinal rejects compose identity table has some number subset bit
 journalB = orderOn (planB sheetS) programSettings .journal
 
 pub writeOn : List ℕ → List (Row ℕ) → ℕ → ℕ → ℕ → Reply ℕ
-unfolding writeOf wordOf rowFault roomFault journalFault faultIn lengthFaultIn faultFromIn faultAtIn faultByIn kindKnown aboveRangeIn strayByteIn risesFrom exceedsIn overLimit countIn rulesOf transitionsOf collect rowsFit rowFits bodyFits pointerFits symbolLen capped wordBehind wordsOf wordsFrom rowWord bodyWord symbolWord
+unfolding writeOf wordOf rowFault roomFault journalFault faultIn lengthFaultIn faultFromIn faultAtIn faultByIn kindKnown aboveRangeIn strayByteIn onRemark risesFrom exceedsIn overLimit countIn rulesOf transitionsOf collect rowsFit rowFits bodyFits pointerFits symbolLen capped wordBehind wordsOf wordsFrom rowWord bodyWord symbolWord
 writeOn bs rows used i room = writeOf bs rows used i room
 
 pub write : List (Row ℕ) → ℕ → ℕ → ℕ → Reply ℕ

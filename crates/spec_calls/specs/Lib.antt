@@ -13,6 +13,7 @@ pub mod Truth
 pub mod Promising
 pub mod JournalTruth
 pub mod JudgingTruth
+pub mod StrikingTruth
 pub mod WritingTruth
 pub mod Cases
 pub mod Examples

@@ -1,4 +1,4 @@
--- Numbers 1 to 11 at their edges, computed or stated of every word: limits, the order of the tests, bytes that are used and bytes that are not.
+-- Numbers 1 to 12 at their edges, computed or stated of every word: limits, the order of the tests, bytes that are used and bytes that are not.
 -- They settle what neither a theorem nor a P case says. Assumes nothing.
 use mathlib.Core.Path.{_≡_, refl}
 use mathlib.Core.Bool.{true, false}
@@ -11,7 +11,7 @@ use borrow.Author.Tests.{eq-eqb, lt-ltb, le-ltb, le-leb, lt-leb}
 use Rattle.spec_basics.specs.Elements.{any}
 use Rattle.spec_basics.specs.Tests.{or-right}
 use Rattle.spec_file.specs.Records.{recordCount, recordAt, ruleRecord, recordOf, countIn}
-use Rattle.spec_file.specs.Refusals.{Refusal, refuse, kindKnown, risesFrom, rises, overLimit, faultAt, fault, aboveRangeIn, exceedsIn, faultAtIn, faultByIn, faultFromIn, faultIn, lengthFaultIn, strayByteIn}
+use Rattle.spec_file.specs.Refusals.{Refusal, refuse, kindKnown, onRemark, risesFrom, rises, overLimit, faultAt, fault, aboveRangeIn, exceedsIn, faultAtIn, faultByIn, faultFromIn, faultIn, lengthFaultIn, strayByteIn}
 use Rattle.spec_file.specs.Reading.{ReaderStep, gives, refuses, unlessRefused, stepFrom, stepAt}
 use Rattle.spec_calls.specs.Replies.{refused}
 use Rattle.spec_calls.specs.Checking.{journalFault, checkOf}
@@ -19,10 +19,10 @@ use Rattle.spec_calls.specs.Judging.{wordFault, judgeOf}
 use Rattle.spec_calls.specs.Writing.{roomFault}
 use Rattle.spec_calls.specs.Cases.{entry, lone}
 
--- ---- 1 to 7, of a file
+-- ---- 1 to 7 and 12, of a file
 
 pub refusalNow : List ℕ → Refusal
-unfolding faultIn lengthFaultIn faultFromIn faultAtIn faultByIn kindKnown aboveRangeIn strayByteIn risesFrom exceedsIn overLimit countIn
+unfolding faultIn lengthFaultIn faultFromIn faultAtIn faultByIn kindKnown aboveRangeIn strayByteIn onRemark risesFrom exceedsIn overLimit countIn
 refusalNow bs = fault bs
 
 -- the rule "0 gives nothing" with its byte 7 set
@@ -56,8 +56,8 @@ above = (refl, refl, refl, refl, refl, refl)
 
 -- 4, of the sheet
 pub above-sheet :
-    -- stages of a move are 0 to 7, step codes 0 to 127
-    (refusalNow (entry 2 7 127 7 0 []) ≡ refuse 0 0)
+    -- stages of a move are 0 to 7, step codes 0 to 127, of which the last are remarks
+    (refusalNow (entry 2 7 119 7 0 []) ≡ refuse 0 0)
     × (refusalNow (entry 2 8 0 0 0 []) ≡ refuse 4 0)
     × (refusalNow (entry 2 0 128 0 0 []) ≡ refuse 4 0)
     × (refusalNow (entry 2 0 0 8 0 []) ≡ refuse 4 0)
@@ -80,6 +80,17 @@ pub unused :
 unfolding refusalNow
 unused = (refl, refl, refl, refl, refl)
 
+-- 12: a move is on a code up to 119, and a rule uses any
+pub on-remarks :
+    (refusalNow (entry 2 0 120 0 0 []) ≡ refuse 12 0)
+    × (refusalNow (entry 2 0 127 0 0 []) ≡ refuse 12 0)
+    × (refusalNow (entry 1 0 2 120 127 []) ≡ refuse 0 0)
+    -- byte 2 of a rule or of a finishing stage is no code
+    × (refusalNow (entry 1 0 120 0 0 []) ≡ refuse 4 0)
+    × (refusalNow (entry 3 0 120 0 0 []) ≡ refuse 5 0)
+unfolding refusalNow
+on-remarks = (refl, refl, refl, refl, refl)
+
 -- 3: kinds are 1 to 3
 pub kinds :
     (refusalNow (entry 0 0 0 0 0 []) ≡ refuse 3 0)
@@ -99,8 +110,13 @@ pub tests-in-order :
     × (refusalNow (entry 1 5 0 0 0 (stray [])) ≡ refuse 5 1)
     -- 5 of record 1 before 3 of record 2
     × (refusalNow (lone (stray (entry 0 0 0 0 0 []))) ≡ refuse 5 1)
+    -- 12 after 4 and 5
+    × (refusalNow (entry 2 8 120 0 0 []) ≡ refuse 4 0)
+    × (refusalNow (entry 2 0 120 0 9 []) ≡ refuse 5 0)
+    -- and before 6
+    × (refusalNow (entry 2 1 1 1 0 (entry 2 0 120 1 0 [])) ≡ refuse 12 1)
 unfolding refusalNow lone
-tests-in-order = (refl, refl, refl, refl, refl)
+tests-in-order = (refl, refl, refl, refl, refl, refl, refl, refl)
 
 -- 6 compares all eight bytes: these differ in byte 7 only
 pub eight-bytes :
@@ -130,7 +146,7 @@ copies zero r rest = rest
 copies (suc n) r rest = r ++ copies n r rest
 
 pub stepIn : List ℕ → ℕ → ReaderStep
-unfolding stepAt stepFrom lengthFaultIn faultByIn kindKnown aboveRangeIn strayByteIn risesFrom exceedsIn overLimit countIn
+unfolding stepAt stepFrom lengthFaultIn faultByIn kindKnown aboveRangeIn strayByteIn onRemark risesFrom exceedsIn overLimit countIn
 stepIn bs i = stepAt bs i
 
 pub counted-rules :

@@ -1,5 +1,5 @@
--- The numbers 1 to 7 that a file is refused with (document 01, "Numbers a call may refuse with"). Checks 1 and 2 come first, then 3 to 7
--- record by record; the earliest record wins, and within it the first number in the order of `recordTestsIn`, which is the lowest.
+-- The numbers 1 to 7 and 12 that a file is refused with (document 01, "Numbers a call may refuse with"; C-11). Checks 1 and 2 come first, then
+-- the others record by record; the earliest record wins, and within it the first number in the order of `recordTestsIn`: 3, 4, 5, 12, 6, 7.
 -- Definitions only. Assumes nothing.
 use mathlib.Core.Bool.{Bool, not, _&&_, _||_, cond}
 use mathlib.Core.List.{List, [], _∷_}
@@ -7,11 +7,12 @@ use Prim.Native.Nat.{ℕ, zero, suc, _+_, _-_, _%_}
 use lib.Dec.{eqb, leb, ltb}
 use lib.ListN.{length}
 use Rattle.relation.specs.Relation.{states}
+use Rattle.spec_language.specs.Remarks.{firstRemark}
 use Rattle.spec_file.specs.Limits.{recordLimit, ruleLimit, transitionLimit, terminals, nonterminals, symbolBytes}
 use Rattle.spec_file.specs.Forms.{Form, eight}
 use Rattle.spec_file.specs.Records.{recordCountIn, recordIn, countIn, byte, ruleKind, transitionKind, finalKind}
 
--- a number, and for 3 to 7 the record's number from 0, else 0. Number 0: nothing is refused
+-- a number, and for 3 to 7 and 12 the record's number from 0, else 0. Number 0: nothing is refused
 pub record Refusal : Type 0 where
   pub number : ℕ
   pub place : ℕ
@@ -61,6 +62,10 @@ abbrev pub someByte : ℕ → ℕ → List ℕ → Bool
 someByte zero j r = ltb 0 (byte r j)
 someByte (suc m) j r = ltb 0 (byte r j) || someByte m (suc j) r
 
+-- 12 (C-11): "a move whose code is 120 or above", a transition on a remark. 4 has refused a letter above the remarks before
+unfoldable pub onRemark : List ℕ → Bool
+onRemark r = eqb (byte r 0) transitionKind && leb firstRemark (byte r 2)
+
 -- s exceeds r in the bytes from j on, of which m follow byte j; compared as unsigned bytes
 unfoldable pub risesFrom : ℕ → ℕ → List ℕ → List ℕ → Bool
 risesFrom zero j r s = ltb (byte r j) (byte s j)
@@ -69,6 +74,16 @@ risesFrom (suc m) j r s = ltb (byte r j) (byte s j) || (eqb (byte r j) (byte s j
 -- 7, of a record after `rules` rules and `transitions` transitions
 unfoldable pub overLimit : List ℕ → ℕ → ℕ → Bool
 overLimit r rules transitions = (eqb (byte r 0) ruleKind && eqb rules ruleLimit) || (eqb (byte r 0) transitionKind && eqb transitions transitionLimit)
+
+-- ---- the numbers
+
+-- those that name a record, in the order of their tests
+abbrev pub recordNumbers : List ℕ
+recordNumbers = 3 ∷ 4 ∷ 5 ∷ 12 ∷ 6 ∷ 7 ∷ []
+
+-- those that refuse a file of document 01
+abbrev pub fileNumbers : List ℕ
+fileNumbers = 1 ∷ 2 ∷ recordNumbers
 
 -- ---- of any form
 
@@ -99,6 +114,7 @@ module _ (F : Form) where
       (3, not (kindKnown (recordIn F bs i)))
       ∷ (4, aboveRangeIn (recordIn F bs i))
       ∷ (5, strayByteIn (recordIn F bs i))
+      ∷ (12, onRemark (recordIn F bs i))
       ∷ (6, not (exceedsIn bs i))
       ∷ (7, overLimit (recordIn F bs i) rules transitions)
       ∷ []

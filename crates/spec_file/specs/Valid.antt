@@ -1,4 +1,5 @@
--- What the records of a file that is not refused pass, and that the states of its automaton are states. Assumes nothing.
+-- What the records of a file that is not refused pass, that the states of its automaton are states, and that none of its transitions is on
+-- a remark. Assumes nothing.
 use mathlib.Core.Path.{_≡_, refl, sym, ap, _∙_, subst}
 use mathlib.Core.Logic.{inl, inr}
 use mathlib.Core.Bool.{Bool, true, false, not, _&&_, _||_, cond}
@@ -12,19 +13,22 @@ use borrow.Author.Tests.{eqb-true, eq-eqb, leb-false, ltb-false, not-false}
 use Rattle.spec_basics.specs.Tests.{or-neither}
 use Rattle.spec_basics.specs.Elements.{In}
 use Rattle.relation.specs.Relation.{states}
+use Rattle.spec_language.specs.Remarks.{firstRemark, isRemark}
+use Rattle.spec_language.specs.RemarkLaws.{below-remarks}
 use Rattle.spec_language.specs.Automaton.{Transition, Within}
 use Rattle.spec_file.specs.Limits.{recordLimit, terminals, nonterminals, symbolBytes}
 use Rattle.spec_file.specs.Records.{recordCount, recordAt, byte, kindAt, ruleKind, transitionKind, finalKind, countOf}
 use Rattle.spec_file.specs.Forms.{eight}
-use Rattle.spec_file.specs.Refusals.{refuse, kindKnown, aboveRange, aboveRangeIn, strayByte, exceeds, overLimit, recordTests, lengthTestsIn, lengthFault, lengthFaultIn, faultByIn, faultAt, faultAtIn, orNext, faultFrom, faultFromIn, fault, faultIn}
+use Rattle.spec_file.specs.Refusals.{refuse, kindKnown, aboveRange, aboveRangeIn, strayByte, exceeds, onRemark, overLimit, recordTests, lengthTestsIn, lengthFault, lengthFaultIn, faultByIn, faultAt, faultAtIn, orNext, faultFrom, faultFromIn, fault, faultIn}
 use Rattle.spec_file.specs.RefusalLaws.{neither-refuses, none-holds}
 use Rattle.spec_file.specs.Views.{transitionOf, finalOf, consIf, collect, transitionsOf, finalsOf, automatonOf}
 
--- none of the checks 3 to 7 refuses record i
+-- none of the checks 3, 4, 5, 12, 6, 7 refuses record i
 pub record Passes (bs : List ℕ) (i : ℕ) : Type 0 where
   pub kind : kindKnown (recordAt bs i) ≡ true
   pub range : aboveRange (recordAt bs i) ≡ false
   pub zeros : strayByte (recordAt bs i) ≡ false
+  pub step : onRemark (recordAt bs i) ≡ false
   pub order : exceeds bs i ≡ true
   pub few : overLimit (recordAt bs i) (countOf bs ruleKind i) (countOf bs transitionKind i) ≡ false
 
@@ -34,9 +38,17 @@ passes bs i h =
     let three = none-holds (recordTests bs i (countOf bs ruleKind i) (countOf bs transitionKind i)) refl h in
     let four = three .1 in
     let five = four .1 in
-    let six = five .1 in
+    let twelve = five .1 in
+    let six = twelve .1 in
     let seven = six .1 in
-    record { kind = not-false (kindKnown (recordAt bs i)) (three .0); range = four .0; zeros = five .0; order = not-false (exceeds bs i) (six .0); few = seven .0 }
+    record {
+      kind = not-false (kindKnown (recordAt bs i)) (three .0);
+      range = four .0;
+      zeros = five .0;
+      step = twelve .0;
+      order = not-false (exceeds bs i) (six .0);
+      few = seven .0;
+    }
 
 none-at : (bs : List ℕ) (m i : ℕ) → faultFrom bs m i .number ≡ 0 → (j : ℕ) → j < m → faultAt bs (i + j) ≡ 0
 unfolding faultFromIn
@@ -98,6 +110,13 @@ final-range r a k =
     let q = or-neither T F (or-neither P (T || F) a .1) .1 in
     leb-false states (byte r 1) (sym (ap (λ (b : Bool). b && leb states (byte r 1)) (eq-eqb (byte r 0) finalKind k)) ∙ q)
 
+-- check 12
+pub transition-step : (r : List ℕ) → onRemark r ≡ false → byte r 0 ≡ transitionKind → byte r 2 < firstRemark
+unfolding onRemark
+transition-step r a k =
+    let s : leb firstRemark (byte r 2) ≡ false = sym (ap (λ (b : Bool). b && leb firstRemark (byte r 2)) (eq-eqb (byte r 0) transitionKind k)) ∙ a in
+    leb-false firstRemark (byte r 2) s
+
 module _ (bs : List ℕ) (v : fault bs .number ≡ 0) where
   transition-low : (t : Transition) → In t (transitionsOf bs) → (t .source < states) × (t .target < states)
   unfolding transitionsOf
@@ -111,6 +130,17 @@ module _ (bs : List ℕ) (v : fault bs .number ≡ 0) where
   final-low f h =
       let r = collect-at finalKind finalOf bs f (recordCount bs) 0 h in
       subst (λ (x : ℕ). x < states) (sym (r .4)) (final-range (recordAt bs (r .0)) (valid-passes bs v (r .0) (omega (arith, r .2)) .range) (r .3))
+
+  -- no transition is on a remark
+  pub letter-low : (t : Transition) → In t (transitionsOf bs) → t .letter < firstRemark
+  unfolding transitionsOf
+  letter-low t h =
+      let r = collect-at transitionKind transitionOf bs t (recordCount bs) 0 h in
+      let low = transition-step (recordAt bs (r .0)) (valid-passes bs v (r .0) (omega (arith, r .2)) .step) (r .3) in
+      subst (λ (x : Transition). x .letter < firstRemark) (sym (r .4)) low
+
+  pub no-remark-moves : (t : Transition) → In t (transitionsOf bs) → isRemark (t .letter) ≡ false
+  no-remark-moves t h = below-remarks (t .letter) (letter-low t h)
 
   -- the states of the automaton are states
   pub automaton-within : Within states (automatonOf bs)

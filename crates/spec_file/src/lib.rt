@@ -1,5 +1,5 @@
 // What a plan file of 8-byte records says, and the types in which the code says it. Definitions in specs/: Limits (document 01's numbers),
-// Forms (the form of records), Records (records and their bytes), Refusals (numbers 1 to 7), Reading and Walk (steps of a reader, the stretch),
+// Forms (the form of records), Records (records and their bytes), Refusals (numbers 1 to 7 and 12), Reading and Walk (steps of a reader, the stretch),
 // Views (the grammar and the automaton), Entries (counts, readings by number), Answers (the code's types as the definitions have them). Laws of
 // a file that is not refused: Valid, Ranges, Sorted and Rising (rules first, then transitions, then finals), EntryLaws, StretchLaws; of reading
 // by steps WalkLaws; of the order of refusals RefusalLaws.
@@ -30,12 +30,15 @@ pub const NONTERMINALS: u8 = 64;
 
 pub const SYMBOL_BYTES: u8 = TERMINALS + NONTERMINALS;
 
+// The terminals from this one on are remarks (C-11), on which no transition may be.
+pub const FIRST_REMARK: u8 = 120;
+
 // The table of the terminals' relations, in their order: how many words it has, and its type.
 pub const LETTER_WORDS: usize = TERMINALS as usize * relation::WORDS;
 
 pub type Letters = [relation::Letter; LETTER_WORDS];
 
-// A number that document 01 lists, and for 3 to 7 the record's number, else 0. Number 0: nothing is refused.
+// A number that document 01 or C-11 lists, and for 3 to 7 and 12 the record's number, else 0. Number 0: nothing is refused.
 pub struct Refusal {
     pub number: u64,
     pub place: usize,

@@ -3,6 +3,9 @@ pub mod Rewriting
 pub mod Spelling
 pub mod Agreement
 pub mod RuleLaws
+pub mod Remarks
+pub mod RemarkLaws
 pub mod Automaton
 pub mod WordRelation
 pub mod Paths
+pub mod Striking

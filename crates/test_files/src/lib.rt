@@ -1,6 +1,7 @@
 // For tests only: what the programs of cases share. Files that are made record by record, in an array of `HELD` bytes, and lines that are
 // printed.
 use libc::STDOUT_FILENO;
+use spec_file::FIRST_REMARK;
 use spec_file::Refusal;
 use spec_file::Rule;
 use spec_file::Transition;
@@ -120,6 +121,9 @@ pub fn sheet(file: &mut [u8; HELD]) {
     put(file, 3, [3, 2, 0, 0, 0, 0, 0, 0]);
 }
 
+// How many codes a move may be on: those from here on are remarks.
+const CODES: usize = FIRST_REMARK as usize;
+
 // Returns record `i` of a file that has `rules` rules, then `moves` moves, and then finishing stages; the records of each kind rise strictly.
 fn entry(i: usize, rules: usize, moves: usize) -> [u8; 8] {
     if i < rules {
@@ -129,8 +133,8 @@ fn entry(i: usize, rules: usize, moves: usize) -> [u8; 8] {
     if m < moves {
         return [
             2,
-            (m / 256 % 8) as u8,
-            (m / 2 % 128) as u8,
+            (m / (2 * CODES) % 8) as u8,
+            (m / 2 % CODES) as u8,
             (m % 2) as u8,
             0,
             0,

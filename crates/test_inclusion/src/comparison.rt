@@ -17,6 +17,9 @@ const BUDGET: u64 = 1000000;
 
 const LARGER_BUDGET: u64 = 4000000;
 
+// The number that refuses a move on a remark.
+const ON_REMARK: u64 = 12;
+
 // How many rows of a journal are compared: no file uses as many.
 const KEPT: usize = 64;
 
@@ -176,6 +179,15 @@ fn fair(told: CheckResult, small: CheckResult, few: usize, budget: u64) -> bool 
         return (small.used == few as u64) & ((few as u64) < told.used);
     }
     same(told, small)
+}
+
+// Returns 6 unless the check of `file` is refused with 12 at record `record`, its first move on a remark; 0 if it is.
+pub fn refusal(file: &[u8], record: usize) -> u64 {
+    let told = ask(file, ROWS, Row::blank(), BUDGET, 0);
+    if (told.code == ON_REMARK) & (told.place == record as u64) {
+        return 0;
+    }
+    6
 }
 
 // Returns the number of the first comparison that fails; 0 if none does.

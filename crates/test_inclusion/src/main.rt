@@ -10,10 +10,11 @@
 // 4. So does a journal with old contents that look like rows; past the used rows it keeps them.
 // 5. With 1 to 6 rows and a budget of 0 to 40 the answer is spent with as many joins as the budget has and fewer than the check makes,
 //    or full with all rows used and fewer than the check uses, or the same whole answer.
+// 6. A file with a move on a remark is refused with 12, at the first such record, and nothing else is tried on it.
 //
 // Written are the counts of files, of those that hold, of these those without a word and those in which the check keeps fewer rows than
-// there are relations, of broken ones; of full, spent and other answers under 5; of files with more relations than the search has room
-// for, which are skipped; and of mismatches, each of which is also written with the file's number and the comparison that fails.
+// there are relations, of broken ones; of full, spent and other answers under 5; of refused files; of files with more relations than the
+// search has room for, which are skipped; and of mismatches, each of which is also written with the file's number and the comparison that fails.
 mod comparison;
 
 use comparison::Outcome;
@@ -37,12 +38,18 @@ const SPENT: usize = 5;
 
 const NEITHER: usize = 6;
 
-const SKIPPED: usize = 7;
+const REFUSED: usize = 7;
 
-const MISMATCHES: usize = 8;
+const SKIPPED: usize = 8;
 
-fn count_one(tally: &mut [u64; 9], i: usize) {
-    if i < 9 {
+const MISMATCHES: usize = 9;
+
+const COUNTS: usize = 10;
+
+type Tally = [u64; COUNTS];
+
+fn count_one(tally: &mut Tally, i: usize) {
+    if i < COUNTS {
         let n = tally[i];
         tally[i] = std::num::wrapping_add_u64(n, 1);
     }
@@ -55,7 +62,7 @@ fn line(name: &[u8], n: u64) {
 }
 
 // Counts the verdict with ample rows and joins.
-fn count_verdict(tally: &mut [u64; 9], outcome: Outcome, verdict: Verdict) {
+fn count_verdict(tally: &mut Tally, outcome: Outcome, verdict: Verdict) {
     if outcome.verdict == host_result::BROKEN {
         count_one(tally, BROKEN);
         return;
@@ -70,7 +77,7 @@ fn count_verdict(tally: &mut [u64; 9], outcome: Outcome, verdict: Verdict) {
 }
 
 // Counts the verdict with few rows and a small budget.
-fn count_small(tally: &mut [u64; 9], verdict: u64) {
+fn count_small(tally: &mut Tally, verdict: u64) {
     if verdict == host_result::FULL {
         count_one(tally, FULL);
     } else if verdict == host_result::SPENT {
@@ -80,7 +87,7 @@ fn count_small(tally: &mut [u64; 9], verdict: u64) {
     }
 }
 
-fn count_mismatch(tally: &mut [u64; 9], number: u64, failing: u64) {
+fn count_mismatch(tally: &mut Tally, number: u64, failing: u64) {
     if failing != 0 {
         count_one(tally, MISMATCHES);
         line(b"file ", number);
@@ -89,12 +96,18 @@ fn count_mismatch(tally: &mut [u64; 9], number: u64, failing: u64) {
 }
 
 // Searches the file that is the first `size` bytes of `buffer`, and compares.
-fn try_file(number: u64, buffer: &[u8; 192], size: usize, trial: Trial, tally: &mut [u64; 9]) {
+fn try_file(number: u64, buffer: &[u8; 192], size: usize, trial: Trial, tally: &mut Tally) {
     let whole: &[u8] = buffer;
     if whole.len() < size {
         return;
     }
     let file = &whole[0..size];
+    let remark = test_unpruned::remark_transition(file);
+    if remark < test_unpruned::RECORDS {
+        count_one(tally, REFUSED);
+        count_mismatch(tally, number, comparison::refusal(file, remark));
+        return;
+    }
     let mut found = [[0u64; 2]; test_unpruned::LIMIT];
     let count = test_unpruned::search(file, &mut found);
     if count == test_unpruned::LIMIT {
@@ -109,21 +122,21 @@ fn try_file(number: u64, buffer: &[u8; 192], size: usize, trial: Trial, tally: &
 }
 
 // Draws the next file and what is tried on it, and tries it.
-fn try_next(number: u64, seed: &mut u64, tally: &mut [u64; 9]) {
+fn try_next(number: u64, seed: &mut u64, tally: &mut Tally) {
     let mut buffer = [0u8; 192];
     let size = test_random::next(seed, &mut buffer);
     let trial = test_random::draw_trial(seed);
     try_file(number, &buffer, size, trial, tally);
 }
 
-fn try_all(tally: &mut [u64; 9]) {
+fn try_all(tally: &mut Tally) {
     let mut seed: u64 = 1;
     for number in 0..FILES {
         try_next(number, &mut seed, tally);
     }
 }
 
-fn report_checks(tally: [u64; 9]) {
+fn report_checks(tally: Tally) {
     line(b"files ", FILES);
     line(b"holds ", tally[HOLDS]);
     line(b"without a word ", tally[WORDLESS]);
@@ -131,16 +144,17 @@ fn report_checks(tally: [u64; 9]) {
     line(b"broken ", tally[BROKEN]);
 }
 
-fn report_trials(tally: [u64; 9]) {
+fn report_trials(tally: Tally) {
     line(b"full ", tally[FULL]);
     line(b"spent ", tally[SPENT]);
     line(b"neither ", tally[NEITHER]);
+    line(b"refused ", tally[REFUSED]);
     line(b"skipped ", tally[SKIPPED]);
     line(b"mismatches ", tally[MISMATCHES]);
 }
 
 fn main() {
-    let mut tally = [0u64; 9];
+    let mut tally = [0u64; COUNTS];
     try_all(&mut tally);
     report_checks(tally);
     report_trials(tally);

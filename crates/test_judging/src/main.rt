@@ -55,6 +55,8 @@ fn runs_on_sheet() {
     judge(b"run 2 3", &file, SHEET, &[2, 3]);
     judge(b"run 1 2 3 3", &file, SHEET, &[1, 2, 3, 3]);
     judge(b"the empty run", &file, SHEET, b"");
+    judge(b"run 1 120 2 127 3", &file, SHEET, &[1, 120, 2, 127, 3]);
+    judge(b"run 1 119 2 3", &file, SHEET, &[1, 119, 2, 3]);
     judge(b"run 127", &file, SHEET, &[127]);
     judge(b"run 128", &file, SHEET, &[128]);
     judge(b"run 1 2 3 255", &file, SHEET, &[1, 2, 3, 255]);

@@ -1,5 +1,5 @@
 // What a plan file is refused with, case by case: one line for each, a label and the result. The stored output is what document 01
-// asks for ("Records", "Numbers a call may refuse with").
+// asks for ("Records", "Numbers a call may refuse with"), and document 02's C-11.
 use spec_file::Refusal;
 use test_files::HELD;
 use test_files::LARGEST;
@@ -144,7 +144,8 @@ fn ranges() {
     range(b"first symbol", 2, 3, 191);
     range(b"second symbol", 2, 4, 191);
     range(b"from stage", 7, 1, 7);
-    range(b"step code", 7, 2, 127);
+    range(b"step code", 7, 2, 119);
+    range(b"remark", 7, 2, 127);
     range(b"to stage", 7, 3, 7);
     range(b"finishing stage", 8, 1, 7);
 }
@@ -180,6 +181,7 @@ fn each_number() {
     number_at(4, 5, 3, 255);
     number_at(5, 5, 5, 255);
     number_at(6, 5, 0, 1);
+    number_at(12, 5, 2, 120);
     number_at(3, 8, 0, 4);
     number_at(4, 8, 1, 255);
     number_at(5, 8, 6, 1);
@@ -229,7 +231,7 @@ fn two_records() {
     changed_twice(b"3 at 0, 6 at 1 and 4 at 8", 0, 0, 4, 8, 1);
 }
 
-// Within a record the first test that holds wins, in the order of document 01: 3 to 7.
+// Within a record the first test that holds wins, in the order of document 01 and C-11: 3, 4, 5, 12, 6, 7.
 fn two_numbers() {
     replaced(b"3 and 6", 5, [0, 0, 0, 0, 0, 0, 0, 0]);
     replaced(
@@ -241,6 +243,9 @@ fn two_numbers() {
     replaced(b"4 and 6", 5, [1, 0, 1, 192, 0, 0, 0, 0]);
     replaced(b"5 and 6", 5, [1, 0, 1, 1, 1, 0, 0, 0]);
     replaced(b"4, 5 and 6", 5, [1, 0, 3, 0, 0, 0, 0, 1]);
+    replaced(b"4 and 12", 7, [2, 8, 120, 0, 0, 0, 0, 0]);
+    replaced(b"5 and 12", 7, [2, 1, 120, 0, 1, 0, 0, 0]);
+    replaced(b"12 and 6", 8, [2, 0, 120, 0, 0, 0, 0, 0]);
 }
 
 // 256 rules and a record after them.
@@ -266,7 +271,8 @@ fn with_seven() {
     after_rules(b"3 after 256 rules", [4, 0, 0, 0, 0, 0, 0, 0]);
     after_moves(b"1,025th move, 4 and 7", [2, 4, 128, 0, 0, 0, 0, 0]);
     after_moves(b"1,025th move, 5 and 7", [2, 4, 0, 0, 1, 0, 0, 0]);
-    after_moves(b"1,025th move, 6 and 7", [2, 3, 127, 1, 0, 0, 0, 0]);
+    after_moves(b"1,025th move, 12 and 7", [2, 4, 127, 0, 0, 0, 0, 0]);
+    after_moves(b"1,025th move, 6 and 7", [2, 4, 31, 1, 0, 0, 0, 0]);
     after_moves(b"a rule after 1,024 moves", [1, 0, 0, 0, 0, 0, 0, 0]);
 }
 

@@ -99,9 +99,18 @@ fn steps_over_faults() {
     step_over(b"kind 0", [0, 0, 0, 0, 0, 0, 0, 0]);
     step_over(b"kind 255", [255, 0, 0, 0, 0, 0, 0, 0]);
     step_over(b"step code 128", [2, 0, 128, 1, 0, 0, 0, 0]);
+    step_over(b"remark 127", [2, 0, 127, 1, 0, 0, 0, 0]);
     step_over(b"an unused byte, then more", [2, 0, 1, 1, 0, 0, 0, 9]);
     step_over(b"an unused byte, then the same", [2, 0, 3, 2, 0, 0, 0, 1]);
     step_over(b"a fall", [1, 0, 1, 1, 0, 0, 0, 0]);
+}
+
+// 12 comes before 6.
+fn steps_on_remarks() {
+    let mut file = [0u8; HELD];
+    put(&mut file, 0, [2, 0, 120, 1, 0, 0, 0, 0]);
+    put(&mut file, 1, [2, 0, 120, 1, 0, 0, 0, 0]);
+    steps(b"two equal moves on a remark", &file, 16, 0, 2);
 }
 
 fn steps_around_fault() {
@@ -223,6 +232,7 @@ fn main() {
     steps_on_valid();
     steps_on_refused();
     steps_over_faults();
+    steps_on_remarks();
     steps_around_fault();
     steps_over_limits();
     walks();

@@ -10,6 +10,9 @@ pub const TERMINALS: u64 = 128;
 
 pub const NONTERMINALS: u64 = 64;
 
+// The terminals from here on are remarks (document 02, C-11).
+const FIRST_REMARK: u64 = 120;
+
 const RECORD_BYTES: usize = 8;
 
 // Pairs of states, and triples.
@@ -18,7 +21,7 @@ const PAIRS: u64 = STATES * STATES;
 const TRIPLES: u64 = PAIRS * STATES;
 
 // Records that are read of a file, and records that a file has room for.
-const RECORDS: usize = 24;
+pub const RECORDS: usize = 24;
 
 const ROOM: usize = 32;
 
@@ -47,6 +50,21 @@ fn wide(x: u8) -> u64 {
     x as u64
 }
 
+// Returns whether the letter `code` is a remark.
+fn is_remark(code: u64) -> bool {
+    (FIRST_REMARK <= code) & (code < TERMINALS)
+}
+
+// Returns the number of the first record of `file` that is a transition on a remark, or how many records are read where none is.
+pub fn remark_transition(file: &[u8]) -> usize {
+    for r in 0..RECORDS {
+        if (byte(file, r, 0) == 2) & is_remark(byte(file, r, 2)) {
+            return r;
+        }
+    }
+    RECORDS
+}
+
 // ---- relations
 
 fn has(relation: u64, a: u64, b: u64) -> bool {
@@ -65,8 +83,11 @@ fn with_transition(relation: u64, file: &[u8], code: u64, r: usize) -> u64 {
     relation
 }
 
-// Returns the relation of the letter `code`: the pairs (a, b) with a transition from a to b on it.
+// Returns the relation of the letter `code`: the pairs (a, b) with a transition from a to b on it; of a remark that of the empty word.
 fn letter(file: &[u8], code: u64) -> u64 {
+    if is_remark(code) {
+        return identity();
+    }
     let mut relation: u64 = 0;
     for r in 0..RECORDS {
         relation = with_transition(relation, file, code, r);

@@ -16,7 +16,10 @@ const LAST_CODE: u8 = 127;
 const LAST_SYMBOL: u8 = 191;
 const LAST_STAGE: u8 = 7;
 
-/// Why a call refuses: the paper's number, and for 3 to 7 the record's number, else 0.
+/// The codes from this one on are remarks (C-11): the effect of each is that of the empty run, and no move may be on one.
+pub const FIRST_REMARK: u8 = 120;
+
+/// Why a call refuses: the paper's number, and for 3 to 7 and 12 the record's number, else 0.
 #[derive(Clone, Copy, Debug, PartialEq, Eq)]
 pub struct Refusal {
     pub number: u8,
@@ -94,9 +97,11 @@ struct Reading {
 
 impl Reading {
     fn new() -> Reading {
+        let mut codes = [Effect::EMPTY; 128];
+        codes[usize::from(FIRST_REMARK)..].fill(Effect::IDENTITY);
         let plan = Plan {
             rules: Vec::new(),
-            codes: [Effect::EMPTY; 128],
+            codes,
             finishing: 0,
         };
         Reading {
@@ -106,7 +111,7 @@ impl Reading {
         }
     }
 
-    /// The lowest number that refuses the next record.
+    /// The number of the earliest check that refuses the next record.
     fn fault(&self, record: &[u8; RECORD]) -> Option<u8> {
         let Some(tops) = tops(record) else {
             return Some(3);
@@ -117,6 +122,9 @@ impl Reading {
         }
         if record[used..].iter().any(|&byte| byte != 0) {
             return Some(5);
+        }
+        if record[0] == MOVE && record[2] >= FIRST_REMARK {
+            return Some(12);
         }
         if self.last.is_some_and(|last| *record <= last) {
             return Some(6);

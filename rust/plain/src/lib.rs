@@ -1,6 +1,6 @@
-//! Document 01 in plain Rust: reading, judging, the check in its working order, run writing.
+//! Document 01, with C-11 of document 02, in plain Rust: reading, judging, the check in its working order, run writing.
 //!
-//! It is written from the paper alone and shares nothing with the proved library. The tests of the crate `bolfrega` compare
+//! It is written from the papers alone and shares nothing with the proved library. The tests of the crate `bolfrega` compare
 //! the two, answer for answer, and the benchmark measures them side by side. Nothing else uses it.
 //!
 //! ```
@@ -22,7 +22,7 @@ mod order;
 mod writing;
 
 pub use effect::Effect;
-pub use file::{read, Body, Plan, Refusal, Rule, Symbol};
+pub use file::{read, Body, Plan, Refusal, Rule, Symbol, FIRST_REMARK};
 pub use judging::judge;
 pub use order::{search, Answer, Row, Search, Verdict, ABSENT};
 pub use writing::write_run;

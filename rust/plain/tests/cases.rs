@@ -1,9 +1,10 @@
 //! The cases of document 01, so that the plain implementation is tested where there is no proved library.
 
-use plain::{check, judge, Answer, Verdict, ABSENT};
+use plain::{check, judge, read, Answer, Refusal, Verdict, ABSENT, FIRST_REMARK};
 
 const PLAN_A: &[u8] = include_bytes!("../../../samples/plan-a.plan");
 const PLAN_B: &[u8] = include_bytes!("../../../samples/plan-b.plan");
+const REMARKS: &[u8] = include_bytes!("../../../samples/remarks.plan");
 const ONLY_NOTHING: [u8; 8] = [1, 0, 0, 0, 0, 0, 0, 0];
 
 fn answer(file: &[u8], rows: usize, budget: u64) -> Answer {
@@ -51,4 +52,16 @@ fn small_files() {
 fn runs_on_sheet_s() {
     assert_eq!(judge(PLAN_A, &[1, 3]), Ok(false));
     assert_eq!(judge(PLAN_A, &[1, 2, 3]), Ok(true));
+}
+
+#[test]
+fn remarks() {
+    assert_eq!(answer(REMARKS, 1_024, 1_000_000), said(Verdict::Holds, 18, 5, 5));
+    assert_eq!(judge(PLAN_A, &[1, FIRST_REMARK, 2, 127, 3]), Ok(true));
+    assert_eq!(judge(PLAN_A, &[1, FIRST_REMARK - 1, 2, 3]), Ok(false));
+    assert_eq!(judge(PLAN_A, &[FIRST_REMARK, 3]), Ok(true));
+    assert_eq!(judge(PLAN_A, &[FIRST_REMARK]), Ok(false));
+    let on = |code| read(&[2, 0, code, 1, 0, 0, 0, 0]).err();
+    let refused = |number| Some(Refusal { number, record: 0 });
+    assert_eq!([119, 120, 127, 128].map(on), [None, refused(12), refused(12), refused(4)]);
 }

@@ -6,6 +6,7 @@
 use bolfrega::raw::{self, Details};
 use bolfrega::{Answer, Judgement, Refusal, Verdict};
 use plain::making::Numbers;
+use plain::FIRST_REMARK;
 
 /// What stands in the places to be filled in before a call.
 const BEFORE: u64 = 0x5555_5555_5555_5555;
@@ -162,7 +163,9 @@ pub fn valid_file(numbers: &mut Numbers, size: Size) -> Vec<u8> {
 }
 
 fn symbol(numbers: &mut Numbers, size: Size) -> u8 {
-    if numbers.once_in(2) {
+    if numbers.once_in(16) {
+        FIRST_REMARK + numbers.byte(8)
+    } else if numbers.once_in(2) {
         numbers.byte(size.codes)
     } else {
         plain::making::procedure(numbers.byte(size.procedures))

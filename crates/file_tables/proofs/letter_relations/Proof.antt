@@ -8,7 +8,7 @@ use lib.ListN.{length}
 use Rattle.relation.specs.Relation.{states}
 use Rattle.spec_file.specs.Records.{transitionKind}
 use Rattle.spec_file.specs.Views.{transitionOf, collect, transitionsOf}
-use Rattle.file_tables.specs.LetterLaws.{letters-none, letters-length, letters-next}
+use Rattle.file_tables.specs.LetterLaws.{letters-length, letters-next}
 use Rattle.file_tables.specs.Prefixes.{none-yet, turn}
 use Rattle.file_tables.specs.Tables.{letterTable, withTransition}
 use Rattle.file_tables.proofs.letter_relations.Statement.{statement}
@@ -22,7 +22,7 @@ abbrev μ-loop : tie.MeasureT-loop
 
 loop-holds : tie.Need-loop-holds Inv-loop μ-loop
 loop-holds c =
-    (omega arith, c .clear .ensures ∙ letters-none states ∙ sym (ap (letterTable states) (none-yet transitionKind transitionOf (c .before .before .before .args .file .now))))
+    (omega arith, c .without-transitions .ensures ∙ sym (ap (letterTable states) (none-yet transitionKind transitionOf (c .before .before .before .args .file .now))))
 
 read-transition-requires : tie.Need-read-transition-requires Inv-loop μ-loop
 read-transition-requires c κs = let l = c .before .before .loop in (omega arith, ap length (l .inv .1) ∙ letters-length states _)

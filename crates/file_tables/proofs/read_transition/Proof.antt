@@ -1,4 +1,4 @@
--- By the record's kind and its letter; a pair is inserted into the letter's relation. Assumes nothing.
+-- By the record's kind and its letter; below the remarks a pair is inserted into the letter's relation. Assumes nothing.
 use mathlib.Core.Path.{sym, ap, _∙_}
 use native.Mathlib.Omega.{arith}
 use borrow.Author.Needs.{needs}
@@ -7,11 +7,11 @@ use Rattle.relation.specs.declared.Relation.{Relation}
 use Rattle.relation.specs.Relation.{states, insert}
 use Rattle.relation.specs.Representation.{value}
 use Rattle.relation.specs.Stored.{withRelation}
-use Rattle.relation.specs.StoredLaws.{with-past}
 use Rattle.spec_file.specs.declared.Transition.{Transition}
 use Rattle.spec_file.specs.Entries.{transitionIn, automatonTransition}
 use Rattle.spec_file.specs.EntryLaws.{whole}
 use Rattle.file_tables.specs.Tables.{withTransition}
+use Rattle.file_tables.specs.LetterLaws.{with-left-out, with-inserted}
 use Rattle.file_tables.proofs.read_transition.Statement.{statement}
 use Rattle.file_tables.proofs.read_transition.Tie as tie
 
@@ -23,7 +23,7 @@ returns-2 c =
     let s = c .before .before .before .before .before in
     let e = c .before .transition-at .ensures ∙ sym (ap transitionIn (whole (s .args .file .now) (s .args .i) (s .pre .0))) in
     rw (sym (c .before .before .before .of-kind .ensures) ∙ not-false _ (c .before .before .if1 .left))
-    (sym (with-past (s .args .table .now) (c .before .transition-at .result .letter) _ (omega (arith, c .if2 .taken, s .pre .1)))
+    (sym (with-left-out states (s .args .table .now) (automatonTransition (c .before .transition-at .result)) (c .if2 .taken))
     ∙ ap (λ (t : Transition). withTransition states (s .args .table .now) (automatonTransition t)) e)
 
 returns-3 : tie.Need-returns-3
@@ -37,6 +37,7 @@ returns-3 c =
     rw (sym (at .before .before .of-kind .ensures) ∙ not-false _ (at .before .if1 .left))
     (c .store .ensures
     ∙ ap (withRelation (s .args .table .now) (t .letter)) (new .insert .ensures ∙ ap (λ (r : Relation). insert states (value r) (t .source) (t .target)) (old .read .ensures))
+    ∙ sym (with-inserted states (s .args .table .now) (automatonTransition t) (old .before .before .before .if2 .left))
     ∙ ap (λ (t : Transition). withTransition states (s .args .table .now) (automatonTransition t)) e)
 
 pub read-transition-spec : {M : Type 1} → statement M

@@ -1,6 +1,6 @@
 // The library for hosts in C and Rust: the calls of document 01 as functions on numbers and lent bytes. No function asks anything of
-// its caller. A result below 100 is the number that refused the call; from 100 on it is an answer (the verdicts' numbers are in crate
-// telling). `include/bolfrega.h` says the same to C.
+// its caller. A result below 100 is the number that refused the call; from 100 on it is an answer (the verdicts' numbers are in
+// `host_result`). `include/bolfrega.h` says the same to C.
 use call_judge::Judged;
 use host_result::CheckResult;
 use spec_calls::Options;

@@ -36,8 +36,8 @@ pub record ChecksBy (bs : List ℕ) (g : Settings) (rows : List (Row ℕ)) (d ol
 abbrev pub ChecksOver : List ℕ → Journal → Options → List ℕ → List ℕ → List ℕ → ℕ → Type 0
 ChecksOver bs journal o d old new r = ChecksBy bs (settingsOver o journal) (journalAfter bs (settingsOver o journal) (map rowOf journal)) d old new r
 
--- a check with n rows, each x before, and the options o, of which the row at p is asked for
+-- a check with n rows, each x before, and the options o, with the row at p as the sample
 pub record ChecksAlone (bs : List ℕ) (n : ℕ) (x : LentRow) (o : Options) (p : ℕ) (old new : List ℕ) (r : CheckResult) : Type 0 where
   pub over : ChecksOver bs (journalOf n x) o (numbersIn r) old new (r .code)
-  -- row p: of the journal after the check, and of the rows after it
-  pub shows : rowOf (r .shown) ≡ rowAfter (journalAfter bs (settingsOver o (journalOf n x)) (map rowOf (journalOf n x)) ++ map rowOf (restOf n x)) (placeOf p)
+  -- the row at p: of the journal after the check, and of the rows after it
+  pub sample : rowOf (r .sample) ≡ rowAfter (journalAfter bs (settingsOver o (journalOf n x)) (map rowOf (journalOf n x)) ++ map rowOf (restOf n x)) (placeOf p)

@@ -144,17 +144,17 @@ module _ (bs : List ℕ) (o : Options) (before after rest : Journal) (few : leng
         promises = h .promises;
       }
 
--- the row that was asked for is told
-shown-told : (c : Checked) (x y : LentRow) (f : ℕ) → toldBy c x y f .shown ≡ y
-shown-told (checked.Refused r) x y f = refl
-shown-told (checked.Answered (answer.Ended v n)) x y f = refl
-shown-told (checked.Answered (answer.Broken i n)) x y f = refl
+-- the sample is told
+sample-told : (c : Checked) (x y : LentRow) (f : ℕ) → toldBy c x y f .sample ≡ y
+sample-told (checked.Refused r) x y f = refl
+sample-told (checked.Answered (answer.Ended v n)) x y f = refl
+sample-told (checked.Answered (answer.Broken i n)) x y f = refl
 
 -- ---- as the code has it all in hand
 
 module _ (bs : List ℕ) (n : ℕ) (old : LentRow) (o : Options) (p : ℕ) (before after : List ℕ) where
   -- xs: the array before the check. m: the rows lent. zs: its first m rows after it. c: what the check answered. d: what is to be written,
-  -- and i: the row to show. k: the row asked for. w: what writing answered. r: the result
+  -- and i: the row to show. k: the sample row. w: what writing answered. r: the result
   pub tells-alone : (xs : Journal) → xs ≡ replicate journalLimit old → (m : ℕ) → (m ≡ frontOf n) × (m ≤ journalLimit) → length (take m xs) ≡ m
       → (zs : Journal) → length zs ≡ m → length (zs ++ drop m xs) ≡ journalLimit → (c : Checked) → Checks bs o (take m xs) zs c
       → (d : RowToWrite) → d ≡ nameIn c (length bs) → (i : ℕ) → i ≡ placeOf (d .row) → (k : ℕ) → (k ≡ placeOf p) × (k < journalLimit) → (w : Writing) → Writes (take (d .bytes) bs) (map rowOf zs) (d .used) (d .row) before after w
@@ -173,8 +173,8 @@ module _ (bs : List ℕ) (n : ℕ) (old : LentRow) (o : Options) (p : ℕ) (befo
         over =
             subst (λ (j : Journal). ChecksOver bs j o (numbersIn r) before after (r .code)) front
             (subst (λ (z : CheckResult). ChecksOver bs (take m xs) o (numbersIn z) before after (z .code)) same t);
-        shows =
-            ap (λ (z : CheckResult). rowOf (z .shown)) er ∙ ap rowOf (shown-told c (getD (zs ++ drop m xs) i blank) y f)
+        sample =
+            ap (λ (z : CheckResult). rowOf (z .sample)) er ∙ ap rowOf (sample-told c (getD (zs ++ drop m xs) i blank) y f)
             ∙ row-read zs (drop m xs) k (omega (arith, ek .1, all))
             ∙ ap (λ (rows : List (Row ℕ)). rowAfter (rows ++ map rowOf (drop m xs)) k) (h .journal)
             ∙ ap (λ (j : Journal). rowAfter (journalAfter bs (settingsOver o j) (map rowOf j) ++ map rowOf (drop m xs)) k) front

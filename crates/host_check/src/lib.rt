@@ -6,18 +6,18 @@ use spec_calls::Options;
 use spec_calls::Row;
 ghost use Rattle.host_check.specs.Contracts.{ChecksAlone};
 
-// Runs a check of `file` on a fresh journal of `rows` rows, each initialised to `old`, with these `options`. If the verdict is
-// broken, writes its run to `buffer`. The result also contains row `probe` of the journal after the check, for tests. The proof is a walk
-// (proofs/checked).
+// Runs a check of `file` on a fresh journal of `rows` rows, each initialised to `old`, with these `options`. If the verdict is broken, writes
+// its run to `buffer`. The result also contains the row at `sample_row` of the journal after the check, for tests. The proof is a walk
+// (proofs/check_and_write).
 pub fn check_and_write(
     file: &[u8],
     rows: usize,
     old: Row,
     options: Options,
-    probe: usize,
+    sample_row: usize,
     buffer: &mut [u8],
 ) -> CheckResult
-    ensures { λ r. ⌜ ChecksAlone (now (file .entry)) rows old options probe (now (buffer .entry)) (now (buffer .exit)) r ⌝ }
+    ensures { λ r. ⌜ ChecksAlone (now (file .entry)) rows old options «sample_row» (now (buffer .entry)) (now (buffer .exit)) r ⌝ }
 {
     let mut journal = [old; JOURNAL_LIMIT];
     let n = host_result::lent_rows(rows);
@@ -25,9 +25,9 @@ pub fn check_and_write(
     let named = host_result::row_to_write(checked, file.len());
     let at = host_result::row_number(named.row);
     let row = journal[at];
-    let asked = host_result::row_number(probe);
-    let shown = journal[asked];
+    let at_sample = host_result::row_number(sample_row);
+    let sample = journal[at_sample];
     let m = named.bytes;
     let writing = call_write::write(&file[..m], &journal[..n], named.used, named.row, buffer);
-    host_result::to_result(checked, row, shown, writing)
+    host_result::to_result(checked, row, sample, writing)
 }

@@ -25,7 +25,7 @@ pub const FULL: u64 = search_laws::FULL as u64;
 pub const SPENT: u64 = search_laws::SPENT as u64;
 
 // What a host is told: the number that refuses, or the verdict's; the refused record's number; joins, used rows and pass; and of a broken
-// answer the row, its pairs, its length, and what refuses to write its run, or 0. And the row that was asked for, as it stands then.
+// answer the row, its pairs, its length, and what refuses to write its run, or 0. And `sample`, a row of the journal after the check.
 pub struct CheckResult {
     pub code: u64,
     pub place: u64,
@@ -36,7 +36,7 @@ pub struct CheckResult {
     pub pairs: u64,
     pub length: u64,
     pub refused: u64,
-    pub shown: Row,
+    pub sample: Row,
 }
 
 // The row of which the run is to be written, the used rows, and how many bytes of the file the writing is given.
@@ -116,8 +116,8 @@ fn refused_by(writing: Writing) -> u64
 }
 
 // Returns the result of an answer that is not broken.
-fn unbroken_result(code: u64, totals: Totals, shown: Row) -> CheckResult
-    ensures { λ r. ⌜ r ≡ unbrokenBy code totals shown ⌝ }
+fn unbroken_result(code: u64, totals: Totals, sample: Row) -> CheckResult
+    ensures { λ r. ⌜ r ≡ unbrokenBy code totals sample ⌝ }
 {
     CheckResult {
         code,
@@ -129,13 +129,13 @@ fn unbroken_result(code: u64, totals: Totals, shown: Row) -> CheckResult
         pairs: 0,
         length: 0,
         refused: 0,
-        shown,
+        sample,
     }
 }
 
 // A broken answer with its row.
-fn broken_result(i: usize, totals: Totals, row: Row, shown: Row, writing: Writing) -> CheckResult
-    ensures { λ r. ⌜ r ≡ brokenBy i totals row shown (refusedBy (writingOf writing)) ⌝ }
+fn broken_result(i: usize, totals: Totals, row: Row, sample: Row, writing: Writing) -> CheckResult
+    ensures { λ r. ⌜ r ≡ brokenBy i totals row sample (refusedBy (writingOf writing)) ⌝ }
 {
     let relation = row.relation;
     CheckResult {
@@ -148,27 +148,27 @@ fn broken_result(i: usize, totals: Totals, row: Row, shown: Row, writing: Writin
         pairs: relation.pairs() as u64,
         length: row.len,
         refused: refused_by(writing),
-        shown,
+        sample,
     }
 }
 
-fn answer_result(answer: Answer, row: Row, shown: Row, writing: Writing) -> CheckResult
-    ensures { λ r. ⌜ r ≡ toldOf answer row shown (refusedBy (writingOf writing)) ⌝ }
+fn answer_result(answer: Answer, row: Row, sample: Row, writing: Writing) -> CheckResult
+    ensures { λ r. ⌜ r ≡ toldOf answer row sample (refusedBy (writingOf writing)) ⌝ }
 {
     match answer {
         Answer::Ended(unbroken, totals) => unbroken_result(
             search_step::code_of(unbroken) as u64,
             totals,
-            shown,
+            sample,
         ),
-        Answer::Broken(i, totals) => broken_result(i, totals, row, shown, writing),
+        Answer::Broken(i, totals) => broken_result(i, totals, row, sample, writing),
     }
 }
 
-// Builds the host's result. `row` is the journal row of a broken answer and is ignored for every other; `shown` is passed through; `writing`
+// Builds the host's result. `row` is the journal row of a broken answer and is ignored for every other; `sample` is passed through; `writing`
 // says whether the run of a broken answer was written.
-pub fn to_result(checked: Checked, row: Row, shown: Row, writing: Writing) -> CheckResult
-    ensures { λ r. ⌜ r ≡ toldBy checked row shown (refusedBy (writingOf writing)) ⌝ }
+pub fn to_result(checked: Checked, row: Row, sample: Row, writing: Writing) -> CheckResult
+    ensures { λ r. ⌜ r ≡ toldBy checked row sample (refusedBy (writingOf writing)) ⌝ }
 {
     match checked {
         Checked::Refused(refusal) => CheckResult {
@@ -181,8 +181,8 @@ pub fn to_result(checked: Checked, row: Row, shown: Row, writing: Writing) -> Ch
             pairs: 0,
             length: 0,
             refused: 0,
-            shown,
+            sample,
         },
-        Checked::Answered(answer) => answer_result(answer, row, shown, writing),
+        Checked::Answered(answer) => answer_result(answer, row, sample, writing),
     }
 }

@@ -67,9 +67,9 @@ fn looked_at(used: u64) -> usize {
 
 // ---- checks
 
-fn ask(file: &[u8], rows: usize, old: Row, budget: u64, probe: usize) -> CheckResult {
+fn ask(file: &[u8], rows: usize, old: Row, budget: u64, sample_row: usize) -> CheckResult {
     let mut buffer = [0u8; 4096];
-    host_check::check_and_write(file, rows, old, Options { budget }, probe, &mut buffer)
+    host_check::check_and_write(file, rows, old, Options { budget }, sample_row, &mut buffer)
 }
 
 fn put(journal: &mut [Numbers], i: usize, row: Numbers) {
@@ -82,7 +82,7 @@ fn put(journal: &mut [Numbers], i: usize, row: Numbers) {
 fn collect(file: &[u8], rows: usize, old: Row, budget: u64, count: usize, journal: &mut [Numbers]) {
     for i in 0..count {
         let told = ask(file, rows, old, budget, i);
-        let row = numbers(told.shown);
+        let row = numbers(told.sample);
         put(journal, i, row);
     }
 }
@@ -167,7 +167,7 @@ fn same_with_old(file: &[u8], journal: &[Numbers], told: CheckResult, old: Numbe
     same(told, again)
         & rows::same(journal, &other, 0, used)
         & rows::same(&other, &fresh, used, KEPT)
-        & rows::same_row(numbers(far.shown), old)
+        & rows::same_row(numbers(far.sample), old)
 }
 
 // Tests an answer with few rows and a small budget: it is full or spent just where the rows or the joins run out, and else the same answer.

@@ -41,7 +41,7 @@ fn row_at(file: &[u8], lent: usize, place: usize) -> Row {
     let mut run = [0u8; 8];
     let options = Options { budget: BUDGET };
     let told = host_check::check_and_write(file, lent, Row::blank(), options, place, &mut run);
-    told.shown
+    told.sample
 }
 
 // Returns a row with an empty effect, of pass 1.

@@ -109,20 +109,20 @@ callees =
 abbrev it : Function
 it = record { lifetimes = 2; outlives = []; params = ps; result = f.signature .result; clauses = f.clauses; callees = callees; mir = code.function }
 
-module _ {M : Type 1} (𝓤 : URA M) (H : Heap 𝓤) (A : Atoms 𝓤) (W : Given 𝓤 H A) (mem : Memory → SProp 𝓤) (run : Routine → Fun 𝓤) (κ κ′ : Lft) (q q′ : Share) (s : RefT (List ℕ)) (rows : ℕ) (old : Row) (x : Options) (probe : ℕ) (b : RefT (List ℕ))
-    (gs : Room u8 (length (s .now))) (g-rows : rows < 2 ^ 64) (g-old : Is T.the-row old (T′.lowered old ∷ [])) (gx : Means options x) (gp : probe < 2 ^ 64) (gb : Room u8 (length (b .now))) where
+module _ {M : Type 1} (𝓤 : URA M) (H : Heap 𝓤) (A : Atoms 𝓤) (W : Given 𝓤 H A) (mem : Memory → SProp 𝓤) (run : Routine → Fun 𝓤) (κ κ′ : Lft) (q q′ : Share) (s : RefT (List ℕ)) (rows : ℕ) (old : Row) (x : Options) (sample-row : ℕ) (b : RefT (List ℕ))
+    (gs : Room u8 (length (s .now))) (g-rows : rows < 2 ^ 64) (g-old : Is T.the-row old (T′.lowered old ∷ [])) (gx : Means options x) (gp : sample-row < 2 ^ 64) (gb : Room u8 (length (b .now))) where
   abbrev at : Vals f.signature (κ, (κ′, tt))
-  at = (slice-vals s, (vint w64 rows ∷ [], (T′.lowered old ∷ [], (val options x ∷ [], (vint w64 probe ∷ [], (slice-vals b, tt))))))
+  at = (slice-vals s, (vint w64 rows ∷ [], (T′.lowered old ∷ [], (val options x ∷ [], (vint w64 sample-row ∷ [], (slice-vals b, tt))))))
 
   abbrev Post : Val → SProp 𝓤
-  Post = walkOf 𝓤 H A f.ended (stays ps) (f.clauses 𝓤 H A mem run) .post (((κ, (κ′, tt)), (q, (q′, tt)), tt, (s, (rows, (old, (x, (probe, (b, tt)))))), at), tt)
+  Post = walkOf 𝓤 H A f.ended (stays ps) (f.clauses 𝓤 H A mem run) .post (((κ, (κ′, tt)), (q, (q′, tt)), tt, (s, (rows, (old, (x, (sample-row, (b, tt)))))), at), tt)
 
   exits : (r : CheckResult) (bs : List ℕ) → Is D.the-row r (D′.lowered r ∷ []) → length bs ≡ length (b .now)
-      → ChecksAlone (s .now) rows old x probe (b .now) bs r
+      → ChecksAlone (s .now) rows old x sample-row (b .now) bs r
       → ent 𝓤 (⋆ 𝓤 H A (‵ (flft κ q) ∷ ‵ (flft κ′ q′) ∷ ‵ ftrue ∷ ‵ (finally u8 (b .name) bs) ∷ [])) (Post (D′.lowered r))
   exits r bs is l e =
       qed W (‵ (flft κ q) ∷ ‵ (flft κ′ q′) ∷ ‵ ftrue ∷ ‵ (finally u8 (b .name) bs) ∷ []) ∵
-      suffices ! _ (ends-at 𝓤 H A f.ended (stays ps) (f.clauses 𝓤 H A mem run) W (((κ, (κ′, tt)), (q, (q′, tt)), tt, (s, (rows, (old, (x, (probe, (b, tt)))))), at), tt) (D′.lowered r) r (tt, (tt, (tt, (tt, (tt, (bs, tt)))))) (tt, (tt, (tt, (tt, (tt, (l, tt))))))) $ says ! e $
+      suffices ! _ (ends-at 𝓤 H A f.ended (stays ps) (f.clauses 𝓤 H A mem run) W (((κ, (κ′, tt)), (q, (q′, tt)), tt, (s, (rows, (old, (x, (sample-row, (b, tt)))))), at), tt) (D′.lowered r) r (tt, (tt, (tt, (tt, (tt, (bs, tt)))))) (tt, (tt, (tt, (tt, (tt, (l, tt))))))) $ says ! e $
       move ! (1 ∷ 2 ∷ []) $ join ! $ move ! (1 ∷ 0 ∷ []) $ join ! $ frame ! $ nothing ! $ move ! (1 ∷ 0 ∷ []) $ fjoin ! $ nothing ! $ fjoin ! $ nothing ! $ fjoin ! $ nothing ! $ fjoin ! $ nothing ! $ fjoin ! $ nothing ! $ fjoin ! $ frame ! $
       owned ! D.the-row (Is D.the-row) (LL.makes D.the-type D′.the-plain 𝓤 H A) r _ is $ done !
 
@@ -150,11 +150,11 @@ module _ {M : Type 1} (𝓤 : URA M) (H : Heap 𝓤) (A : Atoms 𝓤) (W : Given
           (EL.makes C.the-type C′.the-plain 𝓤 H A, (LL.makes T.the-type T′.the-plain 𝓤 H A, (LL.makes T.the-type T′.the-plain 𝓤 H A, (EL.makes G.the-type G′.the-plain 𝓤 H A, tt)))) (c-is, (u-is, (v-is, (w-is, tt))))
 
   module _ (𝓣 : Tables 𝓤 H) (known : Knows 𝓤 H A mem run 𝓣 callees)
-      (wt : Arguments (code.function .locals) (sliceVal (s .ptr) (length (s .now)) ∷ vint w64 rows ∷ T′.lowered old ∷ val options x ∷ vint w64 probe ∷ sliceVal (b .ptr) (length (b .now)) ∷ [])) where
-    from-entry : ent 𝓤 (onEntry 𝓤 H A f.signature (κ, (κ′, tt)) (q, (q′, tt)) (s, (rows, (old, (x, (probe, (b, tt)))))) at) (WpFn 𝓤 H (𝓣 .C) (𝓣 .Λ) code.function (sliceVal (s .ptr) (length (s .now)) ∷ vint w64 rows ∷ T′.lowered old ∷ val options x ∷ vint w64 probe ∷ sliceVal (b .ptr) (length (b .now)) ∷ []) Post)
+      (wt : Arguments (code.function .locals) (sliceVal (s .ptr) (length (s .now)) ∷ vint w64 rows ∷ T′.lowered old ∷ val options x ∷ vint w64 sample-row ∷ sliceVal (b .ptr) (length (b .now)) ∷ [])) where
+    from-entry : ent 𝓤 (onEntry 𝓤 H A f.signature (κ, (κ′, tt)) (q, (q′, tt)) (s, (rows, (old, (x, (sample-row, (b, tt)))))) at) (WpFn 𝓤 H (𝓣 .C) (𝓣 .Λ) code.function (sliceVal (s .ptr) (length (s .now)) ∷ vint w64 rows ∷ T′.lowered old ∷ val options x ∷ vint w64 sample-row ∷ sliceVal (b .ptr) (length (b .now)) ∷ []) Post)
     from-entry =
         let fm = fmOf 𝓤 H (W .laws) 𝓣 in
-        qed W ((‵ (flft κ q) ⊛ ‵ (flft κ′ q′) ⊛ ‵ ftrue) ∷ ‵ (owns (ShrSlice (named 0) κ u8 ∷ usize ∷ T.the-row ∷ RowOf options ∷ usize ∷ MutSlice (named 1) κ′ u8 ∷ []) (s, (rows, (old, (x, (probe, (b, tt)))))) at) ∷ []) ∵
+        qed W ((‵ (flft κ q) ⊛ ‵ (flft κ′ q′) ⊛ ‵ ftrue) ∷ ‵ (owns (ShrSlice (named 0) κ u8 ∷ usize ∷ T.the-row ∷ RowOf options ∷ usize ∷ MutSlice (named 1) κ′ u8 ∷ []) (s, (rows, (old, (x, (sample-row, (b, tt)))))) at) ∷ []) ∵
         split ! $ move ! (1 ∷ []) $ split ! $ move ! (3 ∷ []) $ fsplit ! $ move ! (1 ∷ []) $ fsplit ! $ drop ! $ fsplit ! $ drop ! $ fsplit ! $ drop ! $ fsplit ! $ drop ! $ fsplit ! $ keep ! (5 ∷ 3 ∷ 2 ∷ 0 ∷ []) $
         entering ! (𝓣 .C) (𝓣 .Λ) code.function _ wt (λ bs.
         let l₇ = bs .1 .1 .1 .1 .1 .1 .1 .0 in
@@ -192,8 +192,8 @@ module _ {M : Type 1} (𝓤 : URA M) (H : Heap 𝓤) (A : Atoms 𝓤) (W : Given
         sets ! (bin ! (its ! 20 refl) (its ! 22 refl) tt) (init ! 18 refl (tt, tt)) $
         elem-loads ! T.the-row tt T′.lowered (T′.lowers .val-is) (zs ++ rest) l₇ i blank (in-all i (ei .1)) 46 refl (i * rowBytes + 0) (place-is rowBytes 0 i) (λ r. load ! (from ! (hop ! (look ! 18 refl) (stop !))) r) (λ is. init ! 16 refl (row-typed 𝓤 H A W mem run _ is)) (λ i-row.
         sets ! (of-opd ! (its ! 16 refl)) (init ! 36 refl (row-typed 𝓤 H A W mem run (getD (zs ++ rest) i blank) i-row)) $
-        -- the row that is asked for
-        calls-plain row-number.ended (row-number.clauses 𝓤 H A mem run) (to-number 𝓤 H A W mem run probe gp) tt (asks-number 𝓤 H A W mem run probe gp) (λ r. (r ≡ placeOf probe) × (r < journalLimit)) (λ r us. id⊢ 𝓤 _) (vint w64) (uint-tells w64) ! fm (known .1 .1 .0) (and-then ! (its ! 50 refl) (no-more !)) (λ j ej j-is.
+        -- the sample row
+        calls-plain row-number.ended (row-number.clauses 𝓤 H A mem run) (to-number 𝓤 H A W mem run sample-row gp) tt (asks-number 𝓤 H A W mem run sample-row gp) (λ r. (r ≡ placeOf sample-row) × (r < journalLimit)) (λ r us. id⊢ 𝓤 _) (vint w64) (uint-tells w64) ! fm (known .1 .1 .0) (and-then ! (its ! 50 refl) (no-more !)) (λ j ej j-is.
         land ! (from ! (stop !)) (init ! 34 refl (tt, record { fits = j-is .1 })) $
         sets ! (bin ! (its ! 34 refl) (lit ! tt) (record { fits = row-offset j (ej .1) })) (store ! 22 refl (tt, record { fits = row-offset j (ej .1) })) $
         sets ! (addr ! (from ! (stop !))) (init ! 14 refl (tt, tt)) $
@@ -222,7 +222,7 @@ module _ {M : Type 1} (𝓤 : URA M) (H : Heap 𝓤) (A : Atoms 𝓤) (W : Given
         land ! (from ! (stop !)) (init ! 60 refl (LL.lawful D.the-type D′.the-laws 𝓤 H A W .typed r _ r-is .0)) $
         array-gone ! T.the-row journalLimit (zs ++ rest) l₇ 46 all refl $
         move ! (62 ∷ 63 ∷ 64 ∷ 65 ∷ []) $ closing ! 4 refl refl $
-        by ! (exits r bs r-is nb (tells-alone (s .now) rows old x probe (b .now) bs xs e n en (take-all n xs few) zs nz all c ec d ed i (ei .0) j ej w ew r er))))))))))))))))))
+        by ! (exits r bs r-is nb (tells-alone (s .now) rows old x sample-row (b .now) bs xs e n en (take-all n xs few) zs nz all c ec d ed i (ei .0) j ej w ew r er))))))))))))))))))
 
 walk : Walk it
 walk M 𝓤 H A W mem run 𝓣 known κs qs bounds a g are =

@@ -24,9 +24,9 @@ abbrev pub waiting : Settings → ℕ → ℕ → State
 waiting g n finals =
     record {
       going = false;
-      left = 0;
-      right = 0;
-      terms = record { budget = g .budget; finals = finals; pass = 1; start = 0; before = 0 };
+      «left_row» = 0;
+      «right_row» = 0;
+      terms = record { budget = g .budget; finals = finals; pass = 1; «rows_at_pass_start» = 0; «rows_at_previous_start» = 0 };
       counts = record { used = 0; joins = 0; added = 0 };
       place = record { rule = 0; left = 0; right = 0 };
       rows = g .rows;

@@ -27,14 +27,14 @@ fn wait(rows: usize, rules: usize, options: Options, finals: StateSet) -> State
 {
     State {
         going: false,
-        left: 0,
-        right: 0,
+        left_row: 0,
+        right_row: 0,
         terms: Terms {
             budget: options.budget,
             finals,
             pass: 1,
-            start: 0,
-            before: 0,
+            rows_at_pass_start: 0,
+            rows_at_previous_start: 0,
         },
         counts: Counts {
             used: 0,

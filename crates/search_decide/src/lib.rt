@@ -1,4 +1,4 @@
-// What becomes of a candidate, in steps on values: it is noted where looking for it ended, and counted.
+// What becomes of a candidate, in steps on values: a hint remembers where looking for it ended, and it is counted.
 use search_cover::CoverCursor;
 use search_laws::Outcome;
 use search_laws::Stop;
@@ -9,13 +9,13 @@ use search_state::LASTS;
 use search_state::State;
 ghost use mathlib.Core.Path.{_≡_};
 ghost use Rattle.search_laws.specs.Meanings.{bornBy, decidedIn};
-ghost use Rattle.search_laws.specs.Running.{MayNote, Notes, MayDecide};
+ghost use Rattle.search_laws.specs.Running.{MayRemember, Remembers, MayDecide};
 
 // Updates the hints: a covering row found through the links becomes the last-cover hint of its nonterminal and the hint of its relation; a
 // new row becomes the hint of its relation.
-pub fn note(table: &mut [u32], state: State, fate: Fate, found: CoverCursor)
-    requires { ⌜ MayNote state found (now table) ⌝ }
-    ensures { λ r. ⌜ Notes (now (table .entry)) (now (table .exit)) ⌝ }
+pub fn remember_hint(table: &mut [u32], state: State, fate: Fate, found: CoverCursor)
+    requires { ⌜ MayRemember state found (now table) ⌝ }
+    ensures { λ r. ⌜ Remembers (now (table .entry)) (now (table .exit)) ⌝ }
 {
     let counts = state.counts;
     let used = counts.used;

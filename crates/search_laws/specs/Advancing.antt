@@ -39,7 +39,7 @@ use Rattle.search_laws.specs.Contracts.{Answers, Checked}
 use Rattle.search_laws.specs.Deciding.{answers-dropped, answers-full, answers-new}
 use Rattle.search_laws.specs.Meanings.{progressOf, countsIn, withJoin, withRow, bornBy, fullBy, decidedBy, decidedIn, totalsOf, answerTo, codeOf, answerAt, answerIn}
 use Rattle.search_laws.specs.Problems.{Letters, RuleBytes, Problem, breakingIn, termsOf}
-use Rattle.search_laws.specs.Running.{problemAt, target, Goes, SearchAt, Running, fateFor, Considered, MayAdvance, Notes, GoesOn, GoesOnOver, Onward, candidatesLeft}
+use Rattle.search_laws.specs.Running.{problemAt, target, Goes, SearchAt, Running, fateFor, Considered, MayAdvance, Remembers, GoesOn, GoesOnOver, Onward, candidatesLeft}
 use Rattle.search_laws.specs.RunLaws.{started, stands-on, goes-on, sized, used-fits, limit}
 use Rattle.search_laws.specs.RunningLaws.{stops}
 use Rattle.search_laws.specs.States.{stoppedIn}
@@ -93,7 +93,7 @@ module _ {letters : Letters} {rules : RuleBytes} {start : State} {j₀ : Journal
   finds = seek-finds (x .found .0) (x .found .1)
 
   cells : length t ≡ tableCells
-  cells = by (x .settled .outcome)
+  cells = by (x .inserted .outcome)
     where
       by : Ending (s .terms .pass) (candidateOf c) u l (x .before) (x .table) j t → length t ≡ tableCells
       by (inl z) = ap length (z .2) ∙ go .in-pass .covering .size
@@ -103,7 +103,7 @@ module _ {letters : Letters} {rules : RuleBytes} {start : State} {j₀ : Journal
   may-advance =
       record {
         full = ap (λ (z : Fate). z .full) (x .fate);
-        note = record { used = omega (arith, room, limit (x .running) (x .going)); table = cells; above = x .found .0 .slot .0; below = x .found .0 .slot .1; row = finds .row };
+        remember = record { used = omega (arith, room, limit (x .running) (x .going)); table = cells; above = x .found .0 .slot .0; below = x .found .0 .slot .1; row = finds .row };
         decide = record { used = omega (arith, room, limit (x .running) (x .going)); joins = unspent; added = omega (arith, go .in-pass .left .adds, go .begun .at-pass .none-added) };
         count = omega (arith, stands-on (x .running) (x .going) .count, length-take (start .rules) rules);
         pass = omega (arith, ap (λ (b : _). b .pass) (go .begun .terms), go .begun .at-pass .count, go .begun .at-pass .room, sized (x .running) (x .going) .limit);
@@ -132,7 +132,7 @@ module _ {letters : Letters} {rules : RuleBytes} {start : State} {j₀ : Journal
   not-spent e = omega (arith, e, unspent)
 
   pub decided-right : Right became
-  decided-right = by (l .covers) refl (x .settled .outcome)
+  decided-right = by (l .covers) refl (x .inserted .outcome)
     where
       hb : s .counts .joins ≤ s .terms .budget
       hb = omega (arith, unspent)
@@ -180,21 +180,21 @@ module _ {letters : Letters} {rules : RuleBytes} {start : State} {j₀ : Journal
   formed-there : candidateOf c ≡ formedBy letters (entryAt (P .rules) (s .place .rule)) (s .place) (rowAtPosition (firstRows u (x .before)) (s .place .left)) (rowAtPosition (firstRows u (x .before)) (s .place .right))
   formed-there =
       x .formed
-      ∙ ap (λ (r : Rule). formedBy letters r (s .place) (rowOf (amongFirst (getD (x .before) (s .left) blank) (s .place .left) u)) (rowOf (amongFirst (getD (x .before) (s .right) blank) (s .place .right) u))) rule-there
-      ∙ ap₂ (formedBy letters (entryAt (P .rules) (s .place .rule)) (s .place)) (row-there (s .place .left) (s .left) (go .left)) (row-there (s .place .right) (s .right) (go .right))
+      ∙ ap (λ (r : Rule). formedBy letters r (s .place) (rowOf (amongFirst (getD (x .before) (s .«left_row») blank) (s .place .left) u)) (rowOf (amongFirst (getD (x .before) (s .«right_row») blank) (s .place .right) u))) rule-there
+      ∙ ap₂ (formedBy letters (entryAt (P .rules) (s .place .rule)) (s .place)) (row-there (s .place .left) (s .«left_row») (go .left)) (row-there (s .place .right) (s .«right_row») (go .right))
 
   -- ---- it stops the search
 
   stopped-right : (o : Outcome) → EndsFrom o → Right o → Answers (start .terms .budget) (passIn (termsOf P (start .terms .budget) (go .begun .pass) (go .first .used) (go .begun .before)) P (go .first) (go .journal)) (go .first) (go .journal) j o
   stopped-right o e a =
       subst (λ (b : Terms). Answers (b .budget) (passIn b P (go .first) (go .journal)) (go .first) (go .journal) j o) (go .begun .terms)
-      (pass-stopped (s .terms) P (listsIn (x .table)) (go .first) (go .journal) (go .listed) (go .in-pass) (go .here) formed-there (x .settled .size) (a .0) e)
+      (pass-stopped (s .terms) P (listsIn (x .table)) (go .first) (go .journal) (go .listed) (go .in-pass) (go .here) formed-there (x .inserted .size) (a .0) e)
 
   pass-is : s .terms .pass ≡ go .begun .pass
   pass-is = ap (λ (b : Terms). b .pass) (go .begun .terms)
 
   size-first : length j ≡ length (go .journal)
-  size-first = x .settled .size ∙ go .in-pass .left .same
+  size-first = x .inserted .size ∙ go .in-pass .left .same
 
   pub stopped-checked : (p : Stop) → Right (outcome.Stopped p) → Checked (target P (start .terms .budget) j₀) j₀ j (answerIn (stoppedIn s p))
   stopped-checked p a =
@@ -216,7 +216,7 @@ module _ {letters : Letters} {rules : RuleBytes} {start : State} {j₀ : Journal
 
   pub stopped-running : (p : Stop) → Right (outcome.Stopped p) → (t′ : List ℕ) → Running letters rules start j₀ (stoppedIn s p) j t′ × (candidatesLeft (stoppedIn s p) < candidatesLeft s)
   stopped-running p a t′ = (
-    resumes (record { size = x .settled .size ∙ stands-on (x .running) (x .going) .size; rows = rows-of p; count = count-of p; goes = λ y. absurd (ended-so p y); ends = λ _. stopped-checked p a }),
+    resumes (record { size = x .inserted .size ∙ stands-on (x .running) (x .going) .size; rows = rows-of p; count = count-of p; goes = λ y. absurd (ended-so p y); ends = λ _. stopped-checked p a }),
     subst (λ (n : ℕ). candidatesLeft (stoppedIn s p) < n) (sym (left-is (s .going) (x .going) (s .terms .budget - s .counts .joins))) (none-left p),
   )
     where
@@ -250,18 +250,18 @@ module _ {letters : Letters} {rules : RuleBytes} {start : State} {j₀ : Journal
   rules-same : s .rules ≡ start .rules
   rules-same = stands-on (x .running) (x .going) .count ∙ length-take-le (start .rules) rules (x .running .whole (started (x .running) (x .going)))
 
-  pub going-running : (tn : List ℕ) → Notes t tn → {w : Counts} → outcome.Going w ≡ became → {t′ : List ℕ} {r : State} → GoesOn rules tn s w t′ r → Running letters rules start j₀ r j t′ × (candidatesLeft r < candidatesLeft s)
+  pub going-running : (tn : List ℕ) → Remembers t tn → {w : Counts} → outcome.Going w ≡ became → {t′ : List ℕ} {r : State} → GoesOn rules tn s w t′ r → Running letters rules start j₀ r j t′ × (candidatesLeft r < candidatesLeft s)
   going-running tn nt {w} e {t′} {r} g =
       let a = decided-right in
-      let lists : listsIn tn ≡ listsIn (x .table) = nt .lists ∙ x .settled .lists in
+      let lists : listsIn tn ≡ listsIn (x .table) = nt .lists ∙ x .inserted .lists in
       let n : countsIn became .used ≤ rowCells = omega (arith, a .0 .room, limit (x .running) (x .going)) in
-      let cov : Covering (firstRows (countsIn became .used) j) tn = nt .covering (firstRows (countsIn became .used) j) (omega (arith, n, rows-length (countsIn became .used) j (omega (arith, a .0 .room, x .settled .size)))) (a .1) in
+      let cov : Covering (firstRows (countsIn became .used) j) tn = nt .covering (firstRows (countsIn became .used) j) (omega (arith, n, rows-length (countsIn became .used) j (omega (arith, a .0 .room, x .inserted .size)))) (a .1) in
       let on : Onward P (start .terms .budget) j₀ w r j t′ =
       subst (λ (k : ℕ). GoesOnOver (take k rules) tn s w t′ r) rules-same g P (start .terms .budget) j₀ (go .first) (go .journal) j (sized (x .running) (x .going)) (stands-on (x .running) (x .going) .rows) (go .here) (go .begun)
       (subst (λ (q : List ℕ). Listed (firstRows (go .first .used) (go .journal)) q) (sym lists) (go .listed))
       (λ q f.
       subst (λ (z : List ℕ). InPass (s .terms) P z (go .first) (go .journal) tn w j q) (sym lists)
-      (pass-going (s .terms) P (listsIn (x .table)) (go .first) (go .journal) (go .listed) (go .in-pass) (go .here) formed-there (x .settled .size) (a .0) (sym e) cov (subst (λ (z : List ℕ). places.NextPlace z (P .rules) (s .place) q) lists f)))
+      (pass-going (s .terms) P (listsIn (x .table)) (go .first) (go .journal) (go .listed) (go .in-pass) (go .here) formed-there (x .inserted .size) (a .0) (sym e) cov (subst (λ (z : List ℕ). places.NextPlace z (P .rules) (s .place) q) lists f)))
       in
       let m : w .joins ≡ s .counts .joins + 1 = ap (λ (o : Outcome). countsIn o .joins) e ∙ joins-more in (
         resumes (on .stands),

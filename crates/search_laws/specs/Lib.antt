@@ -14,5 +14,5 @@ pub mod Running
 pub mod RunningLaws
 pub mod RunLaws
 pub mod Advancing
-pub mod NoteLaws
+pub mod HintLaws
 pub mod PassingOver

@@ -137,7 +137,7 @@ module _ (t : Terms) (P : Problem) (lists : List ℕ) (w₀ : Counts) (j₀ : Jo
   -- the invariant
   pub record InPass (covers : List ℕ) (w : Counts) (j : Journal) (p : Place) : Type 0 where
     pub candidates : List order.Candidate
-    pub known : Known (t .before) candidates (firstRows (w .used) j)
+    pub known : Known (t .«rows_at_previous_start») candidates (firstRows (w .used) j)
     -- each points to rows that the pass began with, or to none
     pub points : (c : order.Candidate) → In c candidates → Repeats (length first) c
     pub limit : length j₀ ≤ journalLimit
@@ -147,7 +147,7 @@ module _ (t : Terms) (P : Problem) (lists : List ℕ) (w₀ : Counts) (j₀ : Jo
     pub covering : Covering (firstRows (w .used) j) covers
 
   module _ (listed : Listed first lists) where
-    pub pass-start : (covers : List ℕ) (p : Place) → PassReady t w₀ j₀ covers → Known (t .before) (candidatesIn P first) first → FirstPlace lists (P .rules) 0 p → InPass covers w₀ j₀ p
+    pub pass-start : (covers : List ℕ) (p : Place) → PassReady t w₀ j₀ covers → Known (t .«rows_at_previous_start») (candidatesIn P first) first → FirstPlace lists (P .rules) 0 p → InPass covers w₀ j₀ p
     pass-start covers p r k o =
         record {
           candidates = onward (P .letters) first lists (P .rules) 0;
@@ -175,7 +175,7 @@ module _ (t : Terms) (P : Problem) (lists : List ℕ) (w₀ : Counts) (j₀ : Jo
         abbrev Next : order.Candidate → List order.Candidate → Type 0
         Next d ds = (d ≡ c) × ((q : Place) → NextPlace lists (P .rules) p q → LeftFrom (P .letters) first lists (P .rules) q ds)
             × Remaining (t .budget) whole (walkIn t (length j₀) (d ∷ ds) (progressOf w j)) w₀ j₀ w j
-            × Known (t .before) (d ∷ ds) (firstRows (w .used) j)
+            × Known (t .«rows_at_previous_start») (d ∷ ds) (firstRows (w .used) j)
             × ((f : order.Candidate) → In f (d ∷ ds) → Repeats (length first) f)
 
         few : w .used ≤ absent
@@ -184,7 +184,7 @@ module _ (t : Terms) (P : Problem) (lists : List ℕ) (w₀ : Counts) (j₀ : Jo
         next : (d : order.Candidate) × (ds : List order.Candidate) × Next d ds
         next = by (g .candidates) (g .stands) (g .left) (g .known) (g .points)
           where
-            by : (cs : List order.Candidate) → LeftFrom (P .letters) first lists (P .rules) p cs → Remaining (t .budget) whole (walkIn t (length j₀) cs (progressOf w j)) w₀ j₀ w j → Known (t .before) cs (firstRows (w .used) j) → ((f : order.Candidate) → In f cs → Repeats (length first) f) → (d : order.Candidate) × (ds : List order.Candidate) × Next d ds
+            by : (cs : List order.Candidate) → LeftFrom (P .letters) first lists (P .rules) p cs → Remaining (t .budget) whole (walkIn t (length j₀) cs (progressOf w j)) w₀ j₀ w j → Known (t .«rows_at_previous_start») cs (firstRows (w .used) j) → ((f : order.Candidate) → In f cs → Repeats (length first) f) → (d : order.Candidate) × (ds : List order.Candidate) × Next d ds
             by [] z l k m = absurd (z h)
             by (d ∷ ds) z l k m = (
               d,
@@ -201,10 +201,10 @@ module _ (t : Terms) (P : Problem) (lists : List ℕ) (w₀ : Counts) (j₀ : Jo
             )
 
         -- it would be dropped, if the pass before formed it
-        there : 0 < t .before → Repeats (t .before) c → dropped contained c (firstRows (w .used) j) ≡ true
-        there z y = subst (λ (d : order.Candidate). dropped contained d (firstRows (w .used) j) ≡ true) (next .2 .0) (next .2 .3 z (next .0) (inl refl) (subst (Repeats (t .before)) (sym (next .2 .0)) y))
+        there : 0 < t .«rows_at_previous_start» → Repeats (t .«rows_at_previous_start») c → dropped contained c (firstRows (w .used) j) ≡ true
+        there z y = subst (λ (d : order.Candidate). dropped contained d (firstRows (w .used) j) ≡ true) (next .2 .0) (next .2 .3 z (next .0) (inl refl) (subst (Repeats (t .«rows_at_previous_start»)) (sym (next .2 .0)) y))
 
-        others : Known (t .before) (next .1) (firstRows (w .used) j)
+        others : Known (t .«rows_at_previous_start») (next .1) (firstRows (w .used) j)
         others z d m e = next .2 .3 z d (inr m) e
 
         module _ {j′ : Journal} (s : length j′ ≡ length j) {r : Outcome} (a : Answers (t .budget) (considerIn t (length j) c (progressOf w j)) w j j′ r) where
@@ -224,7 +224,7 @@ module _ (t : Terms) (P : Problem) (lists : List ℕ) (w₀ : Counts) (j₀ : Jo
               let x = gone z in
               record {
                 candidates = next .1;
-                known = consider-goes t (length j) (λ u. Known (t .before) (next .1) (u .rows)) c (progressOf w j) (progressOf w′ j′) (x .answer) others (λ z d m e. dropped-added (algebraOf P) (problem-laws P) (t .pass) c d (firstRows (w .used) j) (others z d m e));
+                known = consider-goes t (length j) (λ u. Known (t .«rows_at_previous_start») (next .1) (u .rows)) c (progressOf w j) (progressOf w′ j′) (x .answer) others (λ z d m e. dropped-added (algebraOf P) (problem-laws P) (t .pass) c d (firstRows (w .used) j) (others z d m e));
                 points = λ d m. next .2 .4 d (inr m);
                 limit = g .limit;
                 stands = next .2 .1 q f;
@@ -234,10 +234,10 @@ module _ (t : Terms) (P : Problem) (lists : List ℕ) (w₀ : Counts) (j₀ : Jo
               }
 
       -- a candidate that the pass before formed is one join, and nothing else
-      pub pass-over : p .rule < length (P .rules) → w .joins < t .budget → repeatsAt (t .before) p ≡ true → {q : Place} → NextPlace lists (P .rules) p q
+      pub pass-over : p .rule < length (P .rules) → w .joins < t .budget → repeatsAt (t .«rows_at_previous_start») p ≡ true → {q : Place} → NextPlace lists (P .rules) p q
           → InPass covers (withJoin w) j q
       pass-over h paid e {q} f =
           let c : order.Candidate = formedBy (P .letters) (entryAt (P .rules) (p .rule)) p (rowAtPosition (firstRows (w .used) j) (p .left)) (rowAtPosition (firstRows (w .used) j) (p .right)) in
           let room : w .used ≤ length j = omega (arith, g .left .room, g .left .same) in
-          let z = formed-repeats (t .before) (P .letters) (entryAt (P .rules) (p .rule)) p (rowAtPosition (firstRows (w .used) j) (p .left)) (rowAtPosition (firstRows (w .used) j) (p .right)) e in
+          let z = formed-repeats (t .«rows_at_previous_start») (P .letters) (entryAt (P .rules) (p .rule)) p (rowAtPosition (firstRows (w .used) j) (p .left)) (rowAtPosition (firstRows (w .used) j) (p .right)) e in
           pass-going h {c = c} refl refl (answers-dropped t c w j room (g .left .paid) (λ y. omega (arith, y, paid)) (there h {c = c} refl (z .0) (z .1))) refl (g .covering) f

@@ -40,17 +40,17 @@ not-spent B n e = leb-false B n (fails (leb B n) (not-excludes (leb B n) e))
 
 -- what is known of a candidate that may be passed over
 module _ (b : Terms) (n : ℕ) (x : Reached) (e : passesAt b n x ≡ true) where
-  rest-passes : (not (isSpent (b .budget) (x .counts .joins)) && repeatsAt (b .before) (x .place)) ≡ true
-  rest-passes = and-snd (ltb (x .place .rule) n) (not (isSpent (b .budget) (x .counts .joins)) && repeatsAt (b .before) (x .place)) e
+  rest-passes : (not (isSpent (b .budget) (x .counts .joins)) && repeatsAt (b .«rows_at_previous_start») (x .place)) ≡ true
+  rest-passes = and-snd (ltb (x .place .rule) n) (not (isSpent (b .budget) (x .counts .joins)) && repeatsAt (b .«rows_at_previous_start») (x .place)) e
 
   passes-here : x .place .rule < n
-  passes-here = ltb-true (x .place .rule) n (and-fst (ltb (x .place .rule) n) (not (isSpent (b .budget) (x .counts .joins)) && repeatsAt (b .before) (x .place)) e)
+  passes-here = ltb-true (x .place .rule) n (and-fst (ltb (x .place .rule) n) (not (isSpent (b .budget) (x .counts .joins)) && repeatsAt (b .«rows_at_previous_start») (x .place)) e)
 
   pub passes-paid : x .counts .joins < b .budget
-  passes-paid = not-spent (b .budget) (x .counts .joins) (and-fst (not (isSpent (b .budget) (x .counts .joins))) (repeatsAt (b .before) (x .place)) rest-passes)
+  passes-paid = not-spent (b .budget) (x .counts .joins) (and-fst (not (isSpent (b .budget) (x .counts .joins))) (repeatsAt (b .«rows_at_previous_start») (x .place)) rest-passes)
 
-  passes-again : repeatsAt (b .before) (x .place) ≡ true
-  passes-again = and-snd (not (isSpent (b .budget) (x .counts .joins))) (repeatsAt (b .before) (x .place)) rest-passes
+  passes-again : repeatsAt (b .«rows_at_previous_start») (x .place) ≡ true
+  passes-again = and-snd (not (isSpent (b .budget) (x .counts .joins))) (repeatsAt (b .«rows_at_previous_start») (x .place)) rest-passes
 
 -- ---- the rights of one left
 
@@ -58,7 +58,7 @@ module _ (t : List ℕ) (b : Terms) (x : Reached) where
   pub rights-none : PassesRights t b x x
   rights-none = record { counted = counted-refl x; done = λ P first j₁ j h e l k d. d }
 
-  pub rights-next : (n i m : ℕ) → PassesRights t b x (withRight x n i) → m ≡ afterIn (listsIn t) i → m < b .before → n < b .budget → PassesRights t b x (withRight x (n + 1) m)
+  pub rights-next : (n i m : ℕ) → PassesRights t b x (withRight x n i) → m ≡ afterIn (listsIn t) i → m < b .«rows_at_previous_start» → n < b .budget → PassesRights t b x (withRight x (n + 1) m)
   rights-next n i m v em hm hn =
       record {
         counted = counted-trans (v .counted) (record { joins = omega arith; used = refl; added = refl });
@@ -69,12 +69,12 @@ module _ (t : List ℕ) (b : Terms) (x : Reached) where
       }
     where
       -- the right is another of the first rows
-      again : repeatsAt (b .before) (x .place) ≡ true → repeatsAt (b .before) (withRight x n m .place) ≡ true
+      again : repeatsAt (b .«rows_at_previous_start») (x .place) ≡ true → repeatsAt (b .«rows_at_previous_start») (withRight x n m .place) ≡ true
       again e =
-          let both = isBefore (b .before) (x .place .left) && isBefore (b .before) (x .place .right) in
-          and-intro (ltb 0 (b .before)) (isBefore (b .before) (x .place .left) && isBefore (b .before) m) (and-fst (ltb 0 (b .before)) both e)
-          (and-intro (isBefore (b .before) (x .place .left)) (isBefore (b .before) m) (and-fst (isBefore (b .before) (x .place .left)) (isBefore (b .before) (x .place .right)) (and-snd (ltb 0 (b .before)) both e))
-          (ap (λ (z : Bool). z || eqb m absent) (lt-ltb m (b .before) hm)))
+          let both = isBefore (b .«rows_at_previous_start») (x .place .left) && isBefore (b .«rows_at_previous_start») (x .place .right) in
+          and-intro (ltb 0 (b .«rows_at_previous_start»)) (isBefore (b .«rows_at_previous_start») (x .place .left) && isBefore (b .«rows_at_previous_start») m) (and-fst (ltb 0 (b .«rows_at_previous_start»)) both e)
+          (and-intro (isBefore (b .«rows_at_previous_start») (x .place .left)) (isBefore (b .«rows_at_previous_start») m) (and-fst (isBefore (b .«rows_at_previous_start») (x .place .left)) (isBefore (b .«rows_at_previous_start») (x .place .right)) (and-snd (ltb 0 (b .«rows_at_previous_start»)) both e))
+          (ap (λ (z : Bool). z || eqb m absent) (lt-ltb m (b .«rows_at_previous_start») hm)))
 
 -- ---- from place to place
 

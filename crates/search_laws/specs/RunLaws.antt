@@ -17,7 +17,7 @@ use Rattle.search_state.specs.declared.State.{State}
 use Rattle.search_cover.specs.SeekLaws.{seek-finds}
 use Rattle.search_cover.specs.declared.CoverCursor.{CoverCursor}
 use Rattle.search_laws.specs.Problems.{Letters, RuleBytes, Problem}
-use Rattle.search_laws.specs.Running.{problemAt, InLimits, Goes, SearchAt, Running, MayFind, CoverFound, fateFor, MaySettle}
+use Rattle.search_laws.specs.Running.{problemAt, InLimits, Goes, SearchAt, Running, MayFind, CoverFound, fateFor, MayInsert}
 
 module _ {letters : Letters} {rules : RuleBytes} {start : State} {j₀ : Journal} {s : State} {j : Journal} {t : List ℕ} (r : Running letters rules start j₀ s j t) (g : T (s .going)) where
   -- what it works on
@@ -49,10 +49,10 @@ module _ {letters : Letters} {rules : RuleBytes} {start : State} {j₀ : Journal
   some-row : 0 < length j
   some-row = omega (arith, sized .some, stands-on .size)
 
-  pub left-inside : s .left < length j
+  pub left-inside : s .«left_row» < length j
   left-inside = subst (λ (n : ℕ). n < length j) (sym (goes-on .left)) (position-inside (s .place .left) (s .counts .used) (length j) used-fits some-row)
 
-  pub right-inside : s .right < length j
+  pub right-inside : s .«right_row» < length j
   right-inside = subst (λ (n : ℕ). n < length j) (sym (goes-on .right)) (position-inside (s .place .right) (s .counts .used) (length j) used-fits some-row)
 
   pub may-form : (letterWords ≤ length letters) × (s .place .rule < length rules)
@@ -64,8 +64,8 @@ module _ {letters : Letters} {rules : RuleBytes} {start : State} {j₀ : Journal
   pub pass-some : 0 < s .terms .pass
   pass-some = omega (arith, goes-on .begun .at-pass .first, ap (λ (x : _). x .pass) (goes-on .begun .terms))
 
-  pub may-settle : {c : Candidate} {f : Fate} {l : CoverCursor} → CoverFound s c j t l → f ≡ fateFor s c (l .covers) → MaySettle s c f l j t
-  may-settle h e =
+  pub may-insert : {c : Candidate} {f : Fate} {l : CoverCursor} → CoverFound s c j t l → f ≡ fateFor s c (l .covers) → MayInsert s c f l j t
+  may-insert h e =
       record {
         fate = e;
         pass = pass-some;

@@ -19,7 +19,7 @@ use Rattle.search_links.specs.Covers.{tableCells, listsFrom, listsIn, Covering}
 use Rattle.search_links.specs.Rows.{firstRows}
 use Rattle.search_cover.specs.Seeking.{Leads, Finds, Seeking}
 use Rattle.search_cover.specs.declared.CoverCursor.{CoverCursor}
-use Rattle.search_retire.specs.Clearing.{Settled}
+use Rattle.search_retire.specs.Clearing.{Inserted}
 use Rattle.search_state.specs.Budgets.{isSpent}
 use Rattle.search_state.specs.Fates.{fullIn, fateIn}
 use Rattle.search_state.specs.Positions.{positionRow}
@@ -69,8 +69,8 @@ module _ (P : Problem) (B : ℕ) (j₀ : Journal) where
     pub listed : Listed (firstRows (first .used) journal) (listsIn t)
     pub in-pass : InPass (s .terms) P (listsIn t) first journal t (s .counts) j (s .place)
     pub here : s .place .rule < length (P .rules)
-    pub left : s .left ≡ positionRow (s .place .left) (s .counts .used)
-    pub right : s .right ≡ positionRow (s .place .right) (s .counts .used)
+    pub left : s .«left_row» ≡ positionRow (s .place .left) (s .counts .used)
+    pub right : s .«right_row» ≡ positionRow (s .place .right) (s .counts .used)
     pub unspent : s .counts .joins < B
 
   -- the search is at a place, or has ended with the answer that it must come to
@@ -111,8 +111,8 @@ CoverFound s c j t l = Seeking (candidateOf c) (firstRows (s .counts .used) j) (
 abbrev pub fateFor : State → Candidate → Bool → Fate
 fateFor s c covered = fateIn s (c .head) covered (breakingIn (s .terms) (candidateOf c))
 
--- what settling the candidate c asks
-pub record MaySettle (s : State) (c : Candidate) (f : Fate) (l : CoverCursor) (j : Journal) (t : List ℕ) : Type 0 where
+-- what inserting the candidate c asks
+pub record MayInsert (s : State) (c : Candidate) (f : Fate) (l : CoverCursor) (j : Journal) (t : List ℕ) : Type 0 where
   pub fate : f ≡ fateFor s c (l .covers)
   pub pass : 0 < s .terms .pass
   pub rows : s .rows ≡ length j
@@ -121,16 +121,16 @@ pub record MaySettle (s : State) (c : Candidate) (f : Fate) (l : CoverCursor) (j
   pub covering : Covering (firstRows (s .counts .used) j) t
   pub finds : Finds (candidateOf c) (firstRows (s .counts .used) j) (s .counts .used) t l
 
--- the candidate of the place has been formed, looked for and settled
+-- the candidate of the place has been formed, looked for, and inserted where no row covers it and there is room
 pub record Considered (letters : Letters) (rules : RuleBytes) (start : State) (j₀ : Journal) (s : State) (c : Candidate) (f : Fate) (l : CoverCursor) (j : Journal) (t : List ℕ) : Type 0 where
   pub before : Journal
   pub table : List ℕ
   pub running : Running letters rules start j₀ s before table
   pub going : T (s .going)
-  pub formed : candidateOf c ≡ formedIn letters rules s (getD before (s .left) blank) (getD before (s .right) blank)
+  pub formed : candidateOf c ≡ formedIn letters rules s (getD before (s .«left_row») blank) (getD before (s .«right_row») blank)
   pub found : CoverFound s c before table l
   pub fate : f ≡ fateFor s c (l .covers)
-  pub settled : Settled (s .terms .pass) (candidateOf c) (s .counts .used) l before table j t
+  pub inserted : Inserted (s .terms .pass) (candidateOf c) (s .counts .used) l before table j t
 
 -- the measure of the loop: at most this many candidates are left, since each is one join
 abbrev pub candidatesLeft : State → ℕ
@@ -139,12 +139,12 @@ candidatesLeft s = cond (s .going) (suc (s .terms .budget - s .counts .joins)) 0
 -- ---- steps
 
 -- storing hints leaves the lists as they were, and the links lead as they did
-pub record Notes (old new : List ℕ) : Type 0 where
+pub record Remembers (old new : List ℕ) : Type 0 where
   pub size : length new ≡ length old
   pub lists : listsIn new ≡ listsIn old
   pub covering : (rows : List order.Row) → length rows ≤ rowCells → Covering rows old → Covering rows new
 
-pub record MayNote (s : State) (l : CoverCursor) (t : List ℕ) : Type 0 where
+pub record MayRemember (s : State) (l : CoverCursor) (t : List ℕ) : Type 0 where
   pub used : s .counts .used ≤ rowCells
   pub table : length t ≡ tableCells
   pub above : headCell heads ≤ l .slot
@@ -168,7 +168,7 @@ pub record MayGoOn (rules : RuleBytes) (s : State) (w : Counts) (t : List ℕ) :
 
 pub record MayAdvance (rules : RuleBytes) (s : State) (f : Fate) (l : CoverCursor) (t : List ℕ) : Type 0 where
   pub full : f .full ≡ fullIn s
-  pub note : MayNote s l t
+  pub remember : MayRemember s l t
   pub decide : MayDecide s
   pub count : s .rules ≤ length rules
   pub pass : s .terms .pass ≤ 65535
@@ -189,7 +189,7 @@ DoneAt b P t first j₁ j x = (q : Place) → places.NextPlace (listsIn t) (P .r
 
 -- the candidate of x may be passed over: its rule is one of the n, the budget leaves a join, and the pass before formed it
 abbrev pub passesAt : Terms → ℕ → Reached → Bool
-passesAt b n x = ltb (x .place .rule) n && (not (isSpent (b .budget) (x .counts .joins)) && repeatsAt (b .before) (x .place))
+passesAt b n x = ltb (x .place .rule) n && (not (isSpent (b .budget) (x .counts .joins)) && repeatsAt (b .«rows_at_previous_start») (x .place))
 
 -- from x to r only joins were counted
 pub record JoinsAlone (x r : Reached) : Type 0 where
@@ -200,13 +200,13 @@ pub record JoinsAlone (x r : Reached) : Type 0 where
 -- if the candidate of x has been handled, then so have all up to that of r, which has the same rule and left row
 pub record PassesRights (t : List ℕ) (b : Terms) (x r : Reached) : Type 0 where
   pub counted : JoinsAlone x r
-  pub done : (P : Problem) (first : Counts) (j₁ j : Journal) → x .place .rule < length (P .rules) → repeatsAt (b .before) (x .place) ≡ true
-      → b .before ≤ rowCells → Listed (firstRows (first .used) j₁) (listsIn t) → DoneAt b P t first j₁ j x → DoneAt b P t first j₁ j r
+  pub done : (P : Problem) (first : Counts) (j₁ j : Journal) → x .place .rule < length (P .rules) → repeatsAt (b .«rows_at_previous_start») (x .place) ≡ true
+      → b .«rows_at_previous_start» ≤ rowCells → Listed (firstRows (first .used) j₁) (listsIn t) → DoneAt b P t first j₁ j x → DoneAt b P t first j₁ j r
 
 -- if the invariant of the pass holds at x, it holds at r: every candidate between them was passed over
 pub record PassesOver (rules : RuleBytes) (t : List ℕ) (b : Terms) (x r : Reached) : Type 0 where
   pub counted : JoinsAlone x r
-  pub stands : (P : Problem) (first : Counts) (j₁ j : Journal) → b .before ≤ rowCells → Listed (firstRows (first .used) j₁) (listsIn t)
+  pub stands : (P : Problem) (first : Counts) (j₁ j : Journal) → b .«rows_at_previous_start» ≤ rowCells → Listed (firstRows (first .used) j₁) (listsIn t)
       → InPass b (withRules P rules) (listsIn t) first j₁ t (x .counts) j (x .place) → InPass b (withRules P rules) (listsIn t) first j₁ t (r .counts) j (r .place)
 
 -- ---- the steps between candidates

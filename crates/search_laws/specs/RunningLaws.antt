@@ -126,7 +126,7 @@ module _ (P : Problem) (B : ℕ) (j₀ : Journal) (s : State) (rows : s .rows �
   pub over-reached : {first : Counts} {j₁ : Journal} (y : PassBegun P B j₀ s first j₁) {t : List ℕ} {j : Journal} {x r : Reached} → PassesOver (P .rules) t (s .terms) x r → Listed (firstRows (first .used) j₁) (listsIn t)
       → InPass (s .terms) P (listsIn t) first j₁ t (x .counts) j (x .place) → InPass (s .terms) P (listsIn t) first j₁ t (r .counts) j (r .place)
   over-reached {first} {j₁} y {t} {j} v listed g =
-      v .stands P first j₁ j (omega (arith, ap (λ (b : Terms). b .before) (y .terms), y .fits)) listed g
+      v .stands P first j₁ j (omega (arith, ap (λ (b : Terms). b .«rows_at_previous_start») (y .terms), y .fits)) listed g
 
   -- ---- a pass begins
 

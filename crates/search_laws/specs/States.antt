@@ -16,15 +16,15 @@ use Rattle.search_laws.specs.declared.Stop.{Stop}
 
 abbrev pub ended : State → Terms → Counts → ℕ → ℕ → State
 ended s t w v i =
-    record { going = false; left = 0; right = 0; terms = t; counts = w; place = s .place; rows = s .rows; rules = s .rules; verdict = v; broken = i }
+    record { going = false; «left_row» = 0; «right_row» = 0; terms = t; counts = w; place = s .place; rows = s .rows; rules = s .rules; verdict = v; broken = i }
 
 abbrev pub standingBy : Bool → State → Terms → Counts → Place → State
 standingBy true s t w p = ended s t w spentCode 0
 standingBy false s t w p =
     record {
       going = true;
-      left = positionRow (p .left) (w .used);
-      right = positionRow (p .right) (w .used);
+      «left_row» = positionRow (p .left) (w .used);
+      «right_row» = positionRow (p .right) (w .used);
       terms = t;
       counts = w;
       place = p;

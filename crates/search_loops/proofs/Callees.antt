@@ -42,15 +42,15 @@ use Rattle.search_cover.specs.declared.CoverCursor.{CoverCursor}
 use Rattle.search_cover.proofs.last_row as last_row
 use Rattle.search_cover.proofs.begin as cover-begin
 use Rattle.search_cover.proofs.step as cover-step
-use Rattle.search_retire.specs.Clearing.{MayClear, Settled}
+use Rattle.search_retire.specs.Clearing.{MayClear, Inserted}
 use Rattle.search_retire.specs.Steps as retiring
 use Rattle.search_retire.specs.declared.RetireCursor.{RetireCursor}
 use Rattle.search_retire.proofs.begin as retire-begin
 use Rattle.search_retire.proofs.step as retire-step
-use Rattle.search_laws.specs.Running.{MayFind, CoverFound, fateFor, MaySettle, MayAdvance, Advances}
+use Rattle.search_laws.specs.Running.{MayFind, CoverFound, fateFor, MayInsert, MayAdvance, Advances}
 use Rattle.search_passes.proofs.advance as advance
 use Rattle.search_loops.proofs.find as find
-use Rattle.search_loops.proofs.settle as settle
+use Rattle.search_loops.proofs.insert as insert
 use Rattle.walk_kit.proofs.Loans.{Loan}
 use Rattle.walk_kit.proofs.PlainData.{Data, Row as RowOf, val, Means, tells, value, number, flag}
 use Rattle.walk_kit.proofs.Handing.{Mode, again, seen, copied, Hand, Handing, binds}
@@ -222,16 +222,16 @@ module _ {M : Type 1} (𝓤 : URA M) (H : Heap 𝓤) (A : Atoms 𝓤) (mem : Mem
         }
 
     -- ---- adding it
-    abbrev pub to-settle : (J P : Loan) (j : Journal) {m : ℕ} → length j ≡ m → (t : List ℕ) {n : ℕ} → length t ≡ n → (f : Fate) → Means fate f → (l : CoverCursor) → Means cover-cursor l → MaySettle s c f l j t → Handing 𝓤 H A settle.ended (settle.clauses 𝓤 H A mem run)
-    to-settle J P j ej t et f f-is l l-is asks =
+    abbrev pub to-insert : (J P : Loan) (j : Journal) {m : ℕ} → length j ≡ m → (t : List ℕ) {n : ℕ} → length t ≡ n → (f : Fate) → Means fate f → (l : CoverCursor) → Means cover-cursor l → MayInsert s c f l j t → Handing 𝓤 H A insert.ended (insert.clauses 𝓤 H A mem run)
+    to-insert J P j ej t et f f-is l l-is asks =
         let hs = slice (RowOf row) again J j ej ∷ slice cell again P t et ∷ [] in
         let vs = value state s s-is ∷ value candidate c c-is ∷ value fate f f-is ∷ value cover-cursor l l-is ∷ [] in
         record {
           slices = hs;
           values = vs;
           fits = record { bound = binds hs vs; ghost = λ cs. tt; enters = λ cs. id⊢ 𝓤 _; leaves = λ cs. id⊢ 𝓤 _; lists = λ cs ws. (ws .0, (ws .1 .0, tt)); others = λ cs ws. _; ends = λ cs ws. refl };
-          asked = λ cs. factI 𝓤 (MaySettle s c f l j t) _ asks;
-          φ = λ cs r ws. Settled (s .terms .pass) (candidateOf c) (s .counts .used) l j t (ws .0) (ws .1 .0);
+          asked = λ cs. factI 𝓤 (MayInsert s c f l j t) _ asks;
+          φ = λ cs r ws. Inserted (s .terms .pass) (candidateOf c) (s .counts .used) l j t (ws .0) (ws .1 .0);
           says = λ cs r ws. id⊢ 𝓤 _;
           val = λ cs. λ r. vunit;
           tells = λ cs. nothing-tells;

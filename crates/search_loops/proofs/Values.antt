@@ -44,10 +44,10 @@ retire-cursor = record { type = G.the-type; laws = G′.the-laws; plain = G′.t
 
 -- ---- the places of the fields
 module _ (s : State) (is : Means state s) where
-  pub left-fits : s .left < 2 ^ 64
+  pub left-fits : s .«left_row» < 2 ^ 64
   left-fits = LL.owed S.the-type S′.the-laws s (S′.lowered s ∷ []) is .1 .0 .1
 
-  pub right-fits : s .right < 2 ^ 64
+  pub right-fits : s .«right_row» < 2 ^ 64
   right-fits = LL.owed S.the-type S′.the-laws s (S′.lowered s ∷ []) is .1 .1 .0 .1
 
 pub head-fits : (c : Candidate) → Means candidate c → c .head < heads

@@ -7,11 +7,11 @@ use search_state::Fate;
 use search_state::State;
 use spec_calls::Row;
 ghost use Rattle.search_rows.specs.Meanings.{candidateOf};
-ghost use Rattle.search_retire.specs.Clearing.{Settled};
-ghost use Rattle.search_laws.specs.Running.{MayFind, CoverFound, MaySettle, Running, Ran};
+ghost use Rattle.search_retire.specs.Clearing.{Inserted};
+ghost use Rattle.search_laws.specs.Running.{MayFind, CoverFound, MayInsert, Running, Ran};
 
 // Looks for a live row that covers `candidate`, until one is found or none is left: at the row of its nonterminal that covered last, at the
-// row that is noted for its relation, and then along the linked rows. Any that covers will do: the contract is whether there is one.
+// row that its hint names, and then along the linked rows. Any that covers will do: the contract is whether there is one.
 fn find(journal: &[Row], table: &[u32], state: State, candidate: Candidate) -> CoverCursor
     requires { ⌜ MayFind state (now journal) (now table) ⌝ }
     ensures { λ r. ⌜ CoverFound state candidate (now (journal .entry)) (now (table .entry)) r ⌝ }
@@ -34,7 +34,7 @@ fn find(journal: &[Row], table: &[u32], state: State, candidate: Candidate) -> C
 
 // Where `fate` says that no row covers `candidate` and there is room, the larger rows retire and it becomes the next row. `found` is where
 // looking for a cover ended.
-fn settle(
+fn insert(
     journal: &mut [Row],
     table: &mut [u32],
     state: State,
@@ -42,8 +42,8 @@ fn settle(
     fate: Fate,
     found: CoverCursor,
 )
-    requires { ⌜ MaySettle state candidate fate found (now journal) (now table) ⌝ }
-    ensures { λ r. ⌜ Settled (state .terms .pass) (candidateOf candidate) (state .counts .used) found (now (journal .entry)) (now (table .entry)) (now (journal .exit)) (now (table .exit)) ⌝ }
+    requires { ⌜ MayInsert state candidate fate found (now journal) (now table) ⌝ }
+    ensures { λ r. ⌜ Inserted (state .terms .pass) (candidateOf candidate) (state .counts .used) found (now (journal .entry)) (now (table .entry)) (now (journal .exit)) (now (table .exit)) ⌝ }
 {
     let mut cursor = search_retire::begin(table, state, fate, found);
     while cursor.active {
@@ -56,7 +56,7 @@ fn settle(
     }
 }
 
-// Takes the candidates one after the other, to the end of the search. Between `find` and `settle` it is decided, once for both `settle` and
+// Takes the candidates one after the other, to the end of the search. Between `find` and `insert` it is decided, once for both `insert` and
 // `advance`, what becomes of the candidate: rows that are used again (request C-19) make room at that seam, before it is asked.
 pub fn run(
     journal: &mut [Row],
@@ -70,15 +70,15 @@ pub fn run(
 {
     let mut state = state;
     while state.going {
-        let i = state.left;
+        let i = state.left_row;
         let left = journal[i];
-        let k = state.right;
+        let k = state.right_row;
         let right = journal[k];
         let candidate = search_rows::form(letters, rules, state, left, right);
         let found = find(journal, table, state, candidate);
         let covered = found.covers;
         let fate = search_rows::fate(state, candidate, covered);
-        settle(journal, table, state, candidate, fate, found);
+        insert(journal, table, state, candidate, fate, found);
         state = search_passes::advance(rules, table, state, fate, found);
     }
     state

@@ -35,13 +35,7 @@ fn close_pass(rules: &[[u8; 4]], table: &mut [u32], state: State, counts: Counts
     if counts.added == 0 {
         return search_step::finish(state, terms, counts);
     }
-    let next = Terms {
-        budget: terms.budget,
-        finals: terms.finals,
-        pass: terms.pass + 1,
-        start: counts.used,
-        before: terms.start,
-    };
+    let next = terms.next_pass(counts.used);
     let fresh = Counts {
         used: counts.used,
         joins: counts.joins,
@@ -94,7 +88,7 @@ pub fn advance(
     requires { ⌜ MayAdvance (now rules) state fate found (now table) ⌝ }
     ensures { λ r. ⌜ Advances (now (rules .entry)) (now (table .entry)) state fate found (now (table .exit)) r ⌝ }
 {
-    search_decide::note(table, state, fate, found);
+    search_decide::remember_hint(table, state, fate, found);
     let outcome = search_decide::decide(state, fate);
     match outcome {
         Outcome::Going(counts) => go_on(rules, table, state, counts),

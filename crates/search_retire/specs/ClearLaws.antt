@@ -27,7 +27,7 @@ use Rattle.search_links.specs.Retirements.{Retiring, replaced-set, retire-none,
 use Rattle.search_links.specs.Rows.{firstRows}
 use Rattle.search_links.specs.RowLaws.{rows-length, stored-more}
 use Rattle.search_cover.specs.Seeking.{Finds}
-use Rattle.search_retire.specs.Clearing.{Idle, Fresh, Cleared, Added, Clears, ClearingEnd, ClearingAt, InClearing, Settled, clearsLeft, MayClear}
+use Rattle.search_retire.specs.Clearing.{Idle, Fresh, Cleared, Added, Clears, ClearingEnd, ClearingAt, InClearing, Inserted, clearsLeft, MayClear}
 use Rattle.search_retire.specs.Steps.{retireBy, retireFrom, idleAt, begun, endedAt, stepped, linksAfter}
 use Rattle.search_retire.specs.declared.RetireCursor.{RetireCursor}
 use Rattle.search_cover.specs.declared.CoverCursor.{CoverCursor}
@@ -221,7 +221,7 @@ many-left cl w e {n} h = by (cl .active) w
     by true z = rw e h
     by false z = absurd z
 
-pub clearing-done : {k : ℕ} {c : order.Candidate} {u : ℕ} {l : CoverCursor} {j₀ : Journal} {t₀ : List ℕ} {cl : RetireCursor} {j : Journal} {t : List ℕ} → InClearing k c u l j₀ t₀ cl j t → T (not (cl .active)) → Settled k c u l j₀ t₀ j t
+pub clearing-done : {k : ℕ} {c : order.Candidate} {u : ℕ} {l : CoverCursor} {j₀ : Journal} {t₀ : List ℕ} {cl : RetireCursor} {j : Journal} {t : List ℕ} → InClearing k c u l j₀ t₀ cl j t → T (not (cl .active)) → Inserted k c u l j₀ t₀ j t
 clearing-done {k} {c} {u} {l} {j₀} {t₀} {cl} {j} {t} i w = record { size = i .size; lists = i .lists; outcome = by (cl .active) w (i .stands) }
   where
     by : (b : Bool) → T (not b) → ClearingAt k c u l j₀ t₀ b cl j t → ClearingEnd k c u l j₀ t₀ j t

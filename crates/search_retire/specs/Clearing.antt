@@ -62,7 +62,7 @@ module _ (k : ℕ) (c : order.Candidate) (u : ℕ) (l : CoverCursor) (j₀ : Jou
       pub stands : ClearingAt (cl .active) cl j t
 
     -- when it has ended
-    pub record Settled (j : Journal) (t : List ℕ) : Type 0 where
+    pub record Inserted (j : Journal) (t : List ℕ) : Type 0 where
       pub size : length j ≡ length j₀
       pub lists : listsIn t ≡ listsIn t₀
       pub outcome : ClearingEnd j t

@@ -77,7 +77,7 @@ fn may_pass(terms: Terms, n: usize, at: Reached) -> bool
 {
     let counts = at.counts;
     let place = at.place;
-    (place.rule < n) & (!terms.spent(counts.joins) & repeats(terms.before, place))
+    (place.rule < n) & (!terms.spent(counts.joins) & repeats(terms.rows_at_previous_start, place))
 }
 
 // From a place whose candidate is done over the rights after it that are rows of the pass before; its left is one.
@@ -90,7 +90,7 @@ fn pass_rights(table: &[u32], terms: Terms, done: Reached) -> Reached
     let mut joins = counts.joins;
     let mut right = place.right;
     let mut next = after_in(table, right);
-    while (next < terms.before) & !terms.spent(joins) {
+    while (next < terms.rows_at_previous_start) & !terms.spent(joins) {
         joins += 1;
         right = next;
         next = after_in(table, right);

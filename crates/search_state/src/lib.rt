@@ -1,10 +1,12 @@
 // The state of the search, by value, and what is said of one candidate on its way through it. No effect is named here: these types are the
 // same whatever an effect is.
 use relation::StateSet;
+ghost use Prim.Native.Nat.{_≤_};
 ghost use mathlib.Core.Path.{_≡_};
 ghost use Rattle.search_state.specs.Budgets.{isSpent};
 ghost use Rattle.search_state.specs.Positions.{positionRow, firstAt};
 ghost use Rattle.search_state.specs.Fates.{fateIn};
+ghost use Rattle.search_state.specs.NextPass.{nextPass};
 
 // ---- the table
 
@@ -80,14 +82,14 @@ pub struct Counts {
     pub added: usize,
 }
 
-// What does not change in a pass: the joins that may be made, the final states, the number of the pass, and the rows used when it began
-// (`start`, which the next pass takes as its `before`) and when the pass before began.
+// What does not change in a pass: the joins that may be made, the final states, the number of the pass, and the rows used when it began and
+// when the pass before began.
 pub struct Terms {
     pub budget: u64,
     pub finals: StateSet,
     pub pass: u64,
-    pub start: usize,
-    pub before: usize,
+    pub rows_at_pass_start: usize,
+    pub rows_at_previous_start: usize,
 }
 
 impl Terms {
@@ -98,15 +100,29 @@ impl Terms {
     {
         self.budget <= joins
     }
+
+    // Returns the terms of the next pass, which begins with `used` rows.
+    pub fn next_pass(self, used: usize) -> Terms
+        requires { ⌜ self .pass ≤ 65535 ⌝ }
+        ensures { λ r. ⌜ r ≡ nextPass self used ⌝ }
+    {
+        Terms {
+            budget: self.budget,
+            finals: self.finals,
+            pass: self.pass + 1,
+            rows_at_pass_start: used,
+            rows_at_previous_start: self.rows_at_pass_start,
+        }
+    }
 }
 
-// The search between two candidates. While `going`, `place` is the candidate to form next, and `left` and `right` are the journal rows to
-// read for it (0 if its body has no such row). Otherwise `verdict` is the verdict's number, as hosts are told it, and `broken` the row of a
+// The search between two candidates. While `going`, `place` is the candidate to form next, and `left_row` and `right_row` are the journal rows
+// to read for it (0 if its body has no such row). Otherwise `verdict` is the verdict's number, as hosts are told it, and `broken` the row of a
 // broken one. `rows` is the journal's length, `rules` the number of rules.
 pub struct State {
     pub going: bool,
-    pub left: usize,
-    pub right: usize,
+    pub left_row: usize,
+    pub right_row: usize,
     pub terms: Terms,
     pub counts: Counts,
     pub place: Place,
@@ -143,7 +159,7 @@ pub fn position_row(position: usize, count: usize) -> usize
 }
 
 // Decides what becomes of a candidate, from what is known of its effect: whether a row covers it, and whether it breaks as a new row. Whether
-// the journal is full is asked here and nowhere else: settling and counting are both given the answer, and where rows are to be used again
+// the journal is full is asked here and nowhere else: inserting and counting are both given the answer, and where rows are to be used again
 // (request C-19), it is asked after room was made.
 pub fn fate_of(state: State, head: u8, covered: bool, breaks: bool) -> Fate
     ensures { λ r. ⌜ r ≡ fateIn state head covered breaks ⌝ }

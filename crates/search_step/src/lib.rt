@@ -34,8 +34,8 @@ pub fn end_with(state: State, terms: Terms, counts: Counts, verdict: u8, broken:
     let place = state.place;
     State {
         going: false,
-        left: 0,
-        right: 0,
+        left_row: 0,
+        right_row: 0,
         terms,
         counts,
         place,
@@ -56,14 +56,14 @@ pub fn stand_at(state: State, terms: Terms, counts: Counts, place: Place) -> Sta
     }
     State {
         going: true,
-        left: search_state::position_row(place.left, counts.used),
-        right: search_state::position_row(place.right, counts.used),
+        left_row: search_state::position_row(place.left, counts.used),
+        right_row: search_state::position_row(place.right, counts.used),
         terms: Terms {
             budget: terms.budget,
             finals: terms.finals,
             pass: terms.pass,
-            start: terms.start,
-            before: terms.before,
+            rows_at_pass_start: terms.rows_at_pass_start,
+            rows_at_previous_start: terms.rows_at_previous_start,
         },
         counts,
         place,

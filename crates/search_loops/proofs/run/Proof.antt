@@ -1,5 +1,5 @@
 -- The candidates, one after the other: each turn of the loop reads the two rows, forms a candidate, looks for a row that covers it, decides its
--- fate, settles it and goes on to the next. The journal and the table are lent again to each callee that takes them.
+-- fate, inserts it or not and goes on to the next. The journal and the table are lent again to each callee that takes them.
 -- The loop's variable is the state, the journal and the table; its invariant is `Running`: what is left of the pass, and of the search, gives the
 -- answer that the working order gives. The measure `candidatesLeft` falls, since each candidate is one join more of the budget.
 -- Assumes nothing.
@@ -39,7 +39,7 @@ use Rattle.search_rows.specs.declared.Candidate.{Candidate}
 use Rattle.search_state.specs.declared.State.{State}
 use Rattle.search_state.specs.declared.Fate.{Fate}
 use Rattle.search_cover.specs.declared.CoverCursor.{CoverCursor}
-use Rattle.search_retire.specs.Clearing.{Settled}
+use Rattle.search_retire.specs.Clearing.{Inserted}
 use Rattle.search_rows.specs.Forming.{formedIn}
 use Rattle.search_rows.proofs.form as form
 use Rattle.search_rows.proofs.form.Symbol as form-def
@@ -53,11 +53,11 @@ use Rattle.search_passes.proofs.advance.Met as advance-thm
 use Rattle.search_loops.proofs.find as find
 use Rattle.search_loops.proofs.find.Symbol as find-def
 use Rattle.search_loops.proofs.find.Met as find-thm
-use Rattle.search_loops.proofs.settle as settle
-use Rattle.search_loops.proofs.settle.Symbol as settle-def
-use Rattle.search_loops.proofs.settle.Met as settle-thm
+use Rattle.search_loops.proofs.insert as insert
+use Rattle.search_loops.proofs.insert.Symbol as insert-def
+use Rattle.search_loops.proofs.insert.Met as insert-thm
 use Rattle.search_laws.specs.Running.{Running, Ran, CoverFound, fateFor, Considered, Advances, candidatesLeft}
-use Rattle.search_laws.specs.RunLaws.{left-inside, right-inside, may-form, may-find, may-settle}
+use Rattle.search_laws.specs.RunLaws.{left-inside, right-inside, may-form, may-find, may-insert}
 use Rattle.search_laws.specs.Advancing.{may-advance}
 use Rattle.walk_kit.proofs.Closing.{locals-of, keeping, closing}
 use Rattle.walk_kit.proofs.Parameters.{Param, shared, lent, datum, stays, spells, typed-all}
@@ -73,7 +73,7 @@ use Rattle.walk_kit.proofs.PlainData.{Row as RowOf, val, Means, tells, makes, t
 use Rattle.walk_kit.proofs.Handing.{calls-handing, calls-handing-last}
 use Rattle.spec_calls.proofs.Types.{row, Entry}
 use Rattle.search_loops.proofs.Values.{cell, candidate, state, fate, cover-cursor, left-fits, right-fits}
-use Rattle.search_loops.proofs.Callees.{to-form, to-find, to-fate, to-settle, to-advance}
+use Rattle.search_loops.proofs.Callees.{to-form, to-find, to-fate, to-insert, to-advance}
 use Rattle.search_loops.proofs.run.Key.{name as #run}
 use Rattle.search_loops.proofs.run as f
 use Rattle.search_loops.proofs.run.Statement as stated
@@ -87,7 +87,7 @@ abbrev callees : List Callee
 callees =
     callee form.ended (λ M. form.clauses) form-def.name form-def.routine (λ M. form-thm.met) ∷ callee find.ended (λ M. find.clauses) find-def.name find-def.routine (λ M. find-thm.met)
     ∷ callee fate-of.ended (λ M. fate-of.clauses) fate-def.name fate-def.routine (λ M. fate-thm.met)
-    ∷ callee settle.ended (λ M. settle.clauses) settle-def.name settle-def.routine (λ M. settle-thm.met) ∷ callee advance.ended (λ M. advance.clauses) advance-def.name advance-def.routine (λ M. advance-thm.met) ∷ []
+    ∷ callee insert.ended (λ M. insert.clauses) insert-def.name insert-def.routine (λ M. insert-thm.met) ∷ callee advance.ended (λ M. advance.clauses) advance-def.name advance-def.routine (λ M. advance-thm.met) ∷ []
 
 abbrev it : Function
 it = record { lifetimes = 4; outlives = []; params = ps; result = f.signature .result; clauses = f.clauses; callees = callees; mir = code.function }
@@ -137,11 +137,11 @@ module _ {M : Type 1} (𝓤 : URA M) (H : Heap 𝓤) (A : Atoms 𝓤) (W : Given
   off : (x : X) {i : ℕ} → i < length (x .j) → i * mem (RowOf row) .size < 2 ^ 64
   off x {i} l = offset-fits (RowOf row) j-room (subst (λ (n : ℕ). i < n) (x .even) l)
 
-  -- after a turn at x: the candidate c is formed, looked for, settled, and left behind
-  module _ (x : X) (y : T (x .s .going)) (c : Candidate) (h : candidateOf c ≡ formedIn letters rules (x .s) (getD (x .j) (x .s .left) blank) (getD (x .j) (x .s .right) blank)) (l : CoverCursor) (h₁ : CoverFound (x .s) c (x .j) (x .t) l) (w : Fate) (hw : w ≡ fateFor (x .s) c (l .covers)) (j : Journal) (t : List ℕ)
-      (h₂ : Settled (x .s .terms .pass) (candidateOf c) (x .s .counts .used) l (x .j) (x .t) j t) where
+  -- after a turn at x: the candidate c is formed, looked for, inserted or not, and left behind
+  module _ (x : X) (y : T (x .s .going)) (c : Candidate) (h : candidateOf c ≡ formedIn letters rules (x .s) (getD (x .j) (x .s .«left_row») blank) (getD (x .j) (x .s .«right_row») blank)) (l : CoverCursor) (h₁ : CoverFound (x .s) c (x .j) (x .t) l) (w : Fate) (hw : w ≡ fateFor (x .s) c (l .covers)) (j : Journal) (t : List ℕ)
+      (h₂ : Inserted (x .s .terms .pass) (candidateOf c) (x .s .counts .used) l (x .j) (x .t) j t) where
     considered : Considered letters rules s₀ j₀ (x .s) c w l j t
-    considered = record { before = x .j; table = x .t; running = x .running; going = y; formed = h; found = h₁; fate = hw; settled = h₂ }
+    considered = record { before = x .j; table = x .t; running = x .running; going = y; formed = h; found = h₁; fate = hw; inserted = h₂ }
 
     module _ (r : State) (t′ : List ℕ) (h₃ : Advances rules t (x .s) w l t′ r) where
       advanced : Running letters rules s₀ j₀ r j t′ × (candidatesLeft r < candidatesLeft (x .s))
@@ -175,14 +175,14 @@ module _ {M : Type 1} (𝓤 : URA M) (H : Heap 𝓤) (A : Atoms 𝓤) (W : Given
           -- the two rows
           sets ! (of-opd ! (field-of ! 52 refl refl refl)) (init ! 50 refl (tt, record { fits = left-fits (x .s) (x .s-is) })) $
           points ! (mem (RowOf row) .size) tt (off x i) (its ! 50 refl) (init ! 32 refl (tt, record { fits = off x i })) (field-of ! 62 refl refl refl) (its ! 32 refl) (init ! 30 refl (tt, tt)) $
-          elem-read (RowOf row) J (val row) (tells row) (x .j) (x .s .left) i blank ! (behind ! 31 0 refl refl) (λ is. init ! 29 refl (typed row 𝓤 H A W _ is)) (λ l-is.
+          elem-read (RowOf row) J (val row) (tells row) (x .j) (x .s .«left_row») i blank ! (behind ! 31 0 refl refl) (λ is. init ! 29 refl (typed row 𝓤 H A W _ is)) (λ l-is.
           sets ! (of-opd ! (its ! 28 refl)) (init ! 48 refl (typed row 𝓤 H A W _ l-is)) $
           sets ! (of-opd ! (field-of ! 52 refl refl refl)) (init ! 46 refl (tt, record { fits = right-fits (x .s) (x .s-is) })) $
           points ! (mem (RowOf row) .size) tt (off x i′) (its ! 46 refl) (store ! 32 refl (tt, record { fits = off x i′ })) (field-of ! 62 refl refl refl) (its ! 32 refl) (init ! 26 refl (tt, tt)) $
-          elem-read (RowOf row) J (val row) (tells row) (x .j) (x .s .right) i′ blank ! (behind ! 27 0 refl refl) (λ is. store ! 29 refl (typed row 𝓤 H A W _ is)) (λ r-is.
+          elem-read (RowOf row) J (val row) (tells row) (x .j) (x .s .«right_row») i′ blank ! (behind ! 27 0 refl refl) (λ is. store ! 29 refl (typed row 𝓤 H A W _ is)) (λ r-is.
           sets ! (of-opd ! (its ! 28 refl)) (init ! 44 refl (typed row 𝓤 H A W _ r-is)) $
           -- the candidate is formed
-          move ! (2 ∷ 3 ∷ []) $ calls-handing ! fm (known .0) (to-form 𝓤 H A mem′ run (x .s) (x .s-is) Y U letters rules (may-form (x .running) y) (getD (x .j) (x .s .left) blank) l-is (getD (x .j) (x .s .right) blank) r-is)
+          move ! (2 ∷ 3 ∷ []) $ calls-handing ! fm (known .0) (to-form 𝓤 H A mem′ run (x .s) (x .s-is) Y U letters rules (may-form (x .running) y) (getD (x .j) (x .s .«left_row») blank) l-is (getD (x .j) (x .s .«right_row») blank) r-is)
           (λ cs. and-then ! (its ! 56 refl) (and-then ! (its ! 54 refl) (and-then ! (its ! 50 refl) (and-then ! (its ! 46 refl) (and-then ! (its ! 42 refl) (no-more !)))))) (λ cs c ws h c-is _.
           land ! (from ! (stop !)) (init ! 42 refl (typed candidate 𝓤 H A W c c-is)) $ move ! (2 ∷ 3 ∷ []) $
           -- looked for
@@ -194,9 +194,9 @@ module _ {M : Type 1} (𝓤 : URA M) (H : Heap 𝓤) (A : Atoms 𝓤) (W : Given
           sets ! (of-opd ! (field-of ! 40 refl refl refl)) (init ! 38 refl (tt, tt)) $
           calls-handing ! fm (known .1 .1 .0) (to-fate 𝓤 H A mem′ run (x .s) (x .s-is) c c-is (l .covers)) (λ cs. and-then ! (its ! 52 refl) (and-then ! (its ! 42 refl) (and-then ! (its ! 38 refl) (no-more !)))) (λ cs w ws hw w-is _.
           land ! (from ! (stop !)) (init ! 36 refl (typed fate 𝓤 H A W w w-is)) $
-          -- settled
+          -- inserted
           relends ! 62 14 12 refl refl refl tt refl refl refl tt (j-room .0) $ relends ! 60 10 8 refl refl refl tt refl refl refl tt (t-room .0) $
-          calls-handing ! fm (known .1 .1 .1 .0) (to-settle 𝓤 H A mem′ run (x .s) (x .s-is) c c-is J P (x .j) (x .even) (x .t) (x .long) w w-is l l′-is (may-settle (x .running) y h₁ hw))
+          calls-handing ! fm (known .1 .1 .1 .0) (to-insert 𝓤 H A mem′ run (x .s) (x .s-is) c c-is J P (x .j) (x .even) (x .t) (x .long) w w-is l l′-is (may-insert (x .running) y h₁ hw))
           (λ cs. and-then ! (its ! 10 refl) (and-then ! (its ! 6 refl) (and-then ! (its ! 50 refl) (and-then ! (its ! 40 refl) (and-then ! (its ! 34 refl) (and-then ! (its ! 38 refl) (no-more !))))))) (λ cs u ws h₂ u-is long.
           land ! (from ! (stop !)) (init ! 16 refl (tt, tt)) $
           -- and left behind
@@ -221,4 +221,4 @@ walk M 𝓤 H A W mem′ run 𝓣 known κs qs bounds a g are = needs 𝓤 (Runn
 
 pub run-spec : {M : Type 1} → stated.statement M
 unfolding code.routine tablesOf
-run-spec 𝓤 H 𝓜 𝓖 𝓡 = walked-asking it 𝓤 H 𝓜 𝓖 𝓡 code.env #run (code.unfolded 𝓤 H 𝓜 𝓡) (code.calls-search-rows·form, (code.calls-search-loops·find, (code.calls-search-rows·fate, (code.calls-search-loops·settle, (code.calls-search-passes·advance, tt))))) walk
+run-spec 𝓤 H 𝓜 𝓖 𝓡 = walked-asking it 𝓤 H 𝓜 𝓖 𝓡 code.env #run (code.unfolded 𝓤 H 𝓜 𝓡) (code.calls-search-rows·form, (code.calls-search-loops·find, (code.calls-search-rows·fate, (code.calls-search-loops·insert, (code.calls-search-passes·advance, tt))))) walk

@@ -16,7 +16,7 @@ go-on-requires c κs =
     let u = decided-used (s .args .state) (s .args .fate) (s .pre .full) (s .pre .room) (s .pre .limit) in
     record {
       opens = record {
-        table = c .before .before .before .before .before .before .before .note .ensures .size ∙ s .pre .note .table;
+        table = c .before .before .before .before .before .before .before .remember-hint .ensures .size ∙ s .pre .remember .table;
         count = s .pre .count;
         used = subst (λ (n : ℕ). n ≤ rowCells) (ap (λ (z : Outcome). countsIn z .used) (sym (o .ensures) ∙ c .before .before .outcome .given .1)) u;
       };
@@ -25,7 +25,7 @@ go-on-requires c κs =
 
 returns : tie.Need-returns
 returns c letters start j₀ j d x =
-    going-running x _ (c .before .before .before .before .before .before .before .before .before .before .note .ensures) (sym (c .before .before .before .before .before .outcome .given .1) ∙ c .before .before .before .before .before .before .before .decide .ensures ∙ decided-so x) (c .before .before .go-on .ensures)
+    going-running x _ (c .before .before .before .before .before .before .before .before .before .before .remember-hint .ensures) (sym (c .before .before .before .before .before .outcome .given .1) ∙ c .before .before .before .before .before .before .before .decide .ensures ∙ decided-so x) (c .before .before .go-on .ensures)
 
 returns-2 : tie.Need-returns-2
 returns-2 c letters start j₀ j d x =

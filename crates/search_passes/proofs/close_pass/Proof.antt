@@ -1,5 +1,5 @@
 -- `search_passes::close_pass` meets its contract: the last pass, or one more. Assumes nothing.
-use mathlib.Core.Path.{_≡_, refl, sym, ap, subst}
+use mathlib.Core.Path.{_≡_, refl, sym, ap, _∙_, subst}
 use Prim.Native.Nat.{_+_}
 use native.Mathlib.Nat.{le-refl}
 use native.Mathlib.Omega.{arith}
@@ -13,6 +13,7 @@ use Rattle.search_laws.specs.Walks.{passIn}
 use Rattle.search_laws.specs.declared.Outcome.the-variants.{Going}
 use Rattle.search_laws.specs.Problems.{withRules}
 use Rattle.search_laws.specs.RunningLaws.{onward-from, close-last, close-again, close-known}
+use Rattle.search_state.specs.NextPass.{nextPass}
 use Rattle.search_state.specs.declared.Terms.{Terms}
 use Rattle.search_passes.proofs.close_pass.Statement.{statement}
 use Rattle.search_passes.proofs.close_pass.Tie as tie
@@ -41,7 +42,7 @@ returns-2 c P B j₀ first j₁ j z rows y h x g =
     rw (c .stand-or-finish .ensures)
     (onward-from Q B j₀ st rows n (le-refl (w .joins))
     (c .before .before .before .open-pass .ensures P B j₀ j (y .pass + 1) (first .used) st refl z rows (close-again Q B j₀ st rows n (y .at-pass) (y .before) h gave more)
-    (ap (λ (b : Terms). record { budget = b .budget; finals = b .finals; pass = b .pass + 1; start = w .used; before = b .start }) (y .terms))
+    (c .before .before .before .before .before .next-pass .ensures ∙ ap (λ (b : Terms). nextPass b (w .used)) (y .terms))
     (omega (arith, y .at-pass .room, z .limit)) (close-known Q B j₀ st rows n (y .at-pass) (y .before) h gave more (z .limit)) g))
 
 pub close-pass-spec : {M : Type 1} → statement M

@@ -8,7 +8,7 @@ use lib.Seq.{length-take-le}
 use borrow.Author.Needs.{needs}
 use Rattle.search_order.specs.Lists.{end, afterIn}
 use Rattle.search_order.specs.Places.{NextPlace}
-use Rattle.search_laws.specs.NoteLaws.{lent-lists}
+use Rattle.search_laws.specs.HintLaws.{lent-lists}
 use Rattle.search_skip.proofs.next_row_in.Statement.{statement}
 use Rattle.search_skip.proofs.next_row_in.Tie as tie
 

@@ -49,7 +49,7 @@ use Rattle.search_rows.proofs.compare.Met as compare-thm
 use Rattle.search_rows.proofs.replacement as replacement
 use Rattle.search_rows.proofs.replacement.Symbol as replacement-def
 use Rattle.search_rows.proofs.replacement.Met as replacement-thm
-use Rattle.search_retire.specs.Clearing.{InClearing, Settled, clearsLeft}
+use Rattle.search_retire.specs.Clearing.{InClearing, Inserted, clearsLeft}
 use Rattle.search_retire.specs.ClearLaws.{clearing-at, clearing-may, clearing-done, clears-begun, clears-stepped}
 use Rattle.search_retire.specs.Steps.{begun as begunAt, stepped, linksAfter}
 use Rattle.search_retire.proofs.begin as retire-begin
@@ -58,7 +58,7 @@ use Rattle.search_retire.proofs.begin.Met as retire-begin-thm
 use Rattle.search_retire.proofs.step as retire-step
 use Rattle.search_retire.proofs.step.Symbol as retire-step-def
 use Rattle.search_retire.proofs.step.Met as retire-step-thm
-use Rattle.search_laws.specs.Running.{MaySettle}
+use Rattle.search_laws.specs.Running.{MayInsert}
 use Rattle.walk_kit.proofs.Closing.{locals-of, keeping, closing}
 use Rattle.walk_kit.proofs.Parameters.{Param, lent, datum, stays, spells, typed-all}
 use Rattle.walk_kit.proofs.Functions.{Callee, callee, Function, Knows, WalkAsking, walked-asking}
@@ -73,11 +73,11 @@ use Rattle.walk_kit.proofs.Handing.{calls-handing, calls-handing-last}
 use Rattle.spec_calls.proofs.Types.{row}
 use Rattle.search_loops.proofs.Values.{cell, candidate, state, comparison, fate, cover-cursor, retire-cursor, head-fits, retire-row-fits}
 use Rattle.search_loops.proofs.Callees.{Compared, to-compare, to-replacement, to-retire-begin, to-retire-step}
-use Rattle.search_loops.proofs.settle.Key.{name as #settle}
-use Rattle.search_loops.proofs.settle as f
-use Rattle.search_loops.proofs.settle.Statement as stated
-use Rattle.search_loops.proofs.settle.Code as code
-use Rattle.search_loops.proofs.settle.Code.Mir as code-mir
+use Rattle.search_loops.proofs.insert.Key.{name as #insert}
+use Rattle.search_loops.proofs.insert as f
+use Rattle.search_loops.proofs.insert.Statement as stated
+use Rattle.search_loops.proofs.insert.Code as code
+use Rattle.search_loops.proofs.insert.Code.Mir as code-mir
 
 abbrev ps : List (Param 2)
 ps = lent 0 tt (plain (λ _. RowOf row)) ∷ lent 1 tt (plain (λ _. cell)) ∷ datum state (λ x f. refl) ∷ datum candidate (λ x f. refl) ∷ datum fate (λ x f. refl) ∷ datum cover-cursor (λ x f. refl) ∷ []
@@ -93,7 +93,7 @@ abbrev it : Function
 it = record { lifetimes = 2; outlives = []; params = ps; result = f.signature .result; clauses = f.clauses; callees = callees; mir = code.function }
 
 module _ {M : Type 1} (𝓤 : URA M) (H : Heap 𝓤) (A : Atoms 𝓤) (W : Given 𝓤 H A) (mem′ : Memory → SProp 𝓤) (run : Routine → Fun 𝓤) (J P : Loan) (j₀ : Journal) (t₀ : List ℕ) (s : State) (c : Candidate) (w : Fate) (l : CoverCursor)
-    (j-room : Room (RowOf row) (length j₀)) (t-room : Room cell (length t₀)) (s-is : Means state s) (c-is : Means candidate c) (w-is : Means fate w) (l-is : Means cover-cursor l) (may : MaySettle s c w l j₀ t₀) where
+    (j-room : Room (RowOf row) (length j₀)) (t-room : Room cell (length t₀)) (s-is : Means state s) (c-is : Means candidate c) (w-is : Means fate w) (l-is : Means cover-cursor l) (may : MayInsert s c w l j₀ t₀) where
   -- J and P: how the journal and the table are lent
   abbrev x₀ : Bound 𝓤 H A f.signature
   x₀ = (
@@ -115,7 +115,7 @@ module _ {M : Type 1} (𝓤 : URA M) (H : Heap 𝓤) (A : Atoms 𝓤) (W : Given
   abbrev Within : RetireCursor → Journal → List ℕ → Type 0
   Within = InClearing (s .terms .pass) (candidateOf c) (s .counts .used) l j₀ t₀
 
-  exits : (j : Journal) (t : List ℕ) → length j ≡ length j₀ → length t ≡ length t₀ → Settled (s .terms .pass) (candidateOf c) (s .counts .used) l j₀ t₀ j t → ent 𝓤 (⋆ 𝓤 H A (Holds j t [])) (Post vunit)
+  exits : (j : Journal) (t : List ℕ) → length j ≡ length j₀ → length t ≡ length t₀ → Inserted (s .terms .pass) (candidateOf c) (s .counts .used) l j₀ t₀ j t → ent 𝓤 (⋆ 𝓤 H A (Holds j t [])) (Post vunit)
   exits j t ej et h =
       let vs = value state s s-is ∷ value candidate c c-is ∷ value fate w w-is ∷ value cover-cursor l l-is ∷ [] in
       qed W (Holds j t []) ∵
@@ -221,12 +221,12 @@ module _ {M : Type 1} (𝓤 : URA M) (H : Heap 𝓤) (A : Atoms 𝓤) (W : Given
           land ! (from ! (stop !)) (init ! 28 refl (typed retire-cursor 𝓤 H A W r is)) $ move ! (1 ∷ []) $ keeping ! En 2 8 refl $ loops-from W 𝓣 En Post left Inv code-mir.turn-1 code-mir.t-5 turn-at (begun r is h))
 
 walk : WalkAsking it
-walk M 𝓤 H A W mem′ run 𝓣 known κs qs bounds a g are = needs 𝓤 (MaySettle (a .1 .1 .0) (a .1 .1 .1 .0) (a .1 .1 .1 .1 .0) (a .1 .1 .1 .1 .1 .0) (now (a .0)) (now (a .1 .0))) _ (λ may.
+walk M 𝓤 H A W mem′ run 𝓣 known κs qs bounds a g are = needs 𝓤 (MayInsert (a .1 .1 .0) (a .1 .1 .1 .0) (a .1 .1 .1 .1 .0) (a .1 .1 .1 .1 .1 .0) (now (a .0)) (now (a .1 .0))) _ (λ may.
     qed W (raw (alive 𝓤 H A f.signature κs qs) ∷ ‵ (owns (typesAt (f.signature .params) κs) a (valss (typesAt (f.signature .params) κs) (spells ps κs) a)) ∷ []) ∵ takes ! 1 κs qs $ takes ! 0 (κs .1) (qs .1) $ drop ! $ drop ! $ move ! (1 ∷ []) $
     entering ! (𝓣 .C) (𝓣 .Λ) code.function _ (typed-all ps 𝓤 H A W κs a are) (λ bs. move ! (42 ∷ 43 ∷ []) $
     begins 𝓤 H A W mem′ run (loan-of (κs .0) (qs .0) (a .0)) (loan-of (κs .1 .0) (qs .1 .0) (a .1 .0)) (now (a .0)) (now (a .1 .0)) (a .1 .1 .0) (a .1 .1 .1 .0) (a .1 .1 .1 .1 .0) (a .1 .1 .1 .1 .1 .0)
     (are .0 .0 .1) (are .1 .0 .0 .1) (are .1 .1 .0) (are .1 .1 .1 .0) (are .1 .1 .1 .1 .0) (are .1 .1 .1 .1 .1 .0) may 𝓣 known bs))
 
-pub settle-spec : {M : Type 1} → stated.statement M
+pub insert-spec : {M : Type 1} → stated.statement M
 unfolding code.routine tablesOf
-settle-spec 𝓤 H 𝓜 𝓖 𝓡 = walked-asking it 𝓤 H 𝓜 𝓖 𝓡 code.env #settle (code.unfolded 𝓤 H 𝓜 𝓡) (code.calls-search-retire·begin, (code.calls-search-rows·compare, (code.calls-search-rows·replacement, (code.calls-search-retire·step, tt)))) walk
+insert-spec 𝓤 H 𝓜 𝓖 𝓡 = walked-asking it 𝓤 H 𝓜 𝓖 𝓡 code.env #insert (code.unfolded 𝓤 H 𝓜 𝓡) (code.calls-search-retire·begin, (code.calls-search-rows·compare, (code.calls-search-rows·replacement, (code.calls-search-retire·step, tt)))) walk

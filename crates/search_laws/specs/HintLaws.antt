@@ -8,18 +8,18 @@ use lib.Seq.{drop-set-lt, take-all}
 use Rattle.search_order.specs.Lists.{heads, headCell}
 use Rattle.search_links.specs.Covers.{listsFrom, listsIn}
 use Rattle.search_links.specs.CoverLaws.{covering-hint}
-use Rattle.search_laws.specs.Running.{Notes}
+use Rattle.search_laws.specs.Running.{Remembers}
 
-pub notes-none : (t : List ℕ) → Notes t t
-notes-none t = record { size = refl; lists = refl; covering = λ rows l g. g }
+pub remembers-none : (t : List ℕ) → Remembers t t
+remembers-none t = record { size = refl; lists = refl; covering = λ rows l g. g }
 
-pub notes-one : (t : List ℕ) (cell v : ℕ) → headCell heads ≤ cell → cell < listsFrom → Notes t (set t cell v)
-notes-one t cell v a b = record { size = length-set t cell v; lists = drop-set-lt listsFrom t cell v b; covering = λ rows l g. covering-hint rows t cell v a l g }
+pub remembers-one : (t : List ℕ) (cell v : ℕ) → headCell heads ≤ cell → cell < listsFrom → Remembers t (set t cell v)
+remembers-one t cell v a b = record { size = length-set t cell v; lists = drop-set-lt listsFrom t cell v b; covering = λ rows l g. covering-hint rows t cell v a l g }
 
-pub notes-two : (t : List ℕ) (cell slot v : ℕ) → headCell heads ≤ cell → cell < listsFrom → headCell heads ≤ slot → slot < listsFrom → Notes t (set (set t cell v) slot v)
-notes-two t cell slot v a b c d =
-    let x = notes-one t cell v a b in
-    let y = notes-one (set t cell v) slot v c d in
+pub remembers-two : (t : List ℕ) (cell slot v : ℕ) → headCell heads ≤ cell → cell < listsFrom → headCell heads ≤ slot → slot < listsFrom → Remembers t (set (set t cell v) slot v)
+remembers-two t cell slot v a b c d =
+    let x = remembers-one t cell v a b in
+    let y = remembers-one (set t cell v) slot v c d in
     record { size = y .size ∙ x .size; lists = y .lists ∙ x .lists; covering = λ rows l g. y .covering rows l (x .covering rows l g) }
 
 -- the last part of the table, as it is lent

@@ -6,7 +6,7 @@ ghost use Rattle.spec_file.specs.Reading.{stretch};
 ghost use Rattle.spec_file.specs.Refusals.{fault};
 ghost use Rattle.spec_file.specs.Walk.{rulesIn, transitionsIn, refusalIn};
 ghost use Rattle.file_reader.specs.Answers.{stepOf};
-ghost use Rattle.file_whole.specs.Given.{givesRecord, rulesGiven, transitionsGiven};
+ghost use Rattle.file_whole.specs.Given.{begun, givesRecord, rulesGiven, transitionsGiven};
 use file_reader::Reader;
 use file_reader::Step;
 use spec_file::Record;
@@ -51,6 +51,18 @@ struct Tally {
     refusal: Refusal,
 }
 
+// Returns the tally before the first record.
+fn begin() -> Tally
+    ensures { λ x. ⌜ x ≡ begun ⌝ }
+{
+    Tally {
+        going: true,
+        rules: 0,
+        transitions: 0,
+        refusal: Refusal::none(),
+    }
+}
+
 // Returns the tally `t` after the step `s`: a record is counted by its kind, and anything else stops the walk.
 fn tallied(t: Tally, s: Step) -> Tally
     requires { ⌜ (t .rules + rulesGiven (stepOf s) < 2 ^ 64) × (t .transitions + transitionsGiven (stepOf s) < 2 ^ 64) ⌝ }
@@ -79,15 +91,7 @@ pub fn file_refusal(file: &[u8]) -> Refusal
     ensures { λ x. ⌜ refusalOf x ≡ fault (now (file .entry)) ⌝ }
 {
     let mut r = Reader::new(file);
-    let mut t = Tally {
-        going: true,
-        rules: 0,
-        transitions: 0,
-        refusal: Refusal {
-            number: 0,
-            place: 0,
-        },
-    };
+    let mut t = begin();
     while t.going {
         let s = r.step_after(t.rules, t.transitions);
         r = r.moved(s);

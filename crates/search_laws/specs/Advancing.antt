@@ -19,9 +19,8 @@ use Rattle.search_rows.specs.Base as order
 use Rattle.search_rows.specs.Forming.{formedBy, entryAt, amongFirst}
 use Rattle.search_rows.specs.Meanings.{candidateOf}
 use Rattle.search_rows.specs.declared.Candidate.{Candidate}
-use Rattle.search_order.specs.Lists.{rowCells, rowAtPosition, Listed}
-use Rattle.search_order.specs.Places as places
-use Rattle.search_links.specs.Covers.{tableCells, listsIn, Covering}
+use Rattle.search_order.specs.Lists.{rowCells, rowAtPosition}
+use Rattle.search_links.specs.Covers.{tableCells, Covering}
 use Rattle.search_links.specs.Rows.{firstRows}
 use Rattle.search_links.specs.RowLaws.{rows-length, among-row}
 use Rattle.search_retire.specs.Clearing.{ClearingEnd as Ending}
@@ -43,7 +42,7 @@ use Rattle.search_laws.specs.Running.{problemAt, target, Goes, SearchAt,
 use Rattle.search_laws.specs.RunLaws.{started, stands-on, goes-on, sized, used-fits, limit}
 use Rattle.search_laws.specs.RunningLaws.{stops}
 use Rattle.search_laws.specs.States.{stoppedIn}
-use Rattle.search_laws.specs.Passing.{InPass, pass-stopped, pass-going}
+use Rattle.search_laws.specs.Passing.{pass-stopped, pass-going}
 use Rattle.search_laws.specs.Remaining.{EndsFrom}
 use Rattle.search_laws.specs.Walks.{considerIn, passIn}
 use Rattle.search_laws.specs.declared.Answer.the-variants as answer
@@ -188,7 +187,7 @@ module _ {letters : Letters} {rules : RuleBytes} {start : State} {j₀ : Journal
   stopped-right : (o : Outcome) → EndsFrom o → Right o → Answers (start .terms .budget) (passIn (termsOf P (start .terms .budget) (go .begun .pass) (go .first .used) (go .begun .before)) P (go .first) (go .journal)) (go .first) (go .journal) j o
   stopped-right o e a =
       subst (λ (b : Terms). Answers (b .budget) (passIn b P (go .first) (go .journal)) (go .first) (go .journal) j o) (go .begun .terms)
-      (pass-stopped (s .terms) P (listsIn (x .table)) (go .first) (go .journal) (go .listed) (go .in-pass) (go .here) formed-there (x .inserted .size) (a .0) e)
+      (pass-stopped (go .in-pass) (go .here) formed-there (x .inserted .size) (a .0) e)
 
   pass-is : s .terms .pass ≡ go .begun .pass
   pass-is = ap (λ (b : Terms). b .pass) (go .begun .terms)
@@ -253,15 +252,11 @@ module _ {letters : Letters} {rules : RuleBytes} {start : State} {j₀ : Journal
   pub going-running : (tn : List ℕ) → Remembers t tn → {w : Counts} → outcome.Going w ≡ became → {t′ : List ℕ} {r : State} → GoesOn rules tn s w t′ r → Running letters rules start j₀ r j t′ × (candidatesLeft r < candidatesLeft s)
   going-running tn nt {w} e {t′} {r} g =
       let a = decided-right in
-      let lists : listsIn tn ≡ listsIn (x .table) = nt .lists ∙ x .inserted .lists in
       let n : countsIn became .used ≤ rowCells = omega (arith, a .0 .room, limit (x .running) (x .going)) in
       let cov : Covering (firstRows (countsIn became .used) j) tn = nt .covering (firstRows (countsIn became .used) j) (omega (arith, n, rows-length (countsIn became .used) j (omega (arith, a .0 .room, x .inserted .size)))) (a .1) in
       let on : Onward P (start .terms .budget) j₀ w r j t′ =
       subst (λ (k : ℕ). GoesOnOver (take k rules) tn s w t′ r) rules-same g P (start .terms .budget) j₀ (go .first) (go .journal) j (sized (x .running) (x .going)) (stands-on (x .running) (x .going) .rows) (go .here) (go .begun)
-      (subst (λ (q : List ℕ). Listed (firstRows (go .first .used) (go .journal)) q) (sym lists) (go .listed))
-      (λ q f.
-      subst (λ (z : List ℕ). InPass (s .terms) P z (go .first) (go .journal) tn w j q) (sym lists)
-      (pass-going (s .terms) P (listsIn (x .table)) (go .first) (go .journal) (go .listed) (go .in-pass) (go .here) formed-there (x .inserted .size) (a .0) (sym e) cov (subst (λ (z : List ℕ). places.NextPlace z (P .rules) (s .place) q) lists f)))
+      (λ q f. pass-going (go .in-pass) (go .here) formed-there (x .inserted .size) (a .0) (sym e) (nt .lists ∙ x .inserted .lists) cov f)
       in
       let m : w .joins ≡ s .counts .joins + 1 = ap (λ (o : Outcome). countsIn o .joins) e ∙ joins-more in (
         resumes (on .stands),

@@ -27,14 +27,14 @@ use Rattle.search_rows.specs.Base as order
 use Rattle.search_rows.specs.Forming.{Part, none, some, rowChoice, symbolChoice, leftPart, rightPart, partChoice, combined, formedBy, entryAt}
 use Rattle.search_state.specs.declared.Place.{Place}
 use Rattle.search_order.specs.Lists.{rowAtPosition, Listed}
-use Rattle.search_order.specs.Places.{onward, LeftFrom, FirstPlace, NextPlace}
-use Rattle.search_links.specs.Covers.{Covering}
+use Rattle.search_order.specs.Places.{LeftFrom, FirstPlace, NextPlace}
+use Rattle.search_links.specs.Covers.{listsIn, Covering}
 use Rattle.search_links.specs.Rows.{firstRows}
 use Rattle.search_links.specs.RowLaws.{rows-length, rows-at}
 use Rattle.search_laws.specs.Meanings.{progressOf, countsIn, withJoin}
 use Rattle.search_laws.specs.Problems.{Letters, Problem, algebraOf, rulesIn, problemIn}
 use Rattle.search_laws.specs.ProblemLaws.{problem-laws}
-use Rattle.search_laws.specs.Walks.{considerIn, walkIn, candidatesIn, isBefore, repeatsAt, Known}
+use Rattle.search_laws.specs.Walks.{considerIn, walkIn, candidatesIn, passIn, isBefore, repeatsAt, Known}
 use Rattle.search_laws.specs.Contracts.{PassReady, Answers}
 use Rattle.search_laws.specs.Deciding.{answers-dropped}
 use Rattle.search_laws.specs.Remaining.{Remaining, EndsFrom, remaining-start, remaining-going, remaining-stopped, remaining-none}
@@ -61,11 +61,11 @@ kept-added k c A rows h =
     )
 
 -- a candidate that goes on is one join more, over the same rows or with one added
-consider-goes : (t : Terms) (J : ℕ) (P : order.Progress → Type 0) (c : order.Candidate) (s s′ : order.Progress) → going s′ ≡ considerIn t J c s
-    → P (record { rows = s .rows; joins = suc (s .joins) }) → P (record { rows = added contained (t .pass) c (s .rows); joins = suc (s .joins) }) → P s′
-consider-goes t J P c s s′ e p q =
+consider-goes : (b : Terms) (J : ℕ) (P : order.Progress → Type 0) (c : order.Candidate) (s s′ : order.Progress) → going s′ ≡ considerIn b J c s
+    → P (record { rows = s .rows; joins = suc (s .joins) }) → P (record { rows = added contained (b .pass) c (s .rows); joins = suc (s .joins) }) → P s′
+consider-goes b J P c s s′ e p q =
     subst (Post P R) (sym e)
-    (step-post (algebraOf (problemIn t [] [])) J (t .budget) (t .pass) P R c s (λ e₁. tt) (λ e₁ e₂. p) (λ e₁ e₂ e₃. tt) (λ e₁ e₂ e₃ e₄. tt) (λ e₁ e₂ e₃ e₄. q))
+    (step-post (algebraOf (problemIn b [] [])) J (b .budget) (b .pass) P R c s (λ e₁. tt) (λ e₁ e₂. p) (λ e₁ e₂ e₃. tt) (λ e₁ e₂ e₃ e₄. tt) (λ e₁ e₂ e₃ e₄. q))
   where
     R : Verdict → ℕ → order.Progress → Type 0
     R v i u = Unit
@@ -126,118 +126,124 @@ formed-repeats n letters x p l r e =
 
 -- ---- the loop
 
-module _ (t : Terms) (P : Problem) (lists : List ℕ) (w₀ : Counts) (j₀ : Journal) where
-  -- the rows that the pass begins with
-  abbrev first : List order.Row
-  first = firstRows (w₀ .used) j₀
+-- the invariant: the pass under the terms b, which began with the counts `first` over the journal j₁, is at the place p, with the counts w over
+-- the journal j and the table t
+pub record InPass (b : Terms) (P : Problem) (first : Counts) (j₁ : Journal) (t : List ℕ) (w : Counts) (j : Journal) (p : Place) : Type 0 where
+  -- the rows that the pass began with: the lists have those that were live, and all are kept
+  pub rows : List order.Row
+  pub listed : Listed rows (listsIn t)
+  pub kept : Kept rows (firstRows (w .used) j)
+  -- what is left of the pass: each points to these rows, or to none
+  pub candidates : List order.Candidate
+  pub stands : LeftFrom (P .letters) rows (listsIn t) (P .rules) p candidates
+  pub points : (c : order.Candidate) → In c candidates → Repeats (length rows) c
+  pub known : Known (b .«rows_at_previous_start») candidates (firstRows (w .used) j)
+  pub left : Remaining (b .budget) (passIn b P first j₁) (walkIn b (length j₁) candidates (progressOf w j)) first j₁ w j
+  pub limit : length j₁ ≤ journalLimit
+  pub covering : Covering (firstRows (w .used) j) t
 
-  abbrev whole : order.Outcome
-  whole = walkIn t (length j₀) (onward (P .letters) first lists (P .rules) 0) (progressOf w₀ j₀)
+pub pass-start : {b : Terms} {P : Problem} {first : Counts} {j₁ : Journal} {t : List ℕ} {p : Place} → Listed (firstRows (first .used) j₁) (listsIn t) → PassReady b first j₁ t
+    → Known (b .«rows_at_previous_start») (candidatesIn P (firstRows (first .used) j₁)) (firstRows (first .used) j₁) → FirstPlace (listsIn t) (P .rules) 0 p → InPass b P first j₁ t first j₁ p
+pass-start {b} {P} {first} {j₁} l r k o =
+    let A = firstRows (first .used) j₁ in
+    record {
+      rows = A;
+      listed = l;
+      kept = (le-refl (length A), λ i m. refl);
+      candidates = candidatesIn P A;
+      stands = o (P .letters) A l;
+      points = pass-points (algebraOf P) A (rulesIn P) 0;
+      known = k;
+      left = remaining-start (r .room) (r .paid);
+      limit = r .limit;
+      covering = r .covering;
+    }
 
-  -- the invariant
-  pub record InPass (covers : List ℕ) (w : Counts) (j : Journal) (p : Place) : Type 0 where
-    pub candidates : List order.Candidate
-    pub known : Known (t .«rows_at_previous_start») candidates (firstRows (w .used) j)
-    -- each points to rows that the pass began with, or to none
-    pub points : (c : order.Candidate) → In c candidates → Repeats (length first) c
-    pub limit : length j₀ ≤ journalLimit
-    pub stands : LeftFrom (P .letters) first lists (P .rules) p candidates
-    pub left : Remaining (t .budget) whole (walkIn t (length j₀) candidates (progressOf w j)) w₀ j₀ w j
-    pub kept : Kept first (firstRows (w .used) j)
-    pub covering : Covering (firstRows (w .used) j) covers
+module _ {b : Terms} {P : Problem} {first : Counts} {j₁ : Journal} {t : List ℕ} {w : Counts} {j : Journal} {p : Place} (g : InPass b P first j₁ t w j p) where
+  -- these candidates are left
+  abbrev Rest : List order.Candidate → Type 0
+  Rest cs = Remaining (b .budget) (passIn b P first j₁) (walkIn b (length j₁) cs (progressOf w j)) first j₁ w j
 
-  module _ (listed : Listed first lists) where
-    pub pass-start : (covers : List ℕ) (p : Place) → PassReady t w₀ j₀ covers → Known (t .«rows_at_previous_start») (candidatesIn P first) first → FirstPlace lists (P .rules) 0 p → InPass covers w₀ j₀ p
-    pass-start covers p r k o =
-        record {
-          candidates = onward (P .letters) first lists (P .rules) 0;
-          known = k;
-          points = pass-points (algebraOf P) first (rulesIn P) 0;
-          limit = r .limit;
-          stands = o (P .letters) first listed;
-          left = remaining-start (r .room) (r .paid);
-          kept = (le-refl (length first), λ i l. refl);
-          covering = r .covering;
-        }
+  pub pass-end : length (P .rules) ≤ p .rule → Answers (b .budget) (passIn b P first j₁) first j₁ j (Going w)
+  unfolding walk
+  pass-end h = by (g .candidates) (g .stands) (g .left)
+    where
+      by : (cs : List order.Candidate) → LeftFrom (P .letters) (g .rows) (listsIn t) (P .rules) p cs → Rest cs → Answers (b .budget) (passIn b P first j₁) first j₁ j (Going w)
+      by [] s l = remaining-none l
+      by (c ∷ cs) s l = absurd (omega (arith, h, s .0))
 
-    module _ {covers : List ℕ} {w : Counts} {j : Journal} {p : Place} (g : InPass covers w j p) where
-      pub pass-end : length (P .rules) ≤ p .rule → Answers (t .budget) whole w₀ j₀ j (Going w)
+  -- the candidate is formed from the used rows
+  module _ (h : p .rule < length (P .rules)) {c : order.Candidate} (e : c ≡ formedBy (P .letters) (entryAt (P .rules) (p .rule)) p (rowAtPosition (firstRows (w .used) j) (p .left)) (rowAtPosition (firstRows (w .used) j) (p .right))) where
+    -- the candidate is the first that is left
+    abbrev Next : order.Candidate → List order.Candidate → Type 0
+    Next d ds = (d ≡ c) × ((q : Place) → NextPlace (listsIn t) (P .rules) p q → LeftFrom (P .letters) (g .rows) (listsIn t) (P .rules) q ds)
+        × Rest (d ∷ ds)
+        × Known (b .«rows_at_previous_start») (d ∷ ds) (firstRows (w .used) j)
+        × ((f : order.Candidate) → In f (d ∷ ds) → Repeats (length (g .rows)) f)
+
+    few : w .used ≤ absent
+    few = omega (arith, g .left .room, g .limit)
+
+    next : (d : order.Candidate) × (ds : List order.Candidate) × Next d ds
+    next = by (g .candidates) (g .stands) (g .left) (g .known) (g .points)
+      where
+        by : (cs : List order.Candidate) → LeftFrom (P .letters) (g .rows) (listsIn t) (P .rules) p cs → Rest cs → Known (b .«rows_at_previous_start») cs (firstRows (w .used) j) → ((f : order.Candidate) → In f cs → Repeats (length (g .rows)) f) → (d : order.Candidate) × (ds : List order.Candidate) × Next d ds
+        by [] z l k m = absurd (z h)
+        by (d ∷ ds) z l k m = (
+          d,
+          ds,
+          (
+            z .1
+                ∙ sym (formed-same (g .rows) (w .used) j (omega (arith, g .left .room, g .left .same)) few (g .kept) (P .letters) (entryAt (P .rules) (p .rule)) p (subst (Repeats (length (g .rows))) (z .1) (m d (inl refl))))
+                ∙ sym e,
+            λ q f. f (P .letters) (g .rows) (g .listed) d ds z,
+            l,
+            k,
+            m,
+          ),
+        )
+
+    -- it would be dropped, if the pass before formed it
+    there : 0 < b .«rows_at_previous_start» → Repeats (b .«rows_at_previous_start») c → dropped contained c (firstRows (w .used) j) ≡ true
+    there z y = subst (λ (d : order.Candidate). dropped contained d (firstRows (w .used) j) ≡ true) (next .2 .0) (next .2 .3 z (next .0) (inl refl) (subst (Repeats (b .«rows_at_previous_start»)) (sym (next .2 .0)) y))
+
+    others : Known (b .«rows_at_previous_start») (next .1) (firstRows (w .used) j)
+    others z d m e = next .2 .3 z d (inr m) e
+
+    module _ {j′ : Journal} (s : length j′ ≡ length j) {r : Outcome} (a : Answers (b .budget) (considerIn b (length j) c (progressOf w j)) w j j′ r) where
+      -- it is taken, and the others are left
+      split : walkIn b (length j₁) (next .0 ∷ next .1) (progressOf w j) ≡ andThen (considerIn b (length j) c (progressOf w j)) (walkIn b (length j₁) (next .1))
       unfolding walk
-      pass-end h = by (g .candidates) (g .stands) (g .left)
-        where
-          by : (cs : List order.Candidate) → LeftFrom (P .letters) first lists (P .rules) p cs → Remaining (t .budget) whole (walkIn t (length j₀) cs (progressOf w j)) w₀ j₀ w j → Answers (t .budget) whole w₀ j₀ j (Going w)
-          by [] s l = remaining-none l
-          by (c ∷ cs) s l = absurd (omega (arith, h, s .0))
+      split = ap₂ (λ (n : ℕ) (d : order.Candidate). andThen (considerIn b n d (progressOf w j)) (walkIn b (length j₁) (next .1))) (sym (g .left .same)) (next .2 .0)
 
-      -- the candidate is formed from the used rows
-      module _ (h : p .rule < length (P .rules)) {c : order.Candidate} (e : c ≡ formedBy (P .letters) (entryAt (P .rules) (p .rule)) p (rowAtPosition (firstRows (w .used) j) (p .left)) (rowAtPosition (firstRows (w .used) j) (p .right))) where
-        -- the candidate is the first that is left
-        abbrev Next : order.Candidate → List order.Candidate → Type 0
-        Next d ds = (d ≡ c) × ((q : Place) → NextPlace lists (P .rules) p q → LeftFrom (P .letters) first lists (P .rules) q ds)
-            × Remaining (t .budget) whole (walkIn t (length j₀) (d ∷ ds) (progressOf w j)) w₀ j₀ w j
-            × Known (t .«rows_at_previous_start») (d ∷ ds) (firstRows (w .used) j)
-            × ((f : order.Candidate) → In f (d ∷ ds) → Repeats (length first) f)
+      pub pass-stopped : EndsFrom r → Answers (b .budget) (passIn b P first j₁) first j₁ j′ r
+      pass-stopped z = remaining-stopped (next .2 .2) (considerIn b (length j) c (progressOf w j)) (walkIn b (length j₁) (next .1)) split j′ s r z a
 
-        few : w .used ≤ absent
-        few = omega (arith, g .left .room, g .limit)
+      gone : {w′ : Counts} → r ≡ Going w′ → Answers (b .budget) (considerIn b (length j) c (progressOf w j)) w j j′ (Going w′)
+      gone z = subst (λ (o : Outcome). Answers (b .budget) (considerIn b (length j) c (progressOf w j)) w j j′ o) z a
 
-        next : (d : order.Candidate) × (ds : List order.Candidate) × Next d ds
-        next = by (g .candidates) (g .stands) (g .left) (g .known) (g .points)
-          where
-            by : (cs : List order.Candidate) → LeftFrom (P .letters) first lists (P .rules) p cs → Remaining (t .budget) whole (walkIn t (length j₀) cs (progressOf w j)) w₀ j₀ w j → Known (t .«rows_at_previous_start») cs (firstRows (w .used) j) → ((f : order.Candidate) → In f cs → Repeats (length first) f) → (d : order.Candidate) × (ds : List order.Candidate) × Next d ds
-            by [] z l k m = absurd (z h)
-            by (d ∷ ds) z l k m = (
-              d,
-              ds,
-              (
-                z .1
-                    ∙ sym (formed-same first (w .used) j (omega (arith, g .left .room, g .left .same)) few (g .kept) (P .letters) (entryAt (P .rules) (p .rule)) p (subst (Repeats (length first)) (z .1) (m d (inl refl))))
-                    ∙ sym e,
-                λ q f. f (P .letters) first listed d ds z,
-                l,
-                k,
-                m,
-              ),
-            )
+      -- the pass goes on at the next place, over a table with the same lists
+      pub pass-going : {w′ : Counts} → r ≡ Going w′ → {t′ : List ℕ} → listsIn t′ ≡ listsIn t → Covering (firstRows (countsIn r .used) j′) t′ → {q : Place} → NextPlace (listsIn t′) (P .rules) p q → InPass b P first j₁ t′ w′ j′ q
+      pass-going {w′} z {t′} u v {q} f =
+          let x = gone z in
+          record {
+            rows = g .rows;
+            listed = subst (Listed (g .rows)) (sym u) (g .listed);
+            kept = consider-goes b (length j) (λ y. Kept (g .rows) (y .rows)) c (progressOf w j) (progressOf w′ j′) (x .answer) (g .kept) (kept-added (b .pass) c (g .rows) (firstRows (w .used) j) (g .kept));
+            candidates = next .1;
+            stands = subst (λ (lists : List ℕ). LeftFrom (P .letters) (g .rows) lists (P .rules) q (next .1)) (sym u) (next .2 .1 q (subst (λ (lists : List ℕ). NextPlace lists (P .rules) p q) u f));
+            points = λ d m. next .2 .4 d (inr m);
+            known = consider-goes b (length j) (λ y. Known (b .«rows_at_previous_start») (next .1) (y .rows)) c (progressOf w j) (progressOf w′ j′) (x .answer) others (λ z d m e. dropped-added (algebraOf P) (problem-laws P) (b .pass) c d (firstRows (w .used) j) (others z d m e));
+            left = remaining-going (next .2 .2) (considerIn b (length j) c (progressOf w j)) (walkIn b (length j₁) (next .1)) split j′ s w′ x;
+            limit = g .limit;
+            covering = subst (λ (o : Outcome). Covering (firstRows (countsIn o .used) j′) t′) z v;
+          }
 
-        -- it would be dropped, if the pass before formed it
-        there : 0 < t .«rows_at_previous_start» → Repeats (t .«rows_at_previous_start») c → dropped contained c (firstRows (w .used) j) ≡ true
-        there z y = subst (λ (d : order.Candidate). dropped contained d (firstRows (w .used) j) ≡ true) (next .2 .0) (next .2 .3 z (next .0) (inl refl) (subst (Repeats (t .«rows_at_previous_start»)) (sym (next .2 .0)) y))
-
-        others : Known (t .«rows_at_previous_start») (next .1) (firstRows (w .used) j)
-        others z d m e = next .2 .3 z d (inr m) e
-
-        module _ {j′ : Journal} (s : length j′ ≡ length j) {r : Outcome} (a : Answers (t .budget) (considerIn t (length j) c (progressOf w j)) w j j′ r) where
-          -- it is taken, and the others are left
-          split : walkIn t (length j₀) (next .0 ∷ next .1) (progressOf w j) ≡ andThen (considerIn t (length j) c (progressOf w j)) (walkIn t (length j₀) (next .1))
-          unfolding walk
-          split = ap₂ (λ (n : ℕ) (d : order.Candidate). andThen (considerIn t n d (progressOf w j)) (walkIn t (length j₀) (next .1))) (sym (g .left .same)) (next .2 .0)
-
-          pub pass-stopped : EndsFrom r → Answers (t .budget) whole w₀ j₀ j′ r
-          pass-stopped z = remaining-stopped (next .2 .2) (considerIn t (length j) c (progressOf w j)) (walkIn t (length j₀) (next .1)) split j′ s r z a
-
-          gone : {w′ : Counts} → r ≡ Going w′ → Answers (t .budget) (considerIn t (length j) c (progressOf w j)) w j j′ (Going w′)
-          gone z = subst (λ (o : Outcome). Answers (t .budget) (considerIn t (length j) c (progressOf w j)) w j j′ o) z a
-
-          pub pass-going : {w′ : Counts} → r ≡ Going w′ → {covers′ : List ℕ} → Covering (firstRows (countsIn r .used) j′) covers′ → {q : Place} → NextPlace lists (P .rules) p q → InPass covers′ w′ j′ q
-          pass-going {w′} z {covers′} v {q} f =
-              let x = gone z in
-              record {
-                candidates = next .1;
-                known = consider-goes t (length j) (λ u. Known (t .«rows_at_previous_start») (next .1) (u .rows)) c (progressOf w j) (progressOf w′ j′) (x .answer) others (λ z d m e. dropped-added (algebraOf P) (problem-laws P) (t .pass) c d (firstRows (w .used) j) (others z d m e));
-                points = λ d m. next .2 .4 d (inr m);
-                limit = g .limit;
-                stands = next .2 .1 q f;
-                left = remaining-going (next .2 .2) (considerIn t (length j) c (progressOf w j)) (walkIn t (length j₀) (next .1)) split j′ s w′ x;
-                kept = consider-goes t (length j) (λ u. Kept first (u .rows)) c (progressOf w j) (progressOf w′ j′) (x .answer) (g .kept) (kept-added (t .pass) c first (firstRows (w .used) j) (g .kept));
-                covering = subst (λ (o : Outcome). Covering (firstRows (countsIn o .used) j′) covers′) z v;
-              }
-
-      -- a candidate that the pass before formed is one join, and nothing else
-      pub pass-over : p .rule < length (P .rules) → w .joins < t .budget → repeatsAt (t .«rows_at_previous_start») p ≡ true → {q : Place} → NextPlace lists (P .rules) p q
-          → InPass covers (withJoin w) j q
-      pass-over h paid e {q} f =
-          let c : order.Candidate = formedBy (P .letters) (entryAt (P .rules) (p .rule)) p (rowAtPosition (firstRows (w .used) j) (p .left)) (rowAtPosition (firstRows (w .used) j) (p .right)) in
-          let room : w .used ≤ length j = omega (arith, g .left .room, g .left .same) in
-          let z = formed-repeats (t .«rows_at_previous_start») (P .letters) (entryAt (P .rules) (p .rule)) p (rowAtPosition (firstRows (w .used) j) (p .left)) (rowAtPosition (firstRows (w .used) j) (p .right)) e in
-          pass-going h {c = c} refl refl (answers-dropped t c w j room (g .left .paid) (λ y. omega (arith, y, paid)) (there h {c = c} refl (z .0) (z .1))) refl (g .covering) f
+  -- a candidate that the pass before formed is one join, and nothing else
+  pub pass-over : p .rule < length (P .rules) → w .joins < b .budget → repeatsAt (b .«rows_at_previous_start») p ≡ true → {q : Place} → NextPlace (listsIn t) (P .rules) p q
+      → InPass b P first j₁ t (withJoin w) j q
+  pass-over h paid e {q} f =
+      let c : order.Candidate = formedBy (P .letters) (entryAt (P .rules) (p .rule)) p (rowAtPosition (firstRows (w .used) j) (p .left)) (rowAtPosition (firstRows (w .used) j) (p .right)) in
+      let room : w .used ≤ length j = omega (arith, g .left .room, g .left .same) in
+      let z = formed-repeats (b .«rows_at_previous_start») (P .letters) (entryAt (P .rules) (p .rule)) p (rowAtPosition (firstRows (w .used) j) (p .left)) (rowAtPosition (firstRows (w .used) j) (p .right)) e in
+      pass-going h {c = c} refl refl (answers-dropped b c w j room (g .left .paid) (λ y. omega (arith, y, paid)) (there h {c = c} refl (z .0) (z .1))) refl refl (g .covering) f

@@ -56,15 +56,15 @@ module _ (b : Terms) (n : ℕ) (x : Reached) (e : passesAt b n x ≡ true) where
 
 module _ (t : List ℕ) (b : Terms) (x : Reached) where
   pub rights-none : PassesRights t b x x
-  rights-none = record { counted = counted-refl x; done = λ P first j₁ j h e l k d. d }
+  rights-none = record { counted = counted-refl x; done = λ P first j₁ j h e l d. d }
 
   pub rights-next : (n i m : ℕ) → PassesRights t b x (withRight x n i) → m ≡ afterIn (listsIn t) i → m < b .«rows_at_previous_start» → n < b .budget → PassesRights t b x (withRight x (n + 1) m)
   rights-next n i m v em hm hn =
       record {
         counted = counted-trans (v .counted) (record { joins = omega arith; used = refl; added = refl });
-        done = λ P first j₁ j h e l k d q f.
-            pass-over b P (listsIn t) first j₁ k
-            (v .done P first j₁ j h e l k d (withRight x n m .place) (follows-right (listsIn t) (P .rules) (withRight x n i .place) m em (λ z. omega (arith, z, hm, l))))
+        done = λ P first j₁ j h e l d q f.
+            pass-over
+            (v .done P first j₁ j h e l d (withRight x n m .place) (follows-right (listsIn t) (P .rules) (withRight x n i .place) m em (λ z. omega (arith, z, hm, l))))
             h hn (again e) f;
       }
     where
@@ -80,10 +80,10 @@ module _ (t : List ℕ) (b : Terms) (x : Reached) where
 
 module _ (rules : RuleBytes) (t : List ℕ) (b : Terms) where
   pub over-none : (x : Reached) → PassesOver rules t b x x
-  over-none x = record { counted = counted-refl x; stands = λ P first j₁ j l k g. g }
+  over-none x = record { counted = counted-refl x; stands = λ P first j₁ j l g. g }
 
   pub over-more : {x y z : Reached} → PassesOver rules t b x y → PassesOver rules t b y z → PassesOver rules t b x z
-  over-more u v = record { counted = counted-trans (u .counted) (v .counted); stands = λ P first j₁ j l k g. v .stands P first j₁ j l k (u .stands P first j₁ j l k g) }
+  over-more u v = record { counted = counted-trans (u .counted) (v .counted); stands = λ P first j₁ j l g. v .stands P first j₁ j l (u .stands P first j₁ j l g) }
 
   -- the candidate of the place, and then the rights after it
   pub over-left : (x r : Reached) (q : Place) → passesAt b (length rules) x ≡ true → PassesRights t b (withRight x (x .counts .joins + 1) (x .place .right)) r → NextPlace (listsIn t) rules (r .place) q
@@ -94,7 +94,7 @@ module _ (rules : RuleBytes) (t : List ℕ) (b : Terms) where
       let again = passes-again b (length rules) x e in (
         record {
           counted = record { joins = omega (arith, v .counted .joins); used = v .counted .used; added = v .counted .added };
-          stands = λ P first j₁ j l k g. v .done (withRules P rules) first j₁ j here again l k (λ p z. pass-over b (withRules P rules) (listsIn t) first j₁ k g here paid again z) q f;
+          stands = λ P first j₁ j l g. v .done (withRules P rules) first j₁ j here again l (λ p z. pass-over g here paid again z) q f;
         },
         omega (arith, v .counted .joins),
       )

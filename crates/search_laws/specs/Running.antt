@@ -13,7 +13,7 @@ use Rattle.search_rows.specs.Forming.{formedIn}
 use Rattle.search_rows.specs.Meanings.{candidateOf}
 use Rattle.search_rows.specs.declared.Candidate.{Candidate}
 use Rattle.search_state.specs.declared.Place.{Place}
-use Rattle.search_order.specs.Lists.{rowCells, heads, headCell, Listed}
+use Rattle.search_order.specs.Lists.{rowCells, heads, headCell}
 use Rattle.search_order.specs.Places as places
 use Rattle.search_links.specs.Covers.{tableCells, listsFrom, listsIn, Covering}
 use Rattle.search_links.specs.Rows.{firstRows}
@@ -60,14 +60,13 @@ module _ (P : Problem) (B : ℕ) (j₀ : Journal) where
     pub known : Known before (candidatesIn P (firstRows (w .used) j)) (firstRows (w .used) j)
     pub terms : s .terms ≡ termsOf P B pass (w .used) before
 
-  -- the search is at a place of the pass: `first` and `journal` are the counts and the journal when the pass began, the lists are those of its
-  -- live rows, the candidates from the place on give the answer, and the budget leaves a join
+  -- the search is at a place of the pass: `first` and `journal` are the counts and the journal when the pass began, the candidates from the
+  -- place on give the answer, and the budget leaves a join
   pub record Goes (s : State) (j : Journal) (t : List ℕ) : Type 0 where
     pub first : Counts
     pub journal : Journal
     pub begun : PassBegun s first journal
-    pub listed : Listed (firstRows (first .used) journal) (listsIn t)
-    pub in-pass : InPass (s .terms) P (listsIn t) first journal t (s .counts) j (s .place)
+    pub in-pass : InPass (s .terms) P first journal t (s .counts) j (s .place)
     pub here : s .place .rule < length (P .rules)
     pub left : s .«left_row» ≡ positionRow (s .place .left) (s .counts .used)
     pub right : s .«right_row» ≡ positionRow (s .place .right) (s .counts .used)
@@ -184,8 +183,8 @@ pub record Onward (P : Problem) (B : ℕ) (j₀ : Journal) (w : Counts) (r : Sta
 -- ---- over what the pass before formed
 
 -- the candidate of x is done, with its counts: the invariant of the pass holds at the place after it
-abbrev pub DoneAt : Terms → Problem → List ℕ → Counts → Journal → Journal → Reached → Type 0
-DoneAt b P t first j₁ j x = (q : Place) → places.NextPlace (listsIn t) (P .rules) (x .place) q → InPass b P (listsIn t) first j₁ t (x .counts) j q
+abbrev pub DoneAt : Terms → Problem → Counts → Journal → List ℕ → Journal → Reached → Type 0
+DoneAt b P first j₁ t j x = (q : Place) → places.NextPlace (listsIn t) (P .rules) (x .place) q → InPass b P first j₁ t (x .counts) j q
 
 -- the candidate of x may be passed over: its rule is one of the n, the budget leaves a join, and the pass before formed it
 abbrev pub passesAt : Terms → ℕ → Reached → Bool
@@ -201,13 +200,13 @@ pub record JoinsAlone (x r : Reached) : Type 0 where
 pub record PassesRights (t : List ℕ) (b : Terms) (x r : Reached) : Type 0 where
   pub counted : JoinsAlone x r
   pub done : (P : Problem) (first : Counts) (j₁ j : Journal) → x .place .rule < length (P .rules) → repeatsAt (b .«rows_at_previous_start») (x .place) ≡ true
-      → b .«rows_at_previous_start» ≤ rowCells → Listed (firstRows (first .used) j₁) (listsIn t) → DoneAt b P t first j₁ j x → DoneAt b P t first j₁ j r
+      → b .«rows_at_previous_start» ≤ rowCells → DoneAt b P first j₁ t j x → DoneAt b P first j₁ t j r
 
 -- if the invariant of the pass holds at x, it holds at r: every candidate between them was passed over
 pub record PassesOver (rules : RuleBytes) (t : List ℕ) (b : Terms) (x r : Reached) : Type 0 where
   pub counted : JoinsAlone x r
-  pub stands : (P : Problem) (first : Counts) (j₁ j : Journal) → b .«rows_at_previous_start» ≤ rowCells → Listed (firstRows (first .used) j₁) (listsIn t)
-      → InPass b (withRules P rules) (listsIn t) first j₁ t (x .counts) j (x .place) → InPass b (withRules P rules) (listsIn t) first j₁ t (r .counts) j (r .place)
+  pub stands : (P : Problem) (first : Counts) (j₁ j : Journal) → b .«rows_at_previous_start» ≤ rowCells
+      → InPass b (withRules P rules) first j₁ t (x .counts) j (x .place) → InPass b (withRules P rules) first j₁ t (r .counts) j (r .place)
 
 -- ---- the steps between candidates
 
@@ -233,15 +232,13 @@ Closes rules t s w t′ r =
 abbrev pub GoesFrom : RuleBytes → List ℕ → State → Reached → List ℕ → State → Type 0
 GoesFrom rules t s x t′ r =
     (P : Problem) (B : ℕ) (j₀ : Journal) (first : Counts) (j₁ j : Journal) → let Q = withRules P (take (s .rules) rules) in InLimits Q B j₀ → s .rows ≡ length j₀ → PassBegun Q B j₀ s first j₁
-    → Listed (firstRows (first .used) j₁) (listsIn t) → InPass (s .terms) Q (listsIn t) first j₁ t (x .counts) j (x .place)
-    → Onward Q B j₀ (x .counts) r j t′
+    → InPass (s .terms) Q first j₁ t (x .counts) j (x .place) → Onward Q B j₀ (x .counts) r j t′
 
 -- after the candidate of s, which is done with the counts w: the invariant holds of r
 abbrev pub GoesOnOver : RuleBytes → List ℕ → State → Counts → List ℕ → State → Type 0
 GoesOnOver rules t s w t′ r =
     (P : Problem) (B : ℕ) (j₀ : Journal) (first : Counts) (j₁ j : Journal) → let Q = withRules P rules in InLimits Q B j₀ → s .rows ≡ length j₀ → s .place .rule < length rules → PassBegun Q B j₀ s first j₁
-    → Listed (firstRows (first .used) j₁) (listsIn t) → DoneAt (s .terms) Q t first j₁ j (record { counts = w; place = s .place })
-    → Onward Q B j₀ w r j t′
+    → DoneAt (s .terms) Q first j₁ t j (record { counts = w; place = s .place }) → Onward Q B j₀ w r j t′
 
 abbrev pub GoesOn : RuleBytes → List ℕ → State → Counts → List ℕ → State → Type 0
 GoesOn rules t s w t′ r = GoesOnOver (take (s .rules) rules) t s w t′ r

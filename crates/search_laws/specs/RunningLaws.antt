@@ -60,7 +60,7 @@ module _ (P : Problem) (B : ℕ) (j₀ : Journal) (s : State) (rows : s .rows �
 
     -- ---- at a place
 
-    module _ (fits : n ≤ rowCells) (known : Known n (candidatesIn P (firstRows (first .used) j₁)) (firstRows (first .used) j₁)) {t : List ℕ} {w : Counts} {j : Journal} {p : Place} (listed : Listed (firstRows (first .used) j₁) (listsIn t)) (g : InPass (at k n first) P (listsIn t) first j₁ t w j p) where
+    module _ (fits : n ≤ rowCells) (known : Known n (candidatesIn P (firstRows (first .used) j₁)) (firstRows (first .used) j₁)) {t : List ℕ} {w : Counts} {j : Journal} {p : Place} (g : InPass (at k n first) P first j₁ t w j p) where
       size : length j ≡ length j₀
       size = g .left .same ∙ a .same
 
@@ -69,7 +69,7 @@ module _ (P : Problem) (B : ℕ) (j₀ : Journal) (s : State) (rows : s .rows �
       spent-there h e =
           let c : order.Candidate = formedBy (P .letters) (entryAt (P .rules) (p .rule)) p (rowAtPosition (firstRows (w .used) j) (p .left)) (rowAtPosition (firstRows (w .used) j) (p .right)) in
           stops (g .left .same) (outcome.Stopped (stop.Ended unbroken.Spent w))
-          (pass-stopped (at k n first) P (listsIn t) first j₁ listed g h {c = c} refl refl {r = outcome.Stopped (stop.Ended unbroken.Spent w)}
+          (pass-stopped g h {c = c} refl refl {r = outcome.Stopped (stop.Ended unbroken.Spent w)}
           (answers-spent (at k n first) c w j (omega (arith, g .left .room, g .left .same)) (g .left .paid) e) (λ i K. refl)) refl
 
       pub stand-there : p .rule < length (P .rules) → Onward P B j₀ w (standing s (at k n first) w p) j t
@@ -87,7 +87,6 @@ module _ (P : Problem) (B : ℕ) (j₀ : Journal) (s : State) (rows : s .rows �
                     first = first;
                     journal = j₁;
                     begun = record { pass = k; before = n; at-pass = a; fits = fits; known = known; terms = refl };
-                    listed = listed;
                     in-pass = g;
                     here = h;
                     left = refl;
@@ -116,17 +115,17 @@ module _ (P : Problem) (B : ℕ) (j₀ : Journal) (s : State) (rows : s .rows �
       close-known z few = pass-known a e {r = outcome.Going w} x (again z) few
 
   -- where the pass has begun
-  pub stand-on : {first : Counts} {j₁ : Journal} (y : PassBegun P B j₀ s first j₁) {t : List ℕ} {w : Counts} {j : Journal} {p : Place} → Listed (firstRows (first .used) j₁) (listsIn t)
-      → InPass (s .terms) P (listsIn t) first j₁ t w j p → p .rule < length (P .rules) → Onward P B j₀ w (standing s (s .terms) w p) j t
-  stand-on {first} {j₁} y {t} {w} {j} {p} listed g h =
+  pub stand-on : {first : Counts} {j₁ : Journal} (y : PassBegun P B j₀ s first j₁) {t : List ℕ} {w : Counts} {j : Journal} {p : Place}
+      → InPass (s .terms) P first j₁ t w j p → p .rule < length (P .rules) → Onward P B j₀ w (standing s (s .terms) w p) j t
+  stand-on {first} {j₁} y {t} {w} {j} {p} g h =
       subst (λ (b : Terms). Onward P B j₀ w (standing s b w p) j t) (sym (y .terms))
-      (stand-there (y .at-pass) (y .before) (y .fits) (y .known) listed (subst (λ (b : Terms). InPass b P (listsIn t) first j₁ t w j p) (y .terms) g) h)
+      (stand-there (y .at-pass) (y .before) (y .fits) (y .known) (subst (λ (b : Terms). InPass b P first j₁ t w j p) (y .terms) g) h)
 
   -- and has come over places that need no work
-  pub over-reached : {first : Counts} {j₁ : Journal} (y : PassBegun P B j₀ s first j₁) {t : List ℕ} {j : Journal} {x r : Reached} → PassesOver (P .rules) t (s .terms) x r → Listed (firstRows (first .used) j₁) (listsIn t)
-      → InPass (s .terms) P (listsIn t) first j₁ t (x .counts) j (x .place) → InPass (s .terms) P (listsIn t) first j₁ t (r .counts) j (r .place)
-  over-reached {first} {j₁} y {t} {j} v listed g =
-      v .stands P first j₁ j (omega (arith, ap (λ (b : Terms). b .«rows_at_previous_start») (y .terms), y .fits)) listed g
+  pub over-reached : {first : Counts} {j₁ : Journal} (y : PassBegun P B j₀ s first j₁) {t : List ℕ} {j : Journal} {x r : Reached} → PassesOver (P .rules) t (s .terms) x r
+      → InPass (s .terms) P first j₁ t (x .counts) j (x .place) → InPass (s .terms) P first j₁ t (r .counts) j (r .place)
+  over-reached {first} {j₁} y {t} {j} v g =
+      v .stands P first j₁ j (omega (arith, ap (λ (b : Terms). b .«rows_at_previous_start») (y .terms), y .fits)) g
 
   -- ---- a pass begins
 
@@ -149,12 +148,12 @@ module _ (P : Problem) (B : ℕ) (j₀ : Journal) (s : State) (rows : s .rows �
 
     -- at its first place, and then at one that is reached from there
     module _ (p : Place) (o : places.FirstPlace (listsIn t′) (P .rules) 0 p) {r : Reached} (v : PassesOver (P .rules) t′ (at k n w) (record { counts = w; place = p }) r) where
-      reached : InPass (at k n w) P (listsIn t′) w j t′ (r .counts) j (r .place)
-      reached = v .stands P w j j fits listed (pass-start (at k n w) P (listsIn t′) w j listed t′ p ready known o)
+      reached : InPass (at k n w) P w j t′ (r .counts) j (r .place)
+      reached = v .stands P w j j fits (pass-start listed ready known o)
 
       pub open-reached : Onward P B j₀ w (opening s (at k n w) r) j t′
       open-reached = onward-from (v .counted .joins) (by (ltb (r .place .rule) (s .rules)) refl)
         where
           by : (b : Bool) → ltb (r .place .rule) (s .rules) ≡ b → Onward P B j₀ (r .counts) (openingBy b s (at k n w) r) j t′
-          by true e = stand-there a n fits known listed reached (omega (arith, ltb-true (r .place .rule) (s .rules) e, count))
-          by false e = close-last a n refl (pass-end (at k n w) P (listsIn t′) w j listed reached (omega (arith, ltb-false (r .place .rule) (s .rules) e, count))) t′ (v .counted .added ∙ a .none-added)
+          by true e = stand-there a n fits known reached (omega (arith, ltb-true (r .place .rule) (s .rules) e, count))
+          by false e = close-last a n refl (pass-end reached (omega (arith, ltb-false (r .place .rule) (s .rules) e, count))) t′ (v .counted .added ∙ a .none-added)

@@ -5,7 +5,6 @@ use native.Mathlib.Omega.{arith}
 use lib.ListN.{length, take}
 use lib.Seq.{length-take-le}
 use borrow.Author.Needs.{needs}
-use Rattle.search_links.specs.Covers.{listsIn}
 use Rattle.search_laws.specs.Contracts.{Answers}
 use Rattle.search_laws.specs.Passing.{pass-end}
 use Rattle.search_laws.specs.Walks.{passIn}
@@ -17,7 +16,7 @@ use Rattle.search_passes.proofs.go_from.Statement.{statement}
 use Rattle.search_passes.proofs.go_from.Tie as tie
 
 returns : tie.Need-returns
-returns c P B j₀ first j₁ j z rows y listed g =
+returns c P B j₀ first j₁ j z rows y g =
     let o = c .before .before .before .before .before .pass-over in
     let s = c .before .before .before .before .before .before .before .before .before in
     let st = s .args .state in
@@ -26,7 +25,7 @@ returns c P B j₀ first j₁ j z rows y listed g =
     let n : st .rules ≡ length rs = sym (length-take-le (st .rules) (s .args .rules .now) (s .pre .opens .count)) in
     rw (c .stand-at .ensures)
     (onward-from Q B j₀ st rows n (o .ensures .counted .joins)
-    (stand-on Q B j₀ st rows n y listed (over-reached Q B j₀ st rows n y (o .ensures) listed g) (omega (arith, c .before .if1 .taken, n))))
+    (stand-on Q B j₀ st rows n y (over-reached Q B j₀ st rows n y (o .ensures) g) (omega (arith, c .before .if1 .taken, n))))
 
 asked : tie.Need-close-pass-requires
 asked c κs =
@@ -35,18 +34,18 @@ asked c κs =
     record { opens = record { table = s .pre .opens .table; count = s .pre .opens .count; used = omega (arith, o .ensures .counted .used, s .pre .opens .used) }; pass = s .pre .pass }
 
 returns-2 : tie.Need-returns-2
-returns-2 c P B j₀ first j₁ j z rows y listed g =
+returns-2 c P B j₀ first j₁ j z rows y g =
     let o = c .before .before .before .before .before .before .before .before .pass-over in
     let s = c .before .before .before .before .before .before .before .before .before .before .before .before in
     let st = s .args .state in
     let rs = take (st .rules) (s .args .rules .now) in
     let Q = withRules P rs in
     let n : st .rules ≡ length rs = sym (length-take-le (st .rules) (s .args .rules .now) (s .pre .opens .count)) in
-    let r = over-reached Q B j₀ st rows n y (o .ensures) listed g in
+    let r = over-reached Q B j₀ st rows n y (o .ensures) g in
     onward-from Q B j₀ st rows n (o .ensures .counted .joins)
     (c .before .before .close-pass .ensures P B j₀ first j₁ j z rows y (r .left .same)
     (subst (λ (k : ℕ). Answers k (passIn (st .terms) Q first j₁) first j₁ j (Going (o .result .counts))) (ap (λ (b : Terms). b .budget) (y .terms))
-    (pass-end (st .terms) Q (listsIn (s .args .table .now)) first j₁ listed r (omega (arith, c .before .before .before .before .if1 .left, n))))
+    (pass-end r (omega (arith, c .before .before .before .before .if1 .left, n))))
     (r .covering))
 
 pub go-from-spec : {M : Type 1} → statement M

@@ -13,7 +13,7 @@
  * What every call asks of its caller:
  * - A pointer and the length after it are those of one area of memory. With length 0 the pointer may be null.
  * - `record` and `details` are not null.
- * - `record`, `details` and `buffer` overlap neither each other nor the file or the run.
+ * - `record`, `details`, `buffer` and `table` overlap neither each other nor the file or the run.
  *
  * Numbers that a call refuses with:
  *    1  The file's length is no multiple of 8.
@@ -25,8 +25,10 @@
  *    7  A record is the 257th rule or the 1,025th move.
  *    8  The journal has no row or more than 4,096 rows.
  *   10  The run to be written has 65,535 or more steps, or more than the buffer has bytes.
- *   11  A run given to be judged has more than 65,534 steps or a code above 127.
+ *   11  A run given to be judged or recognized has more than 65,534 steps or a code above 127.
  *   12  A move is on a remark: its code is 120 or above.
+ *   13  A run given to be recognized has more than 64 steps.
+ *   14  The table for a run to be recognized does not have 2,145 cells.
  * 1 and 2 are tested first, then 3, 4, 5, 12, 6, 7 record by record: the earliest record wins, and within it the earliest of these.
  */
 #ifndef BOLFREGA_H
@@ -48,6 +50,14 @@ extern "C" {
 /* What bolfrega_judge returns, unless it refuses. */
 #define BOLFREGA_ACCEPTED 110
 #define BOLFREGA_TURNED_AWAY 111
+
+/* What bolfrega_recognize returns, unless it refuses. */
+#define BOLFREGA_DERIVED 112
+#define BOLFREGA_NOT_DERIVED 113
+
+/* The table of bolfrega_recognize: its number of cells, and the cell of the stretch from step i up to step j, 0 <= i <= j <= 64. */
+#define BOLFREGA_CELLS 2145
+#define BOLFREGA_CELL(i, j) ((size_t)(i) * (131 - (size_t)(i)) / 2 + ((size_t)(j) - (size_t)(i)))
 
 /* The places of bolfrega_check's details. */
 #define BOLFREGA_RECORD 0  /* the record that is refused */
@@ -78,6 +88,22 @@ uint64_t bolfrega_refusal(const uint8_t *file, size_t file_length, uint64_t *rec
  * Sets *record as bolfrega_refusal does: to 0 if it returns anything but 3 to 7 or 12.
  */
 uint64_t bolfrega_judge(const uint8_t *file, size_t file_length, const uint8_t *run, size_t run_length, uint64_t *record);
+
+/*
+ * Says whether a recorded run is one of the plan's.
+ *
+ * Returns 1 to 7 or 12 if the file is refused; else 11, 13 or 14, in this order; else BOLFREGA_DERIVED if procedure 0 derives the run, and
+ * BOLFREGA_NOT_DERIVED if it does not. Every step code counts as a step here, whatever the sheet says of it.
+ * Sets *record as bolfrega_refusal does: to 0 if it returns anything but 3 to 7 or 12.
+ *
+ * The table has a cell for each stretch of the run from step i up to step j, with 0 <= i <= j <= 64, in rising order of i, then j. If the
+ * call is not refused, bit p of table[BOLFREGA_CELL(i, j)] becomes 1 if procedure p derives the stretch and else 0, whatever the call
+ * returns, and the cells with j past the run's end become 0. A refused call leaves the table as it was.
+ *
+ * It keeps tables of about 36 KiB on the stack.
+ */
+uint64_t bolfrega_recognize(const uint8_t *file, size_t file_length, const uint8_t *run, size_t run_length, uint64_t *record,
+                            uint64_t *table, size_t cells);
 
 /*
  * Checks a file's plan against its order sheet, with a journal of `rows` rows and a budget of `budget` joins.

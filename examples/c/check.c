@@ -7,37 +7,13 @@
  * Exit status: 0 holds, 1 broken, 2 no answer (the file cannot be read, or the answer not written), 3 refused, 4 full or spent.
  */
 #include "bolfrega.h"
+#include "io.h"
 
 #include <inttypes.h>
-#include <stdio.h>
-#include <stdlib.h>
 
 #define ROWS 1024
 #define BUDGET 1000000
 #define ROOM 4096
-
-/* Reads all of a stream. Returns memory to be freed, or null if it can't be read. */
-static uint8_t *read_all(FILE *stream, size_t *length)
-{
-    size_t room = 16384;
-    uint8_t *bytes = malloc(room);
-    *length = 0;
-    while (bytes != NULL) {
-        *length += fread(bytes + *length, 1, room - *length, stream);
-        if (*length < room)
-            break;
-        room *= 2;
-        uint8_t *more = realloc(bytes, room);
-        if (more == NULL)
-            free(bytes);
-        bytes = more;
-    }
-    if (bytes != NULL && ferror(stream)) {
-        free(bytes);
-        bytes = NULL;
-    }
-    return bytes;
-}
 
 /* Line 3: the step codes, or that the run is not in the buffer. */
 static void print_run(const uint64_t *details, const uint8_t *run)
@@ -89,28 +65,17 @@ int main(int argc, char **argv)
         fprintf(stderr, "usage: check FILE\n");
         return 2;
     }
-    FILE *stream = fopen(argv[1], "rb");
-    if (stream == NULL) {
-        perror(argv[1]);
-        return 2;
-    }
     size_t length;
-    uint8_t *file = read_all(stream, &length);
-    fclose(stream);
-    if (file == NULL) {
-        fprintf(stderr, "check: cannot read %s\n", argv[1]);
+    uint8_t *file = read_file(argv[1], &length);
+    if (file == NULL)
         return 2;
-    }
 
     uint64_t details[8];
     uint8_t run[ROOM];
     uint64_t code = bolfrega_check(file, length, ROWS, BUDGET, details, run, sizeof run);
     free(file);
     print_answer(code, details, run);
-    /* An answer that was not written is none. */
-    if (fflush(stdout) != 0 || ferror(stdout)) {
-        perror("check: standard output");
+    if (!written())
         return 2;
-    }
     return status_of(code);
 }

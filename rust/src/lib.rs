@@ -50,8 +50,10 @@
 #![warn(missing_docs)]
 
 pub mod raw;
+mod recognizing;
 mod refusal;
 
+pub use recognizing::{recognize, Derivations, CELLS, MOST_STEPS};
 pub use refusal::Refusal;
 
 /// The most rows that a check's journal may have.

@@ -3,7 +3,7 @@
 //! The functions at the crate's root say the same with Rust's types; these are for whoever wants the plain numbers. What each returns is
 //! in `include/bolfrega.h`.
 //!
-//! A slice goes over as two arguments, its pointer and its length in bytes. Rust's pointer of an empty slice points nowhere, which is
+//! A slice goes over as two arguments, its pointer and the number of its elements. Rust's pointer of an empty slice points nowhere, which is
 //! fine: the library reads and writes nothing through it. `&mut` keeps what is written apart from all else, as the library asks.
 
 #![allow(unsafe_code)]
@@ -20,6 +20,10 @@ pub const SPENT: u64 = 103;
 pub const ACCEPTED: u64 = 110;
 /// [`judge`]: the sheet turns the run away.
 pub const TURNED_AWAY: u64 = 111;
+/// [`recognize`]: procedure 0 derives the run.
+pub const DERIVED: u64 = 112;
+/// [`recognize`]: procedure 0 does not derive the run.
+pub const NOT_DERIVED: u64 = 113;
 
 /// What a check fills in: record, joins, used, pass, row, pairs, length, refused.
 pub type Details = [u64; 8];
@@ -31,6 +35,15 @@ mod c {
         pub safe fn bolfrega_version() -> u64;
         pub fn bolfrega_refusal(file: *const u8, file_length: usize, record: *mut u64) -> u64;
         pub fn bolfrega_judge(file: *const u8, file_length: usize, run: *const u8, run_length: usize, record: *mut u64) -> u64;
+        pub fn bolfrega_recognize(
+            file: *const u8,
+            file_length: usize,
+            run: *const u8,
+            run_length: usize,
+            record: *mut u64,
+            table: *mut u64,
+            cells: usize,
+        ) -> u64;
         pub fn bolfrega_check(
             file: *const u8,
             file_length: usize,
@@ -58,6 +71,14 @@ pub fn refusal(file: &[u8], record: &mut u64) -> u64 {
 pub fn judge(file: &[u8], run: &[u8], record: &mut u64) -> u64 {
     // SAFETY: each pointer and length are those of one slice, and `record` is lent to this call alone.
     unsafe { c::bolfrega_judge(file.as_ptr(), file.len(), run.as_ptr(), run.len(), record) }
+}
+
+/// [`DERIVED`], [`NOT_DERIVED`] or the number of a refusal; `record` becomes the record's number, and `table` shows which procedures derive
+/// each stretch of the run.
+pub fn recognize(file: &[u8], run: &[u8], record: &mut u64, table: &mut [u64]) -> u64 {
+    let (cells, count) = (table.as_mut_ptr(), table.len());
+    // SAFETY: each pointer and length are those of one slice, and `record` and `table` are lent to this call alone.
+    unsafe { c::bolfrega_recognize(file.as_ptr(), file.len(), run.as_ptr(), run.len(), record, cells, count) }
 }
 
 /// [`HOLDS`], [`BROKEN`], [`FULL`], [`SPENT`] or the number of a refusal; fills in `details`, and writes the run of a broken answer to

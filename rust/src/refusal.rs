@@ -6,7 +6,7 @@ use std::fmt;
 /// Why a call refused. Each case is one of document 01's numbers, or C-11's 12; 3 to 7 and 12 name the first record at fault,
 /// counted from 0.
 ///
-/// The numbers 9, 13 and above belong to calls that this library doesn't have.
+/// The numbers 9, 15 and above belong to calls that this library doesn't have.
 ///
 /// ```
 /// use bolfrega::Refusal;
@@ -39,10 +39,14 @@ pub enum Refusal {
     Journal,
     /// 10: the run to be written has 65,535 or more steps, or more than the buffer has bytes.
     Room,
-    /// 11: a run given to be judged has more than 65,534 steps or a code above 127.
+    /// 11: a run given to be judged or recognized has more than 65,534 steps or a code above 127.
     Run,
     /// 12: a move is on a remark, a code of 120 or above.
     Remark { record: u64 },
+    /// 13: a run given to be recognized has more than 64 steps.
+    LongRun,
+    /// 14: the table for a run to be recognized does not have 2,145 cells.
+    Table,
 }
 
 impl Refusal {
@@ -60,6 +64,8 @@ impl Refusal {
             Refusal::Room => 10,
             Refusal::Run => 11,
             Refusal::Remark { .. } => 12,
+            Refusal::LongRun => 13,
+            Refusal::Table => 14,
         }
     }
 
@@ -72,7 +78,13 @@ impl Refusal {
             | Refusal::Order { record }
             | Refusal::Count { record }
             | Refusal::Remark { record } => Some(record),
-            Refusal::Length | Refusal::Records | Refusal::Journal | Refusal::Room | Refusal::Run => None,
+            Refusal::Length
+            | Refusal::Records
+            | Refusal::Journal
+            | Refusal::Room
+            | Refusal::Run
+            | Refusal::LongRun
+            | Refusal::Table => None,
         }
     }
 
@@ -90,6 +102,8 @@ impl Refusal {
             10 => Refusal::Room,
             11 => Refusal::Run,
             12 => Refusal::Remark { record },
+            13 => Refusal::LongRun,
+            14 => Refusal::Table,
             _ => return None,
         })
     }
@@ -108,6 +122,8 @@ impl Refusal {
             Refusal::Room => "the run has 65,535 or more steps, or more than the buffer has bytes",
             Refusal::Run => "the run has more than 65,534 steps or a code above 127",
             Refusal::Remark { .. } => "it is a move on a remark, a code of 120 or above",
+            Refusal::LongRun => "the run has more than 64 steps",
+            Refusal::Table => "the table does not have 2,145 cells",
         }
     }
 }

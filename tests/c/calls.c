@@ -109,6 +109,32 @@ static void judgements(void)
     EXPECT(bolfrega_judge(twice, 16, no_code, 1, &record) == 6 && record == 1);
 }
 
+static void recognitions(void)
+{
+    static uint64_t table[BOLFREGA_CELLS + 1];
+    static const uint8_t derived[] = {1, 3}, other[] = {2, 1, 3}, no_code[] = {128}, long_run[65];
+    uint64_t record = 77;
+    memset(table, 0x77, sizeof table);
+    const uint64_t old = table[0];
+    EXPECT(bolfrega_recognize(plan_b, 7, long_run, 65, &record, table, 0) == 1 && record == 0);
+    EXPECT(bolfrega_recognize(plan_b, sizeof plan_b, no_code, 1, &record, table, 0) == 11 && record == 0);
+    EXPECT(bolfrega_recognize(plan_b, sizeof plan_b, long_run, 65, &record, table, 0) == 13 && record == 0);
+    EXPECT(bolfrega_recognize(plan_b, sizeof plan_b, long_run, 64, &record, table, BOLFREGA_CELLS + 1) == 14 && record == 0);
+    EXPECT(bolfrega_recognize(plan_b, sizeof plan_b, long_run, 64, &record, NULL, 0) == 14 && record == 0);
+    for (size_t i = 0; i <= BOLFREGA_CELLS; i++)
+        EXPECT(table[i] == old);
+
+    record = 77;
+    EXPECT(bolfrega_recognize(plan_b, sizeof plan_b, derived, 2, &record, table, BOLFREGA_CELLS) == BOLFREGA_DERIVED && record == 0);
+    /* Procedures 1 and 2 derive the empty stretch and 1; procedure 0 derives 3 and 1 3. */
+    EXPECT(table[BOLFREGA_CELL(0, 0)] == 6 && table[BOLFREGA_CELL(0, 1)] == 6 && table[BOLFREGA_CELL(1, 2)] == 1);
+    EXPECT(table[BOLFREGA_CELL(0, 2)] == 1 && table[BOLFREGA_CELL(0, 3)] == 0 && table[BOLFREGA_CELL(64, 64)] == 0);
+    EXPECT(BOLFREGA_CELL(0, 64) == 64 && BOLFREGA_CELL(1, 1) == 65 && BOLFREGA_CELL(64, 64) == 2144 && table[BOLFREGA_CELLS] == old);
+    EXPECT(bolfrega_recognize(plan_b, sizeof plan_b, other, 3, &record, table, BOLFREGA_CELLS) == BOLFREGA_NOT_DERIVED && record == 0);
+    EXPECT(table[BOLFREGA_CELL(1, 3)] == 1 && table[BOLFREGA_CELL(0, 3)] == 0);
+    EXPECT(bolfrega_recognize(NULL, 0, NULL, 0, &record, table, BOLFREGA_CELLS) == BOLFREGA_NOT_DERIVED && record == 0);
+}
+
 static void checks(void)
 {
     uint8_t plan_a[sizeof plan_b - 8];
@@ -155,6 +181,7 @@ int main(void)
     EXPECT(bolfrega_version() == 1);
     refusals();
     judgements();
+    recognitions();
     checks();
     return failures != 0;
 }

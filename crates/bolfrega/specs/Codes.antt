@@ -1,5 +1,6 @@
 -- The numbers that the library's functions give beside the refusals of document 01 and the verdicts of crate `host_result`. Definitions only.
 -- Assumes nothing.
+use mathlib.Core.Bool.{Bool, true, false}
 use Prim.Native.Nat.{ℕ}
 use Rattle.spec_calls.specs.Judging.{Judgement, accepted, turnedAway}
 use Rattle.spec_calls.specs.Replies.{Reply, refused, answered}
@@ -20,9 +21,21 @@ abbrev pub judgementCode : Judgement → ℕ
 judgementCode accepted = acceptedCode
 judgementCode turnedAway = turnedAwayCode
 
+-- ---- whether the plan derives a run
+
+abbrev pub derivedCode : ℕ
+derivedCode = 112
+
+abbrev pub notDerivedCode : ℕ
+notDerivedCode = 113
+
+abbrev pub derivationCode : Bool → ℕ
+derivationCode true = derivedCode
+derivationCode false = notDerivedCode
+
 -- ---- replies
 
 -- the number of the refused record; 0 where no record is refused
-abbrev pub placeIn : Reply Judgement → ℕ
+abbrev pub placeIn : {A : Type 0} → Reply A → ℕ
 placeIn (refused r) = r .place
 placeIn (answered a) = 0

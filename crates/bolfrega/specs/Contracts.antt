@@ -2,15 +2,16 @@
 use mathlib.Core.Path.{_≡_}
 use mathlib.Core.List.{List}
 use Prim.Native.Nat.{ℕ}
-use lib.ListN.{replicate}
+use lib.ListN.{length, replicate}
 use Rattle.spec_file.specs.Refusals.{fault}
 use Rattle.spec_order.specs.Journal.{Row}
 use Rattle.spec_calls.specs.Checking.{Settings, journalAfter}
 use Rattle.spec_calls.specs.Judging.{judgeOf, JudgementMeans}
+use Rattle.spec_calls.specs.Recognizing.{recognizeOf, RecognizeMeans}
 use Rattle.spec_calls.specs.Codes.{codeBy}
 use Rattle.host_check.specs.Details.{zeroRow}
 use Rattle.host_check.specs.Contracts.{ChecksBy}
-use Rattle.bolfrega.specs.Codes.{judgementCode, placeIn}
+use Rattle.bolfrega.specs.Codes.{judgementCode, derivationCode, placeIn}
 
 -- r is the number that refuses the file bs, or 0, and i the number of the refused record
 pub record Refuses (bs : List ℕ) (r i : ℕ) : Type 0 where
@@ -23,6 +24,13 @@ pub record Judges (bs w : List ℕ) (r i : ℕ) : Type 0 where
   pub place : i ≡ placeIn (judgeOf bs w)
   -- accepted means that there is an accepting path, turned away that there is none
   pub meaning : JudgementMeans bs w (judgeOf bs w)
+
+-- whether the plan derives the run w, told as the number r and the record's number i, with the table before and after the call
+pub record Recognizes (bs w before after : List ℕ) (r i : ℕ) : Type 0 where
+  pub code : r ≡ codeBy derivationCode (recognizeOf bs w (length before) after)
+  pub place : i ≡ placeIn (recognizeOf bs w (length before) after)
+  -- yes exactly where the initial symbol derives the run, and the table shows every stretch; a refused call leaves the table as it was
+  pub meaning : RecognizeMeans bs w before after (recognizeOf bs w (length before) after)
 
 -- J rows of zeros
 unfoldable pub zeroRows : ℕ → List (Row ℕ)

@@ -11,7 +11,7 @@ use Rattle.spec_language.specs.Grammar.{initial}
 use Rattle.spec_language.specs.Spelling.{DerivesWithin}
 use Rattle.spec_language.specs.Automaton.{Accepts, TurnsAway}
 use Rattle.spec_language.specs.WordRelation.{wordRelation}
-use Rattle.spec_file.specs.Refusals.{recordNumbers, fileNumbers, fault}
+use Rattle.spec_file.specs.Refusals.{firstOf, recordNumbers, fileNumbers, fault}
 use Rattle.spec_file.specs.Views.{rulesOf, productionsOf, automatonOf}
 use Rattle.spec_order.specs.Stopping.{Stops}
 use Rattle.spec_order.specs.Journal.{absent, capped}
@@ -20,10 +20,11 @@ use Rattle.spec_calls.specs.Base.{base}
 use Rattle.spec_calls.specs.Checking.{Settings, journalLimit, checkOf}
 use Rattle.spec_calls.specs.DemandThree.{Derivable, Counterexample, joinsBound, Extends}
 use Rattle.spec_calls.specs.Judging.{wordFault}
+use Rattle.spec_calls.specs.Recognizing.{TableShows, recognizeRefusals}
 use Rattle.spec_calls.specs.Replies.{answered}
 use Rattle.spec_calls.specs.Writing.{longWord}
 use Rattle.spec_calls.specs.Codes.{firstAnswerCode, holdsCode, brokenCode, fullCode, spentCode}
-use Rattle.bolfrega.specs.Codes.{acceptedCode, turnedAwayCode}
+use Rattle.bolfrega.specs.Codes.{acceptedCode, turnedAwayCode, derivedCode, notDerivedCode}
 use Rattle.bolfrega.specs.Contracts.{Judges, ChecksZeros}
 
 -- ---- what is refused
@@ -51,6 +52,19 @@ pub record JudgeTells (bs w : List ℕ) (r i : ℕ) : Type 0 where
   -- from 100 on it is 110 exactly when there is an accepting path, and 111 exactly when there is none
   pub accepted-exactly : firstAnswerCode ≤ r → (r ≡ acceptedCode) ↔ Accepts (automatonOf bs) w
   pub turned-away-exactly : firstAnswerCode ≤ r → (r ≡ turnedAwayCode) ↔ TurnsAway (automatonOf bs) w
+
+-- ---- recognizing: the number r, the record i and the table, before and after, that bolfrega_recognize gave for the run w
+
+pub record RecognizeTells (bs w before after : List ℕ) (r i : ℕ) : Type 0 where
+  -- below 100 the call was refused: by the file, else 11, 13, 14, in this order; the table is as it was
+  pub refused-exactly : (r < firstAnswerCode) ↔ (firstOf (recognizeRefusals bs w (length before)) .number ≡ 0 → ⊥)
+  pub refused-first : r < firstAnswerCode
+      → (r ≡ firstOf (recognizeRefusals bs w (length before)) .number) × (i ≡ firstOf (recognizeRefusals bs w (length before)) .place)
+  pub table-kept : r < firstAnswerCode → after ≡ before
+  -- from 100 on it is 112 exactly when the plan derives the run, 113 exactly when it does not, and the table shows every stretch
+  pub derived-exactly : firstAnswerCode ≤ r → (r ≡ derivedCode) ↔ Derivable bs w
+  pub not-derived-exactly : firstAnswerCode ≤ r → (r ≡ notDerivedCode) ↔ (Derivable bs w → ⊥)
+  pub table-shows : firstAnswerCode ≤ r → TableShows (productionsOf bs) w after
 
 -- ---- the eight details of bolfrega_check, in the header's order
 

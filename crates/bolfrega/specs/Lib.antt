@@ -6,6 +6,7 @@ pub mod Hosts
 pub mod BrokenLaws
 pub mod HostReplies
 pub mod HostJudging
+pub mod HostRecognizing
 pub mod HostShows
 pub mod HostStays
 pub mod HostTruth

@@ -2,15 +2,19 @@
 use mathlib.Core.Path.{_≡_, sym, ap, _∙_, subst}
 use mathlib.Core.List.{List}
 use Prim.Native.Nat.{ℕ}
+use lib.ListN.{length}
 use Rattle.spec_file.specs.Answers.{refusalOf}
 use Rattle.spec_file.specs.Refusals.{Refusal, fault}
 use Rattle.spec_file.specs.declared.Refusal.{Refusal as RefusalAnswer}
 use Rattle.spec_calls.specs.Judging.{judgeOf, JudgementMeans}
 use Rattle.call_judge.specs.declared.Judged.{Judged}
 use Rattle.call_judge.specs.Answers.{judgedOf, Judging}
+use Rattle.spec_calls.specs.Recognizing.{recognizeOf, RecognizeMeans}
+use Rattle.call_member.specs.declared.Recognized.{Recognized}
+use Rattle.call_member.specs.Answers.{recognizedOf, Recognizing}
 use Rattle.spec_calls.specs.Codes.{codeBy}
-use Rattle.bolfrega.specs.Codes.{judgementCode, placeIn}
-use Rattle.bolfrega.specs.Contracts.{Refuses, Judges}
+use Rattle.bolfrega.specs.Codes.{judgementCode, derivationCode, placeIn}
+use Rattle.bolfrega.specs.Contracts.{Refuses, Judges, Recognizes}
 
 -- the file's refusal
 pub refuses : (bs : List ℕ) (x : RefusalAnswer) → refusalOf x ≡ fault bs → Refuses bs (x .number) (x .place)
@@ -21,3 +25,10 @@ pub judges : (bs w : List ℕ) (x y : Judged) → Judging bs w x → x ≡ y →
 judges bs w x y j q =
     let e : judgedOf y ≡ judgeOf bs w = ap judgedOf (sym q) ∙ j .answer in
     record { code = ap (codeBy judgementCode) e; place = ap placeIn e; meaning = subst (JudgementMeans bs w) (j .answer) (j .meaning) }
+
+-- the answer x on a run, which is y
+pub recognizes : (bs w before after : List ℕ) (x y : Recognized) → Recognizing bs w before after x → x ≡ y
+    → Recognizes bs w before after (codeBy derivationCode (recognizedOf y)) (placeIn (recognizedOf y))
+recognizes bs w before after x y j q =
+    let e : recognizedOf y ≡ recognizeOf bs w (length before) after = ap recognizedOf (sym q) ∙ j .answer in
+    record { code = ap (codeBy derivationCode) e; place = ap placeIn e; meaning = subst (RecognizeMeans bs w before after) (j .answer) (j .meaning) }

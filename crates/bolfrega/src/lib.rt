@@ -2,19 +2,24 @@
 // its caller. A result below 100 is the number that refused the call; from 100 on it is an answer (the verdicts' numbers are in
 // `host_result`). `include/bolfrega.h` says the same to C.
 use call_judge::Judged;
+use call_member::Recognized;
 use host_result::CheckResult;
 use spec_calls::Options;
 use spec_calls::Row;
 ghost use mathlib.Core.Path.{_≡_};
 ghost use Rattle.host_result.specs.Results.{numbersIn};
 ghost use Rattle.bolfrega.specs.Codes.{version};
-ghost use Rattle.bolfrega.specs.Contracts.{Refuses, Judges, ChecksZeros};
+ghost use Rattle.bolfrega.specs.Contracts.{Refuses, Judges, Recognizes, ChecksZeros};
 
 const VERSION: u64 = 1;
 
 const ACCEPTED: u64 = 110;
 
 const TURNED_AWAY: u64 = 111;
+
+const DERIVED: u64 = 112;
+
+const NOT_DERIVED: u64 = 113;
 
 // Returns the version of this interface.
 #[no_mangle]
@@ -53,6 +58,34 @@ pub extern "C" fn bolfrega_judge(file: &[u8], run: &[u8], place: &mut u64) -> u6
         Judged::Refused(refused) => {
             *place = refused.place as u64;
             refused.number
+        }
+    }
+}
+
+// Returns whether the plan derives the `run`: DERIVED, NOT_DERIVED, or the number that refuses the call, with `place` as above. Stores in bit
+// p of each cell of `table` whether procedure p derives the cell's stretch of the run; a refused call leaves `table` as it was.
+#[no_mangle]
+pub extern "C" fn bolfrega_recognize(
+    file: &[u8],
+    run: &[u8],
+    place: &mut u64,
+    table: &mut [u64],
+) -> u64
+    ensures { λ r. ⌜ Recognizes (now (file .entry)) (now (run .entry)) (now (table .entry)) (now (table .exit)) r (now (place .exit)) ⌝ }
+{
+    let recognized = call_member::recognize(file, run, table);
+    match recognized {
+        Recognized::Derived => {
+            *place = 0;
+            DERIVED
+        }
+        Recognized::NotDerived => {
+            *place = 0;
+            NOT_DERIVED
+        }
+        Recognized::Refused(found) => {
+            *place = found.place as u64;
+            found.number
         }
     }
 }

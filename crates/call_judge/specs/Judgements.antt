@@ -81,7 +81,7 @@ module _ (w : List ℕ) where
       ∙ first i l f
 
   -- a word that is not refused has terminals alone
-  terminals-alone : wordFault w ≡ 0 → strays w ≡ false
+  pub terminals-alone : wordFault w ≡ 0 → strays w ≡ false
   unfolding wordFault
   terminals-alone e = or-neither (ltb wordLimit (length w)) (strays w) (not-held (ltb wordLimit (length w) || strays w) 10 e) .1
 

@@ -2,7 +2,7 @@
 -- below those of the answers. Assumes nothing.
 use mathlib.Core.Path.{_≡_, refl, sym, _∙_, subst}
 use mathlib.Core.Logic.{_⊎_, inl, inr}
-use mathlib.Core.Bool.{Bool, true, false, _||_, cond, false≢true}
+use mathlib.Core.Bool.{Bool, true, false, not, _||_, cond, false≢true}
 use mathlib.Core.List.{List, [], _∷_, map}
 use Prim.Native.Nat.{ℕ, zero, suc, _≤_, _<_}
 use native.Mathlib.Omega.{arith}
@@ -17,6 +17,7 @@ use Rattle.spec_file.specs.Records.{recordCount, ruleKind, transitionKind, coun
 use Rattle.spec_file.specs.Refusals.{Refusal, refuse, orNext, firstHolding, recordNumbers, fileNumbers, recordTests, lengthTestsIn, faultAt, faultFrom, fault, byNumber, faultAtIn, faultByIn, faultFromIn, faultIn, lengthFaultIn, lengthFault}
 use Rattle.spec_calls.specs.Checking.{Settings, journalLimit, journalFault, checkRefusals, checkOf}
 use Rattle.spec_calls.specs.Judging.{wordLimit, wordFault, judgeRefusals, judgeOf}
+use Rattle.spec_calls.specs.Recognizing.{runLimit, stretchCells, runFault, tableFault, recognizeRefusals, recognizeOf}
 use Rattle.spec_calls.specs.Replies.{Reply, refused, answered, unless, reply}
 use Rattle.spec_calls.specs.Codes.{firstAnswerCode}
 
@@ -151,3 +152,11 @@ pub judge-low : (bs w : List ℕ) → LowIn (judgeOf bs w)
 unfolding judgeOf wordFault
 judge-low bs w =
     reply-low (judgeRefusals bs w) _ (fault-low bs, (number-low (ltb wordLimit (length w) || any (λ c. leb terminals c) w) 11 (omega arith), tt))
+
+pub recognize-low : (bs w : List ℕ) (cells : ℕ) (after : List ℕ) → LowIn (recognizeOf bs w cells after)
+unfolding recognizeOf wordFault runFault tableFault
+recognize-low bs w cells after =
+    let word = number-low (ltb wordLimit (length w) || any (λ c. leb terminals c) w) 11 (omega arith) in
+    let run = number-low (ltb runLimit (length w)) 13 (omega arith) in
+    let table = number-low (not (eqb cells stretchCells)) 14 (omega arith) in
+    reply-low (recognizeRefusals bs w cells) _ (fault-low bs, (word, (run, (table, tt))))

@@ -5,6 +5,7 @@ pub mod Base
 pub mod Rows
 pub mod Checking
 pub mod Judging
+pub mod Recognizing
 pub mod Writing
 pub mod Printing
 pub mod BaseLaws

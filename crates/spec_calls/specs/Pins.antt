@@ -1,4 +1,4 @@
--- Numbers 1 to 12 at their edges, computed or stated of every word: limits, the order of the tests, bytes that are used and bytes that are not.
+-- Numbers 1 to 14 at their edges, computed or stated of every word: limits, the order of the tests, bytes that are used and bytes that are not.
 -- They settle what neither a theorem nor a P case says. Assumes nothing.
 use mathlib.Core.Path.{_≡_, refl}
 use mathlib.Core.Bool.{true, false}
@@ -16,6 +16,7 @@ use Rattle.spec_file.specs.Reading.{ReaderStep, gives, refuses, unlessRefused, 
 use Rattle.spec_calls.specs.Replies.{refused}
 use Rattle.spec_calls.specs.Checking.{journalFault, checkOf}
 use Rattle.spec_calls.specs.Judging.{wordFault, judgeOf}
+use Rattle.spec_calls.specs.Recognizing.{rowStart, cell, stretchCells, runFault, tableFault, recognizeOf}
 use Rattle.spec_calls.specs.Writing.{roomFault}
 use Rattle.spec_calls.specs.Cases.{entry, lone}
 
@@ -202,3 +203,38 @@ letters = (refl, refl, refl)
 pub file-first : (checkOf (1 ∷ []) (record { rows = 0; budget = 0 }) ≡ refused (refuse 1 0)) × (judgeOf (1 ∷ []) (128 ∷ []) ≡ refused (refuse 1 0))
 unfolding checkOf judgeOf journalFault wordFault refusalNow faultIn lengthFaultIn
 file-first = (refl, refl)
+
+-- ---- C-12
+
+-- the cells of the table: rising i, then j, one for each stretch
+pub cells-in-order :
+    (cell 0 0 ≡ 0)
+    -- the whole of a run of 64 steps
+    × (cell 0 64 ≡ 64)
+    -- then the stretches from step 1 on
+    × (cell 1 1 ≡ 65)
+    × (cell 2 3 ≡ 130)
+    -- the empty stretch after 64 steps is the last
+    × (cell 64 64 ≡ 2144)
+    × (rowStart 65 ≡ stretchCells)
+unfolding rowStart
+cells-in-order = (refl, refl, refl, refl, refl, refl)
+
+-- 13 and 14 at their edges
+pub run-and-table :
+    (runFault (replicate 64 0) ≡ 0)
+    × (runFault (replicate 65 0) ≡ 13)
+    × (tableFault 2144 ≡ 14)
+    × (tableFault 2145 ≡ 0)
+    × (tableFault 2146 ≡ 14)
+unfolding runFault tableFault
+run-and-table = (refl, refl, refl, refl, refl)
+
+-- the file before 11, 11 before 13, 13 before 14
+pub recognize-order :
+    (recognizeOf (1 ∷ []) (replicate 65 128) 0 [] ≡ refused (refuse 1 0))
+    × (recognizeOf [] (replicate 65 128) 0 [] ≡ refused (refuse 11 0))
+    × (recognizeOf [] (replicate 65 127) 0 [] ≡ refused (refuse 13 0))
+    × (recognizeOf [] (replicate 64 127) 0 [] ≡ refused (refuse 14 0))
+unfolding recognizeOf runFault tableFault wordFault faultIn lengthFaultIn faultFromIn
+recognize-order = (refl, refl, refl, refl)

@@ -1,6 +1,6 @@
 // What each public call answers, as definitions on a file's bytes, and the theorems about them. And what the calls share in code: a row of the
-// lent journal, with its limits, and the options of a check. Definitions in specs/: Base (the order over relations), Replies (a call answers or refuses), Checking,
-// Judging, Writing (the three calls), DemandThree (what an answer promises), Codes (the numbers of the verdicts), Printing (the program's
+// lent journal, with its limits, and the options of a check. Definitions in specs/: Base (the order over relations), Replies (a call answers
+// or refuses), Checking, Judging, Recognizing, Writing (the four calls), DemandThree (what an answer promises), Codes (the numbers of the verdicts), Printing (the program's
 // text), Rows (how the code's rows, rules and options are read). Theorems: Promising and Truth (an answer keeps its promises), JournalTruth,
 // JudgingTruth, StrikingTruth, WritingTruth. Computed: Cases (document 01's P table, remarks), Examples, Pins (what only a definition's text settles).
 use relation::Effect;

@@ -1,4 +1,5 @@
-//! Document 01, with C-11 of document 02, in plain Rust: reading, judging, the check in its working order, run writing.
+//! Document 01, with C-11 and C-12 of document 02, in plain Rust: reading, judging, the check in its working order, run writing, and the
+//! recognizing of runs.
 //!
 //! It is written from the papers alone and shares nothing with the proved library. The tests of the crate `bolfrega` compare
 //! the two, answer for answer, and the benchmark measures them side by side. Nothing else uses it.
@@ -14,6 +15,7 @@
 
 #![forbid(unsafe_code)]
 
+mod derivations;
 mod effect;
 mod file;
 mod judging;
@@ -21,6 +23,7 @@ pub mod making;
 mod order;
 mod writing;
 
+pub use derivations::recognize;
 pub use effect::Effect;
 pub use file::{read, Body, Plan, Refusal, Rule, Symbol, FIRST_REMARK};
 pub use judging::judge;

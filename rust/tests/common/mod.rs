@@ -36,6 +36,30 @@ pub fn judging(file: &[u8], run: &[u8]) -> (u64, u64) {
     expected
 }
 
+/// Recognizes a run, over a table of `cells` cells that hold something else. Returns the code, the record and the table.
+pub fn recognizing(file: &[u8], run: &[u8], cells: usize) -> (u64, u64, Vec<u64>) {
+    let mut table = vec![BEFORE; cells];
+    let (code, record) = match plain::recognize(file, run, &mut table) {
+        Ok(true) => (112, 0),
+        Ok(false) => (113, 0),
+        Err(refusal) => numbers(refusal),
+    };
+    let (mut their_record, mut their_table) = (BEFORE, vec![BEFORE; cells]);
+    let their_code = raw::recognize(file, run, &mut their_record, &mut their_table);
+    let what = || format!("recognizing {run:?} over {cells} cells by {file:?}");
+    assert_eq!((their_code, their_record), (code, record), "{}", what());
+    assert!(their_table == table, "the table after {}", what());
+    if cells == bolfrega::CELLS {
+        match bolfrega::recognize(file, run) {
+            Ok(found) => {
+                assert_eq!((found.derived(), &found.cells()[..]), (code == 112, &table[..]), "{}", what());
+            }
+            Err(refusal) => assert_eq!(shown(refusal), (code, record), "{}", what()),
+        }
+    }
+    (code, record, table)
+}
+
 /// Checks a file, with a run buffer of `room` bytes. Returns the code, the details and the buffer.
 pub fn checking(file: &[u8], rows: usize, budget: u64, room: usize) -> (u64, Details, Vec<u8>) {
     let mut buffer = patterned(room);

@@ -1,0 +1,5 @@
+pub mod Answers
+pub mod RecognizeLaws
+pub mod Determined
+pub mod Readings
+pub mod OneRule

@@ -1,0 +1,13 @@
+pub mod Sets
+pub mod SliceLaws
+pub mod Derivations
+pub mod ByteLaws
+pub mod SetLaws
+pub mod Rounds
+pub mod RoundLaws
+pub mod UnitLaws
+pub mod CellLaws
+pub mod Spans
+pub mod Filling
+pub mod SpanLaws
+pub mod FillLaws

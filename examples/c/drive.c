@@ -1,0 +1,75 @@
+/*
+ * Says whether a drive was one of the plan's: whether procedure 0 derives the steps that a receiver saved, in the order they were taken.
+ *
+ *     cc -Iinclude examples/c/drive.c target/staticlib/libbolfrega.a -o drive
+ *     ./drive samples/plan-b.plan 1 3
+ *
+ * Exit status: 0 derived, 1 not derived, 2 no answer (the file cannot be read, a step is no code, or the answer not written), 3 refused.
+ */
+#include "bolfrega.h"
+#include "io.h"
+
+#include <inttypes.h>
+
+/* Reads a step code. Returns 0 where the text is none of 0 to 255: what is above 127 is the library's to refuse. */
+static int read_step(const char *text, uint8_t *step)
+{
+    char *end;
+    unsigned long code = strtoul(text, &end, 10);
+    if (text[0] < '0' || text[0] > '9' || *end != '\0' || code > 255)
+        return 0;
+    *step = (uint8_t)code;
+    return 1;
+}
+
+/* Prints the answer, and returns the exit status that goes with it. */
+static int print_answer(uint64_t code)
+{
+    switch (code) {
+    case BOLFREGA_DERIVED:
+        printf("derived\n");
+        return 0;
+    case BOLFREGA_NOT_DERIVED:
+        printf("not derived\n");
+        return 1;
+    default:
+        printf("refused %" PRIu64 "\n", code);
+        return 3;
+    }
+}
+
+/* The steps that the words name, in memory to be freed; null after saying on standard error why not. */
+static uint8_t *read_run(char **words, size_t steps)
+{
+    /* One byte more, so that a run of no step is not null. */
+    uint8_t *run = malloc(steps + 1);
+    if (run == NULL)
+        perror("drive");
+    for (size_t i = 0; run != NULL && i < steps; i++) {
+        if (!read_step(words[i], &run[i])) {
+            fprintf(stderr, "drive: %s is no step code\n", words[i]);
+            free(run);
+            run = NULL;
+        }
+    }
+    return run;
+}
+
+int main(int argc, char **argv)
+{
+    if (argc < 2) {
+        fprintf(stderr, "usage: drive FILE STEP..\n");
+        return 2;
+    }
+    size_t length, steps = (size_t)argc - 2;
+    uint8_t *run = read_run(argv + 2, steps);
+    uint8_t *file = read_file(argv[1], &length);
+    int status = 2;
+    if (run != NULL && file != NULL) {
+        uint64_t record, table[BOLFREGA_CELLS];
+        status = print_answer(bolfrega_recognize(file, length, run, steps, &record, table, BOLFREGA_CELLS));
+    }
+    free(file);
+    free(run);
+    return written() ? status : 2;
+}

@@ -1,0 +1,56 @@
+/* What the examples share: a file read whole, and an answer that was written. */
+#ifndef EXAMPLES_IO_H
+#define EXAMPLES_IO_H
+
+#include <stdint.h>
+#include <stdio.h>
+#include <stdlib.h>
+
+/* Reads all of a stream. Returns memory to be freed, or null if it can't be read. */
+static inline uint8_t *read_all(FILE *stream, size_t *length)
+{
+    size_t room = 16384;
+    uint8_t *bytes = malloc(room);
+    *length = 0;
+    while (bytes != NULL) {
+        *length += fread(bytes + *length, 1, room - *length, stream);
+        if (*length < room)
+            break;
+        room *= 2;
+        uint8_t *more = realloc(bytes, room);
+        if (more == NULL)
+            free(bytes);
+        bytes = more;
+    }
+    if (bytes != NULL && ferror(stream)) {
+        free(bytes);
+        bytes = NULL;
+    }
+    return bytes;
+}
+
+/* Reads all of a file. Returns memory to be freed, or null after saying on standard error why not. */
+static inline uint8_t *read_file(const char *path, size_t *length)
+{
+    FILE *stream = fopen(path, "rb");
+    if (stream == NULL) {
+        perror(path);
+        return NULL;
+    }
+    uint8_t *file = read_all(stream, length);
+    if (file == NULL)
+        fprintf(stderr, "cannot read %s\n", path);
+    fclose(stream);
+    return file;
+}
+
+/* Whether all that was printed was written. An answer that was not is none. */
+static inline int written(void)
+{
+    if (fflush(stdout) == 0 && !ferror(stdout))
+        return 1;
+    perror("standard output");
+    return 0;
+}
+
+#endif

@@ -1,5 +1,6 @@
 pub mod Digits
 pub mod DigitLaws
+pub mod Pieces
 pub mod Relation
 pub mod RelationLaws
 pub mod Product

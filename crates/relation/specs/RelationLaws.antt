@@ -1,8 +1,7 @@
 -- Laws of relations on n states, for every n. Assumes nothing.
 use mathlib.Core.Path.{_≡_, refl, sym, ap, ap₂, _∙_, subst}
 use mathlib.Core.Bool.{Bool, true, false, _&&_, _||_}
-use Prim.Native.Nat.{ℕ, zero, suc, _+_, _*_, _/_, _%_, _^_, _<_}
-use native.Mathlib.Nat.{not-suc-le-zero, zero-lt-suc, mod-lt, div-lt-iff-lt-mul, div-add-mod'}
+use Prim.Native.Nat.{ℕ, _+_, _*_, _/_, _%_, _^_, _<_}
 use lib.Dec.{eqb}
 use lib.Arith.{digits-lt, digits-div, digits-mod}
 use lib.Pow.{pow-pos, pow-lt}
@@ -10,7 +9,8 @@ use lib.Bits.{bitOr, or-lt}
 use borrow.Author.Tests.{eqb-true, eq-eqb}
 use Rattle.spec_basics.specs.Tests.{and-intro, and-fst, and-snd, and-not-both, iff-equal, not-passes, not-excludes}
 use Rattle.relation.specs.Digits.{bit, some}
-use Rattle.relation.specs.DigitLaws.{number-lt, bit-number, bit-zero, bit-power, bit-or, ext, subset-bit, bit-subset, some-at, some-of}
+use Rattle.relation.specs.DigitLaws.{number-lt, bit-zero, bit-power, bit-or, subset-bit, bit-subset, some-at, some-of}
+use Rattle.relation.specs.Pieces.{at-places, ext-pieces, bit-places}
 use Rattle.relation.specs.Relation.{has, table, identity, compose, contained, single, insert, rejects}
 
 -- ---- a table's pairs
@@ -21,31 +21,12 @@ table-lt n f = number-lt (n * n) (λ k. f (k / n) (k % n))
 
 pub has-table : (n : ℕ) (f : ℕ → ℕ → Bool) (a b : ℕ) → a < n → b < n → has n (table n f) a b ≡ f a b
 unfolding has table
-has-table n f a b ha hb =
-    bit-number (n * n) (λ k. f (k / n) (k % n)) (a * n + b) (digits-lt ha hb)
-    ∙ ap₂ f (digits-div a hb) (digits-mod a hb)
-
--- a place is a pair's
-module _ (n k : ℕ) (h : k < n * n) where
-  place-pos : 0 < n
-  place-pos = go n h
-    where
-      go : (m : ℕ) → k < m * m → 0 < m
-      go zero l = absurd (not-suc-le-zero l)
-      go (suc m) l = zero-lt-suc m
-
-  row-lt : k / n < n
-  row-lt = div-lt-iff-lt-mul place-pos .1 h
-
-  col-lt : k % n < n
-  col-lt = mod-lt k place-pos
+has-table n f a b ha hb = bit-places n n f a b ha hb
 
 pub ext-has : (n x y : ℕ) → x < 2 ^ (n * n) → y < 2 ^ (n * n)
     → ((a b : ℕ) → a < n → b < n → has n x a b ≡ has n y a b) → x ≡ y
 unfolding has
-ext-has n x y hx hy h =
-    ext (n * n) x y hx hy
-    (λ k l. subst (λ (p : ℕ). bit x p ≡ bit y p) (div-add-mod' k n) (h (k / n) (k % n) (row-lt n k l) (col-lt n k l)))
+ext-has n x y hx hy h = ext-pieces n n x y hx hy h
 
 pub contained-has : (n x y : ℕ) → contained x y ≡ true → (a b : ℕ) → has n x a b ≡ true → has n y a b ≡ true
 unfolding has
@@ -54,9 +35,7 @@ contained-has n x y s a b h = subset-bit x y s (a * n + b) h
 pub has-contained : (n x y : ℕ) → x < 2 ^ (n * n)
     → ((a b : ℕ) → a < n → b < n → has n x a b ≡ true → has n y a b ≡ true) → contained x y ≡ true
 unfolding has
-has-contained n x y hx h =
-    bit-subset (n * n) x y hx
-    (λ k l. subst (λ (p : ℕ). bit x p ≡ true → bit y p ≡ true) (div-add-mod' k n) (h (k / n) (k % n) (row-lt n k l) (col-lt n k l)))
+has-contained n x y hx h = bit-subset (n * n) x y hx (at-places n n (λ p. bit x p ≡ true → bit y p ≡ true) h)
 
 -- ---- the identity and composition
 

@@ -1,7 +1,7 @@
 // Relations on the states of an automaton as one word: the pair (a, b) is bit a * 8 + b. No other crate knows that. Definitions in specs/:
 // Digits (binary digits), Relation (pairs, identity, composition, containment, rejecting), Representation (how the code holds one), Stored
-// (relations in a table). Laws, for every number of states: DigitLaws, RelationLaws, Product (composition by words), Counting (pairs), Masks
-// (final states).
+// (relations in a table). Laws, for every number of states: DigitLaws, Pieces (numbers made of pieces: rows), RelationLaws, Product
+// (composition by words, of any count of rows), Counting (pairs), Masks (final states).
 ghost use mathlib.Core.Path.{_≡_};
 ghost use Prim.Native.Nat.{_+_, _*_, _≤_};
 ghost use lib.Dec.{eqb};
@@ -102,8 +102,9 @@ impl Relation {
     }
 
     // Composes this relation with `next`: for each middle state `m`, the states that lead to `m` here (its column) times those that `m` leads to
-    // there (its row). A column has at most one bit in each byte and a row has eight, so the product puts the row into the bytes of the column,
-    // and nothing carries.
+    // there (its row, which begins at `place`). `m` and `place` grow by addition, so a turn neither multiplies nor divides by the count of
+    // states. A column has at most one bit in each byte and a row has eight, so the product puts the row into the bytes of the column, and
+    // nothing carries.
     pub fn compose(self, next: Relation) -> Relation
         ensures { λ r. ⌜ value r ≡ compose states (value self) (value next) ⌝ }
     {
@@ -111,11 +112,13 @@ impl Relation {
         let y = next.bits;
         let mut bits: u64 = 0;
         let mut m: u32 = 0;
+        let mut place: u32 = 0;
         while m < SIDE {
             let column = (x >> m) & COLUMN;
-            let row = (y >> (m * SIDE)) & ROW;
+            let row = (y >> place) & ROW;
             bits = bits | (column * row);
             m += 1;
+            place += SIDE;
         }
         Relation { bits }
     }

@@ -1,36 +1,43 @@
--- `Relation::compose` meets its contract. The loop's invariant: `bits` has the pairs with a middle state below `m`. The measure is the middle
--- states that are left, one fewer at each turn. Assumes nothing.
-use mathlib.Core.Path.{_≡_, sym, ap, _∙_}
-use Prim.Native.Nat.{ℕ, _-_, _≤_, _<_}
+-- `Relation::compose` meets its contract. The loop's invariant: `bits` has the pairs with a middle state below `m`, and `place` is where row `m`
+-- begins. The measure is the middle states that are left, one fewer at each turn. Assumes nothing.
+use mathlib.Core.Path.{_≡_, sym, ap, ap₂, _∙_, subst}
+use Prim.Native.Nat.{ℕ, _-_, _*_, _^_, _≤_, _<_}
 use native.Mathlib.Omega.{arith}
 use lib.Bits.{bitOr}
-use Rattle.relation.specs.Product.{rows, column, through, rowsUpTo, through-lt, upTo-next, upTo-none, upTo-all}
+use Rattle.relation.specs.Pieces.{pieces}
+use Rattle.relation.specs.Product.{column, product, through-at, through-lt, product-none, product-next, product-all}
 use Rattle.relation.specs.Relation.{states}
 use Rattle.relation.specs.Representation.{value}
 use Rattle.relation.proofs.Relation.compose.Statement.{statement}
 use Rattle.relation.proofs.Relation.compose.Tie as tie
 
 abbrev Inv-loop : tie.InvT-loop
-Inv-loop x y bits₀ m₀ bits m = (m ≤ states) × (bits ≡ rowsUpTo states m x y)
+Inv-loop x y bits₀ m₀ place₀ bits m place = (m ≤ states) × (place ≡ m * states) × (bits ≡ product states states m x y)
 
 abbrev μ-loop : tie.MeasureT-loop
-μ-loop x y bits₀ m₀ bits m = states - m
+μ-loop x y bits₀ m₀ place₀ bits m place = states - m
 
 loop-holds : tie.Need-loop-holds Inv-loop μ-loop
-loop-holds c = (omega arith, sym (upTo-none states _ _))
+loop-holds c = (omega arith, omega arith, sym (product-none states states _ _))
 
 mul-bits : tie.Need-mul-bits Inv-loop μ-loop
-unfolding through column rows
-mul-bits c = record { fits = through-lt states (c .before .loop .m) _ _ (omega arith) }
+unfolding column pieces
+mul-bits c =
+    let m = c .before .loop .m in
+    record {
+      fits = subst (λ (z : ℕ). z < 2 ^ (states * states)) (sym (through-at states states m _ _ _ (c .before .loop .inv .1))) (through-lt states states m _ _ (omega arith));
+    }
 
 loop-again : tie.Need-loop-again Inv-loop μ-loop
-unfolding through column rows
+unfolding column pieces
 loop-again c =
     let m = c .before .loop .m in
+    let p = c .before .loop .place in
     let x = c .before .before .args .self .bits in
     let y = c .before .before .args .next .bits in
     let h : m < states = omega arith in
-    (omega arith, ap (λ (z : ℕ). bitOr z (through states m x y)) (c .before .loop .inv .1) ∙ upTo-next states m x y h)
+    let sum = ap₂ bitOr (c .before .loop .inv .2) (through-at states states m p x y (c .before .loop .inv .1)) ∙ product-next states states m x y h in
+    (omega arith, omega arith, sum)
 
 returns : tie.Need-returns Inv-loop μ-loop
 unfolding value
@@ -38,8 +45,8 @@ returns c =
     let x = c .before .before .args .self .bits in
     let y = c .before .before .args .next .bits in
     let e : c .before .loop .m ≡ states = omega arith in
-    c .before .loop .inv .1 ∙ ap (λ (k : ℕ). rowsUpTo states k x y) e ∙ upTo-all states x y
+    c .before .loop .inv .2 ∙ ap (λ (k : ℕ). product states states k x y) e ∙ product-all states x y
 
 pub compose-spec : {M : Type 1} → statement M
 compose-spec =
-    tie.close (tie.spec Inv-loop μ-loop loop-holds (λ c. omega arith) (λ c. omega arith) (λ c. omega arith) (λ c. omega arith) (λ c. omega arith) mul-bits (λ c. omega arith) (λ c. omega arith) loop-again returns)
+    tie.close (tie.spec Inv-loop μ-loop loop-holds (λ c. omega arith) (λ c. omega arith) (λ c. omega arith) (λ c. omega arith) mul-bits (λ c. omega arith) (λ c. omega arith) (λ c. omega arith) loop-again returns)

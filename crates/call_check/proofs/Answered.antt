@@ -18,13 +18,13 @@ use Rattle.spec_calls.specs.ReplyLaws.{reply-first}
 use Rattle.spec_file.specs.RefusalLaws.{number-some}
 use Rattle.spec_calls.specs.Replies.{Reply, refused, answered, unless}
 use Rattle.spec_calls.specs.Rows.{rowOf, Journal}
-use Rattle.search_links.specs.Rows.{firstRows}
 use Rattle.search_state.specs.declared.State.{State}
 use Rattle.search_state.specs.declared.Terms.{Terms}
+use Rattle.search_links.specs.Rows.{rowsRead}
 use Rattle.search_laws.specs.Contracts as search
 use Rattle.search_laws.specs.Contracts.{orderOf}
 use Rattle.search_laws.specs.Problems.{Letters, RuleBytes, Problem, problemIn}
-use Rattle.search_laws.specs.Meanings.{answerIn, answerOf, totalsIn}
+use Rattle.search_laws.specs.Meanings.{firstRows, answerIn, answerOf, totalsIn}
 use Rattle.search_laws.specs.Running.{Ran}
 use Rattle.search_laws.specs.declared.Answer.{Answer}
 use Rattle.search_laws.specs.declared.Answer.the-variants.{Ended, Broken}
@@ -49,7 +49,7 @@ answer-journal (Broken i n) j = refl
 
 -- rows used, and then those that are as they were
 front-rest : (u : ℕ) (old new : Journal) → drop u new ≡ drop u old → map rowOf new ≡ firstRows u new ++ drop u (map rowOf old)
-unfolding firstRows
+unfolding rowsRead
 front-rest u old new e =
     ap (map rowOf) (sym (take-append-drop u new)) ∙ map-append rowOf (take u new) (drop u new)
     ∙ ap (λ (l : List (Row ℕ)). firstRows u new ++ l) (ap (map rowOf) e ∙ sym (drop-map rowOf u old))

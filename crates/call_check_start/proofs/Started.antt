@@ -19,11 +19,11 @@ use Rattle.spec_file.specs.Answers.{refusalOf}
 use Rattle.spec_file.specs.declared.Refusal.{Refusal}
 use Rattle.spec_calls.specs.Checking.{Settings, journalLimit, journalFault, checkRefusals}
 use Rattle.spec_file.specs.Entries.{entryOf}
-use Rattle.spec_calls.specs.Rows.{blank, Journal}
+use Rattle.spec_calls.specs.Rows.{rowOf, blank, Journal}
 use Rattle.search_rows.specs.Base.{Row}
-use Rattle.search_order.specs.Lists.{end}
+use Rattle.search_state.specs.Layout.{tableCells, end}
 use Rattle.search_links.specs.CoverLaws.{covering-none}
-use Rattle.search_links.specs.Covers.{tableCells, Covering}
+use Rattle.search_links.specs.Covers.{Covering}
 use Rattle.search_links.specs.RowLaws.{rows-none}
 use Rattle.search_state.specs.declared.State.{State}
 use Rattle.search_state.specs.declared.Terms.{Terms}
@@ -75,7 +75,7 @@ module _ (bs : List ℕ) (g : Settings) where
         let k = journal-size J (quiet .1) in
         subst (λ (y : State). Onward P B j (record { used = 0; joins = 0; added = 0 }) y j t′) (sym (es ∙ ap (λ (y : State). opening y (y .terms) x) ew))
         (subst (λ (y : State). OpensPass rules t n (y .terms) (y .counts) t′ x) ew o P B j j 1 0 (waiting g n finals) refl (record { all = omega (arith, ap length el, letters-length states (transitionsOf bs)); some = omega (arith, l, k .0); limit = omega (arith, l, k .1) }) (sym l) (pass-first P B j) refl (omega arith) (λ q. absurd (omega (arith, q)))
-        (subst (λ (rows : List Row). Covering rows t) (sym (rows-none j)) (subst (Covering []) (sym et) covering-none)))
+        (subst (λ (rows : List Row). Covering rows t) (sym (rows-none rowOf j)) (subst (Covering []) (sym et) covering-none)))
 
     fit : n ≤ length rules
     fit = rules-fit bs before rules n en

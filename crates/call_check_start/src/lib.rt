@@ -11,8 +11,7 @@ use spec_file::Refusal;
 ghost use mathlib.Core.Path.{_≡_};
 ghost use lib.ListN.{replicate};
 ghost use Rattle.spec_calls.specs.Rows.{settingsOf};
-ghost use Rattle.search_order.specs.Lists.{end};
-ghost use Rattle.search_links.specs.Covers.{tableCells};
+ghost use Rattle.search_state.specs.Layout.{tableCells, end};
 ghost use Rattle.call_check_start.specs.Starting.{waiting, Starts};
 
 // Where the check starts: the refusal, with number 0 where there is none, and the first pass, which does not begin where something refuses.

@@ -1,34 +1,33 @@
--- Looking for a row that covers a candidate: what is known of the rows at each cursor. Here c is the candidate, u the rows used, t the table
--- and l the cursor. Definitions only. Assumes nothing.
+-- Looking for a row that covers a candidate: what is known of the rows at each cursor, whatever an effect is. Here c is the candidate, u the
+-- rows used, t the table and l the cursor. Definitions only. Assumes nothing.
 use mathlib.Core.Path.{_≡_}
 use mathlib.Core.Bool.{Bool, true, false, cond}
 use mathlib.Core.List.{List}
 use Prim.Native.Nat.{ℕ, _+_, _-_, _≤_, _<_}
 use lib.ListN.{length}
-use Rattle.relation.specs.Relation.{contained}
+use Rattle.spec_order.specs.Candidates.{Candidate}
+use Rattle.spec_order.specs.Journal.{Row}
 use Rattle.spec_order.specs.Order.{dropped}
-use Rattle.search_rows.specs.Base.{Row, Candidate}
-use Rattle.search_order.specs.Lists.{rowCells, heads, headCell}
-use Rattle.search_links.specs.Covers.{listsFrom, Covering, Free}
-use Rattle.search_links.specs.Looking.{Unseen}
+use Rattle.search_state.specs.Layout.{rowCells, heads, headCell, listsFrom}
+use Rattle.search_links.specs.Covers.{Covering, Free, Unseen}
 use Rattle.search_cover.specs.declared.CoverCursor.{CoverCursor}
 
 -- the table leads along the live ones of these u rows
-pub record Leads (rows : List Row) (u : ℕ) (t : List ℕ) : Type 0 where
+pub record Leads {E : Type 0} (rows : List (Row E)) (u : ℕ) (t : List ℕ) : Type 0 where
   pub covering : Covering rows t
   pub size : length rows ≡ u
   pub limit : u ≤ rowCells
 
-module _ (c : Candidate) (rows : List Row) (u : ℕ) (t : List ℕ) where
+module _ {E : Type 0} (below : E → E → Bool) (c : Candidate E) (rows : List (Row E)) (u : ℕ) (t : List ℕ) where
   -- the search has ended: at a row that covers, if one does, and else past the last linked row
   pub record Finds (l : CoverCursor) : Type 0 where
-    pub found : l .covers ≡ dropped contained c rows
+    pub found : l .covers ≡ dropped below c rows
     pub row : l .covers ≡ true → l .row < u
-    pub free : l .covers ≡ false → Free c rows t (l .cell) (l .larger)
+    pub free : l .covers ≡ false → Free below c rows t (l .cell) (l .larger)
 
   -- while it goes on, the linked rows before that of the cursor do not cover
   abbrev pub Seeks : Bool → CoverCursor → Type 0
-  Seeks true l = (l .row < u) × (l .linked ≡ true → Unseen c rows t (l .row) (l .cell) (l .larger))
+  Seeks true l = (l .row < u) × (l .linked ≡ true → Unseen below c rows t (l .row) (l .cell) (l .larger))
   Seeks false l = Finds l
 
   -- the invariant of the search; the slot is a cell of the hints

@@ -5,16 +5,12 @@ use mathlib.Core.List.{List}
 use Prim.Native.Nat.{ℕ, _+_}
 use lib.Dec.{ltb}
 use lib.ListN.{getD}
-use Rattle.search_order.specs.Lists.{rowCells, heads, headCell}
+use Rattle.search_state.specs.Layout.{rowCells, heads, headCell, slotsFrom}
 use Rattle.search_cover.specs.declared.CoverCursor.{CoverCursor}
 
 -- the row of x that is noted as the one that covered last
 abbrev pub lastNoted : List ℕ → ℕ → ℕ
 lastNoted t x = getD t (headCell heads + x) 0
-
--- the first cell of the hints by effect
-abbrev pub slotsFrom : ℕ
-slotsFrom = headCell heads + heads
 
 -- ended at row v, a hint that covers
 abbrev pub coveredAt : ℕ → ℕ → CoverCursor

@@ -9,9 +9,7 @@ ghost use mathlib.Core.Path.{_≡_};
 ghost use Prim.Native.Nat.{_<_};
 ghost use lib.ListN.{length};
 ghost use Rattle.search_state.specs.Positions.{positionRow};
-ghost use Rattle.search_rows.specs.Forming.{slotCells};
-ghost use Rattle.search_order.specs.Lists.{rowCells};
-ghost use Rattle.search_links.specs.Covers.{tableCells};
+ghost use Rattle.search_state.specs.Layout.{rowCells, slotCells, tableCells};
 ghost use Rattle.search_cover.specs.Steps.{lastNoted, firstLinked, begun, foundAt, stepped};
 
 // While the cursor is `active`, `row` is the row to compare next. If `linked`, the link in `cell` led to it, and otherwise it is a hint. `larger`

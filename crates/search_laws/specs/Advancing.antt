@@ -16,12 +16,12 @@ use Rattle.spec_order.specs.Order.{dropped}
 use Rattle.spec_file.specs.Entries.{entryOf}
 use Rattle.spec_calls.specs.Rows.{rowOf, blank, Journal}
 use Rattle.search_rows.specs.Base as order
-use Rattle.search_rows.specs.Forming.{formedBy, entryAt, amongFirst}
+use Rattle.search_rows.specs.Forming.{amongFirst}
+use Rattle.search_state.specs.Forming.{entryAt, formedBy}
 use Rattle.search_rows.specs.Meanings.{candidateOf}
 use Rattle.search_rows.specs.declared.Candidate.{Candidate}
-use Rattle.search_order.specs.Lists.{rowCells, rowAtPosition}
-use Rattle.search_links.specs.Covers.{tableCells, Covering}
-use Rattle.search_links.specs.Rows.{firstRows}
+use Rattle.search_state.specs.Layout.{rowCells, tableCells}
+use Rattle.search_links.specs.Covers.{Covering}
 use Rattle.search_links.specs.RowLaws.{rows-length, among-row}
 use Rattle.search_retire.specs.Clearing.{ClearingEnd as Ending}
 use Rattle.search_cover.specs.SeekLaws.{seek-finds}
@@ -36,15 +36,15 @@ use Rattle.search_state.specs.declared.State.{State}
 use Rattle.search_state.specs.declared.Terms.{Terms}
 use Rattle.search_laws.specs.Contracts.{Answers, Checked}
 use Rattle.search_laws.specs.Deciding.{answers-dropped, answers-full, answers-new}
-use Rattle.search_laws.specs.Meanings.{progressOf, countsIn, withJoin, withRow, bornBy, fullBy, decidedBy, decidedIn, totalsOf, answerTo, codeOf, answerAt, answerIn}
-use Rattle.search_laws.specs.Problems.{Letters, RuleBytes, Problem, breakingIn, termsOf}
+use Rattle.search_laws.specs.Meanings.{firstRows, progressOf, countsIn, withJoin, withRow, bornBy, fullBy, decidedBy, decidedIn, totalsOf, answerTo, codeOf, answerAt, answerIn}
+use Rattle.search_laws.specs.Problems.{Letters, RuleBytes, Problem, composingIn, breakingIn, termsOf}
 use Rattle.search_laws.specs.Running.{problemAt, target, Goes, SearchAt, Running, fateFor, Considered, MayAdvance, Remembers, GoesOn, GoesOnOver, Onward, candidatesLeft}
 use Rattle.search_laws.specs.RunLaws.{started, stands-on, goes-on, sized, used-fits, limit}
 use Rattle.search_laws.specs.RunningLaws.{stops}
 use Rattle.search_laws.specs.States.{stoppedIn}
 use Rattle.search_laws.specs.Passing.{pass-stopped, pass-going}
 use Rattle.search_laws.specs.Remaining.{EndsFrom}
-use Rattle.search_laws.specs.Walks.{considerIn, passIn}
+use Rattle.search_laws.specs.Walks.{considerIn, candidateIn, passIn}
 use Rattle.search_laws.specs.declared.Answer.the-variants as answer
 use Rattle.search_laws.specs.declared.Outcome.the-variants as outcome
 use Rattle.search_laws.specs.declared.Outcome.{Outcome}
@@ -88,13 +88,13 @@ module _ {letters : Letters} {rules : RuleBytes} {start : State} {j₀ : Journal
   unspent : s .counts .joins < s .terms .budget
   unspent = omega (arith, go .unspent, budget-is)
 
-  finds : Finds (candidateOf c) (firstRows u (x .before)) u (x .table) l
+  finds : Finds contained (candidateOf c) (firstRows u (x .before)) u (x .table) l
   finds = seek-finds (x .found .0) (x .found .1)
 
   cells : length t ≡ tableCells
   cells = by (x .inserted .outcome)
     where
-      by : Ending (s .terms .pass) (candidateOf c) u l (x .before) (x .table) j t → length t ≡ tableCells
+      by : Ending contained rowOf blank (s .terms .pass) (candidateOf c) u l (x .before) (x .table) j t → length t ≡ tableCells
       by (inl z) = ap length (z .2) ∙ go .in-pass .covering .size
       by (inr z) = z .1 .covering .size
 
@@ -146,7 +146,7 @@ module _ {letters : Letters} {rules : RuleBytes} {start : State} {j₀ : Journal
       none : (v : Bool) → l .covers ≡ v → dropped contained (candidateOf c) (firstRows u (x .before)) ≡ v
       none v e = sym (finds .found) ∙ e
 
-      by-room : (b : Bool) → eqb u (s .rows) ≡ b → l .covers ≡ false → Ending (s .terms .pass) (candidateOf c) u l (x .before) (x .table) j t → Right (fullBy b (breakingIn (s .terms) (candidateOf c)) (withJoin (s .counts)))
+      by-room : (b : Bool) → eqb u (s .rows) ≡ b → l .covers ≡ false → Ending contained rowOf blank (s .terms .pass) (candidateOf c) u l (x .before) (x .table) j t → Right (fullBy b (breakingIn (s .terms) (candidateOf c)) (withJoin (s .counts)))
       by-room true e f (inl z) = kept _ (z .1) (z .2) refl (answers-full (s .terms) (candidateOf c) (s .counts) (x .before) room hb not-spent (none false f) (eqb-true u (s .rows) e ∙ rows-are))
       by-room true e f (inr z) = absurd (omega (arith, z .0 .room, eqb-true u (s .rows) e, rows-are))
       by-room false e f (inl z) = absurd (idle (z .0))
@@ -163,24 +163,24 @@ module _ {letters : Letters} {rules : RuleBytes} {start : State} {j₀ : Journal
           new true = z .1 .covering
           new false = z .1 .covering
 
-      by : (b : Bool) → l .covers ≡ b → Ending (s .terms .pass) (candidateOf c) u l (x .before) (x .table) j t → Right (decidedBy b (eqb u (s .rows)) (breakingIn (s .terms) (candidateOf c)) (withJoin (s .counts)))
+      by : (b : Bool) → l .covers ≡ b → Ending contained rowOf blank (s .terms .pass) (candidateOf c) u l (x .before) (x .table) j t → Right (decidedBy b (eqb u (s .rows)) (breakingIn (s .terms) (candidateOf c)) (withJoin (s .counts)))
       by true e (inl z) = kept _ (z .1) (z .2) refl (answers-dropped (s .terms) (candidateOf c) (s .counts) (x .before) room hb not-spent (none true e))
       by true e (inr z) = absurd (true≢false (sym e ∙ z .0 .none))
       by false e z = by-room (eqb u (s .rows)) refl e z
 
   -- ---- the candidate is that of the place
 
-  row-there : (p i : ℕ) → i ≡ positionRow p u → rowOf (amongFirst (getD (x .before) i blank) p u) ≡ rowAtPosition (firstRows u (x .before)) p
-  row-there p i e = among-row (x .before) u p (getD (x .before) i blank) room (λ h. ap (λ (n : ℕ). getD (x .before) n blank) (e ∙ position-row p u h))
+  row-there : (p i : ℕ) → i ≡ positionRow p u → rowOf (amongFirst (getD (x .before) i blank) p u) ≡ getD (firstRows u (x .before)) p (rowOf blank)
+  row-there p i e = among-row rowOf blank u (x .before) room p (getD (x .before) i blank) (λ h. ap (λ (n : ℕ). getD (x .before) n blank) (e ∙ position-row p u h))
 
   rule-there : entryAt rules (s .place .rule) ≡ entryAt (P .rules) (s .place .rule)
   rule-there = ap entryOf (sym (getD-take (start .rules) rules (s .place .rule) [] (omega (arith, go .here, length-take (start .rules) rules))))
 
-  formed-there : candidateOf c ≡ formedBy letters (entryAt (P .rules) (s .place .rule)) (s .place) (rowAtPosition (firstRows u (x .before)) (s .place .left)) (rowAtPosition (firstRows u (x .before)) (s .place .right))
+  formed-there : candidateOf c ≡ candidateIn P (firstRows u (x .before)) (s .place)
   formed-there =
       x .formed
-      ∙ ap (λ (r : Rule). formedBy letters r (s .place) (rowOf (amongFirst (getD (x .before) (s .«left_row») blank) (s .place .left) u)) (rowOf (amongFirst (getD (x .before) (s .«right_row») blank) (s .place .right) u))) rule-there
-      ∙ ap₂ (formedBy letters (entryAt (P .rules) (s .place .rule)) (s .place)) (row-there (s .place .left) (s .«left_row») (go .left)) (row-there (s .place .right) (s .«right_row») (go .right))
+      ∙ ap (λ (r : Rule). formedBy (composingIn P) r (s .place) (rowOf (amongFirst (getD (x .before) (s .«left_row») blank) (s .place .left) u)) (rowOf (amongFirst (getD (x .before) (s .«right_row») blank) (s .place .right) u))) rule-there
+      ∙ ap₂ (formedBy (composingIn P) (entryAt (P .rules) (s .place .rule)) (s .place)) (row-there (s .place .left) (s .«left_row») (go .left)) (row-there (s .place .right) (s .«right_row») (go .right))
 
   -- ---- it stops the search
 
@@ -253,7 +253,7 @@ module _ {letters : Letters} {rules : RuleBytes} {start : State} {j₀ : Journal
   going-running tn nt {w} e {t′} {r} g =
       let a = decided-right in
       let n : countsIn became .used ≤ rowCells = omega (arith, a .0 .room, limit (x .running) (x .going)) in
-      let cov : Covering (firstRows (countsIn became .used) j) tn = nt .covering (firstRows (countsIn became .used) j) (omega (arith, n, rows-length (countsIn became .used) j (omega (arith, a .0 .room, x .inserted .size)))) (a .1) in
+      let cov : Covering (firstRows (countsIn became .used) j) tn = nt .covering (firstRows (countsIn became .used) j) (omega (arith, n, rows-length rowOf (countsIn became .used) j (omega (arith, a .0 .room, x .inserted .size)))) (a .1) in
       let on : Onward P (start .terms .budget) j₀ w r j t′ =
       subst (λ (k : ℕ). GoesOnOver (take k rules) tn s w t′ r) rules-same g P (start .terms .budget) j₀ (go .first) (go .journal) j (sized (x .running) (x .going)) (stands-on (x .running) (x .going) .rows) (go .here) (go .begun)
       (λ q f. pass-going (go .in-pass) (go .here) formed-there (x .inserted .size) (a .0) (sym e) (nt .lists ∙ x .inserted .lists) cov f)

@@ -10,9 +10,8 @@ use Rattle.spec_basics.specs.Tests.{iff-equal}
 use Rattle.spec_order.specs.Journal.{absent}
 use Rattle.spec_order.specs.Order.{Verdict, holds, broken, answer as answerWith, closeBy, close}
 use Rattle.search_rows.specs.Base as order
-use Rattle.spec_calls.specs.Rows.{Journal}
-use Rattle.search_links.specs.Rows.{firstRows}
-use Rattle.search_laws.specs.Meanings.{progressOf, verdictOf, outcomeOf, countsIn, totalsOf, answerBy, answerOf, totalsIn, answerTo}
+use Rattle.spec_calls.specs.Rows.{rowOf, Journal}
+use Rattle.search_laws.specs.Meanings.{firstRows, progressOf, verdictOf, outcomeOf, countsIn, totalsOf, answerBy, answerOf, totalsIn, answerTo}
 use Rattle.search_links.specs.RowLaws.{rows-length}
 use Rattle.search_laws.specs.declared.Answer.the-variants as answer
 use Rattle.search_laws.specs.declared.Answer.{Answer}
@@ -53,7 +52,7 @@ added-none n u m e = iff-equal (eqb m 0) (eqb n u) (λ p. eq-eqb n u (omega (ari
 module _ (starts : ℕ → Bool) (u k : ℕ) (j : Journal) (N : order.Progress → order.Answer) where
   answer-given : (v : Verdict) (i : ℕ) (w : Counts) → w .used ≤ length j → answerBy v i (totalsOf w k) j ≡ answerWith v k i (progressOf w j)
   unfolding answerWith
-  answer-given v i w h = ap (λ (n : ℕ). record { verdict = v; joins = w .joins; used = n; pass = k; row = i; journal = firstRows (w .used) j }) (sym (rows-length (w .used) j h))
+  answer-given v i w h = ap (λ (n : ℕ). record { verdict = v; joins = w .joins; used = n; pass = k; row = i; journal = firstRows (w .used) j }) (sym (rows-length rowOf (w .used) j h))
 
   -- that it added no row is that it used no row more
   pub close-end : (r : Outcome) → countsIn r .used ≤ length j → countsIn r .used ≡ u + countsIn r .added → endAnswer (endOf k r) j N ≡ close starts k u N (outcomeOf r j)
@@ -62,7 +61,7 @@ module _ (starts : ℕ → Bool) (u k : ℕ) (j : Journal) (N : order.Progress �
   close-end (outcome.Going w) h a =
       split (eqb (w .added) 0)
       ∙ ap (λ (b : Bool). closeBy starts b k N (progressOf w j)) (added-none (w .used) u (w .added) a)
-      ∙ ap (λ (n : ℕ). closeBy starts (eqb n u) k N (progressOf w j)) (sym (rows-length (w .used) j h))
+      ∙ ap (λ (n : ℕ). closeBy starts (eqb n u) k N (progressOf w j)) (sym (rows-length rowOf (w .used) j h))
     where
       split : (b : Bool) → endAnswer (endBy b w k) j N ≡ closeBy starts b k N (progressOf w j)
       split true = answer-given holds absent w h

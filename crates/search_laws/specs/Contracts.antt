@@ -8,11 +8,11 @@ use Rattle.spec_calls.specs.Checking.{journalLimit}
 use Rattle.search_rows.specs.Base as order
 use Rattle.search_links.specs.Covers.{Covering}
 use Rattle.spec_calls.specs.Rows.{Journal}
-use Rattle.search_links.specs.Rows.{firstRows, KeptBeyond}
+use Rattle.search_links.specs.Rows.{KeptBeyond}
 use Rattle.search_state.specs.declared.Counts.{Counts}
 use Rattle.search_state.specs.declared.Terms.{Terms}
 use Rattle.search_laws.specs.Problems.{Problem, algebraOf, rulesIn}
-use Rattle.search_laws.specs.Meanings.{outcomeOf, countsIn, answerOf, totalsIn}
+use Rattle.search_laws.specs.Meanings.{firstRows, outcomeOf, countsIn, answerOf, totalsIn}
 use Rattle.search_laws.specs.declared.Answer.{Answer}
 use Rattle.search_laws.specs.declared.Outcome.{Outcome}
 

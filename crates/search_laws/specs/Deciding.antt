@@ -12,9 +12,9 @@ use Rattle.relation.specs.Relation.{contained}
 use Rattle.spec_order.specs.Journal.{absent}
 use Rattle.spec_order.specs.Order.{broken, full, going, stopped, dropped, added, decide, consider}
 use Rattle.search_rows.specs.Base.{Row, Candidate, Progress, Outcome}
-use Rattle.spec_calls.specs.Rows.{Journal}
-use Rattle.search_links.specs.Rows.{firstRows, Stored}
-use Rattle.search_laws.specs.Meanings.{progressOf, withJoin, withRow, bornBy}
+use Rattle.spec_calls.specs.Rows.{rowOf, Journal}
+use Rattle.search_links.specs.Rows.{Stored}
+use Rattle.search_laws.specs.Meanings.{firstRows, progressOf, withJoin, withRow, bornBy}
 use Rattle.search_laws.specs.Problems.{breakingIn}
 use Rattle.search_laws.specs.Walks.{considerIn}
 use Rattle.search_laws.specs.Contracts.{Answers}
@@ -73,7 +73,7 @@ module _ (t : Terms) (c : Candidate) (w : Counts) (j : Journal) (hu : w .used �
           record {
             answer =
                 ap (stopped full absent) (one-more rs)
-                ∙ sym (decided false false true _ (ne-eqb (w .joins) (t .budget) p) q (eq-eqb (length rs) (length j) (rows-length (w .used) j hu ∙ e)) refl);
+                ∙ sym (decided false false true _ (ne-eqb (w .joins) (t .budget) p) q (eq-eqb (length rs) (length j) (rows-length rowOf (w .used) j hu ∙ e)) refl);
             beyond = refl;
             grows = omega arith;
             adds = refl;
@@ -81,10 +81,10 @@ module _ (t : Terms) (c : Candidate) (w : Counts) (j : Journal) (hu : w .used �
             paid = omega arith;
           }
 
-      module _ (e : w .used ≡ length j → ⊥) (new : Journal) (s : Stored (w .used + 1) (added contained (t .pass) c rs) j new) where
+      module _ (e : w .used ≡ length j → ⊥) (new : Journal) (s : Stored rowOf (w .used + 1) (added contained (t .pass) c rs) j new) where
         fresh : (b : Bool) → breakingIn t c ≡ b → given ≡ decide contained false false false b (t .pass) c (progressOf w j)
         fresh b x =
-            decided false false false b (ne-eqb (w .joins) (t .budget) p) q (ne-eqb (length rs) (length j) (λ h. e (sym (rows-length (w .used) j hu) ∙ h))) x
+            decided false false false b (ne-eqb (w .joins) (t .budget) p) q (ne-eqb (length rs) (length j) (λ h. e (sym (rows-length rowOf (w .used) j hu) ∙ h))) x
 
         grown : _≡_ {A = Progress} (record { rows = firstRows (w .used + 1) new; joins = w .joins + 1 }) (record { rows = added contained (t .pass) c rs; joins = suc (w .joins) })
         grown = ap {B = Progress} (λ (l : List Row). record { rows = l; joins = w .joins + 1 }) (s .front) ∙ one-more (added contained (t .pass) c rs)
@@ -92,5 +92,5 @@ module _ (t : Terms) (c : Candidate) (w : Counts) (j : Journal) (hu : w .used �
         pub answers-new : (b : Bool) → breakingIn t c ≡ b → Answers (t .budget) given w j new (bornBy b (w .used) (withRow (withJoin w)))
         unfolding decide
         answers-new true x =
-            record { answer = ap₂ (stopped broken) (sym (rows-length (w .used) j hu)) grown ∙ sym (fresh true x); beyond = s .beyond; grows = omega arith; adds = omega arith; room = omega arith; paid = omega arith }
+            record { answer = ap₂ (stopped broken) (sym (rows-length rowOf (w .used) j hu)) grown ∙ sym (fresh true x); beyond = s .beyond; grows = omega arith; adds = omega arith; room = omega arith; paid = omega arith }
         answers-new false x = record { answer = ap going grown ∙ sym (fresh false x); beyond = s .beyond; grows = omega arith; adds = omega arith; room = omega arith; paid = omega arith }

@@ -5,8 +5,7 @@ use Prim.Native.Nat.{ℕ, _-_, _≤_, _<_}
 use native.Mathlib.Nat.{le-of-eq}
 use lib.ListN.{length, take, drop, set, length-set, length-drop}
 use lib.Seq.{drop-set-lt, take-all}
-use Rattle.search_order.specs.Lists.{heads, headCell}
-use Rattle.search_links.specs.Covers.{listsFrom, listsIn}
+use Rattle.search_state.specs.Layout.{heads, headCell, listsFrom, listsIn}
 use Rattle.search_links.specs.CoverLaws.{covering-hint}
 use Rattle.search_laws.specs.Running.{Remembers}
 

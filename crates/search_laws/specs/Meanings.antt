@@ -1,13 +1,14 @@
 -- What the code's counts, outcomes, states and answers stand for in the working order. Definitions only. Assumes nothing.
 use mathlib.Core.Bool.{Bool, true, false, cond}
+use mathlib.Core.List.{List}
 use Prim.Native.Nat.{ℕ, _+_}
 use lib.Dec.{eqb}
 use Rattle.spec_order.specs.Journal.{absent}
 use Rattle.spec_order.specs.Order.{Verdict, holds, broken, full, spent, going, stopped}
 use Rattle.spec_calls.specs.Codes.{holdsCode, brokenCode, fullCode, verdictCode}
 use Rattle.search_rows.specs.Base as order
-use Rattle.spec_calls.specs.Rows.{Journal}
-use Rattle.search_links.specs.Rows.{firstRows}
+use Rattle.spec_calls.specs.Rows.{rowOf, Journal}
+use Rattle.search_links.specs.Rows.{rowsRead}
 use Rattle.search_state.specs.declared.Counts.{Counts}
 use Rattle.search_state.specs.declared.Fate.{Fate}
 use Rattle.search_state.specs.declared.State.{State}
@@ -20,6 +21,10 @@ use Rattle.search_laws.specs.declared.Stop.{Stop}
 use Rattle.search_laws.specs.declared.Totals.{Totals}
 use Rattle.search_laws.specs.declared.Unbroken.the-variants as unbroken
 use Rattle.search_laws.specs.declared.Unbroken.{Unbroken}
+
+-- the first u rows of the lent journal
+abbrev pub firstRows : ℕ → Journal → List order.Row
+firstRows = rowsRead rowOf
 
 abbrev pub progressOf : Counts → Journal → order.Progress
 progressOf w j = record { rows = firstRows (w .used) j; joins = w .joins }

@@ -11,9 +11,9 @@ use Rattle.spec_order.specs.Order.{close, passLimit, onePass, passes, check}
 use Rattle.spec_order.specs.Repeating.{Repeats, repeated-dropped}
 use Rattle.spec_calls.specs.Checking.{journalLimit}
 use Rattle.search_rows.specs.Base as order
-use Rattle.spec_calls.specs.Rows.{Journal}
-use Rattle.search_links.specs.Rows.{firstRows, KeptBeyond}
-use Rattle.search_laws.specs.Meanings.{progressOf, countsIn, inNextPass, totalsIn}
+use Rattle.spec_calls.specs.Rows.{rowOf, Journal}
+use Rattle.search_links.specs.Rows.{KeptBeyond, rowsRead}
+use Rattle.search_laws.specs.Meanings.{firstRows, progressOf, countsIn, inNextPass, totalsIn}
 use Rattle.search_laws.specs.Problems.{Problem, algebraOf, rulesIn, termsOf}
 use Rattle.search_laws.specs.ProblemLaws.{problem-laws}
 use Rattle.search_laws.specs.Walks.{walkIn, candidatesIn, passIn, Known}
@@ -45,7 +45,7 @@ module _ (P : Problem) (B : ℕ) where
     pub none-added : w .added ≡ 0
 
   pub pass-first : (j : Journal) → AtPass (orderOf P (length j) B) j (record { used = 0; joins = 0; added = 0 }) j 1
-  unfolding orderOf check firstRows
+  unfolding orderOf check rowsRead
   pass-first j =
       record {
         left = ap (λ (f : ℕ). rest (length j) f 1 (record { rows = []; joins = 0 })) (let e : suc (suc (length j)) - 1 ≡ suc (length j) = omega arith in e);
@@ -80,7 +80,7 @@ module _ {P : Problem} {B : ℕ} {target : order.Answer} {j₀ : Journal} {w : C
     unfolding passes N
     turned =
         close-end (algebraOf P .starts) (w .used) k j′ N r (subst (λ (n : ℕ). countsIn r .used ≤ n) (sym s) (x .room)) (omega (arith, x .adds, a .none-added))
-        ∙ ap₂ (λ (u : ℕ) (y : order.Outcome). close (algebraOf P .starts) k u N y) (sym (rows-length (w .used) j hu)) (x .answer ∙ pass-eq)
+        ∙ ap₂ (λ (u : ℕ) (y : order.Outcome). close (algebraOf P .starts) k u N y) (sym (rows-length rowOf (w .used) j hu)) (x .answer ∙ pass-eq)
         ∙ ap (λ (f : ℕ). rest P B (length j₀) f k (progressOf w j)) (let e : suc (suc (length j₀) - k) ≡ suc (suc (length j₀)) - k = omega (arith, a .count, a .room) in e)
         ∙ a .left
 
@@ -129,4 +129,4 @@ module _ {P : Problem} {B : ℕ} {target : order.Answer} {j₀ : Journal} {w : C
       pub pass-known : length j₀ ≤ journalLimit → Known (w .used) (candidatesIn P (firstRows (w′ .used) j′)) (firstRows (w′ .used) j′)
       pass-known few z c m h =
           repeated-dropped (algebraOf P) (problem-laws P) (rulesIn P) (length j) B k (progressOf w j) (progressOf w′ j′)
-          (omega (arith, rows-length (w′ .used) j′ (omega (arith, pass-room, s, a .same)), pass-room, few)) (sym (xg .answer)) c m (subst (λ (n : ℕ). Repeats n c) (sym (rows-length (w .used) j hu)) h)
+          (omega (arith, rows-length rowOf (w′ .used) j′ (omega (arith, pass-room, s, a .same)), pass-room, few)) (sym (xg .answer)) c m (subst (λ (n : ℕ). Repeats n c) (sym (rows-length rowOf (w .used) j hu)) h)

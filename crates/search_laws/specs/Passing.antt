@@ -4,16 +4,16 @@ use mathlib.Core.Path.{_≡_, refl, sym, ap, ap₂, _∙_, subst}
 use mathlib.Core.Bool.{Bool, true, false, _&&_, _||_}
 use mathlib.Core.List.{List, [], _∷_, map}
 use mathlib.Core.Logic.{inl, inr}
-use Prim.Native.Nat.{ℕ, suc, _+_, _-_, _≤_, _<_}
+use Prim.Native.Nat.{ℕ, suc, _≤_, _<_}
 use native.Mathlib.Nat.{le-refl}
 use native.Mathlib.Omega.{arith}
 use lib.Dec.{eqb, ltb}
-use lib.ListN.{length, length-map, length-append, List·getD-append, List·getD-eq-default}
-use borrow.Author.Tests.{eqb-true, ltb-true, ltb-false}
+use lib.ListN.{length, getD, length-map, length-append, List·getD-append, List·getD-eq-default}
+use borrow.Author.Tests.{eqb-true, ltb-true}
 use Rattle.spec_basics.specs.Elements.{In}
 use Rattle.spec_basics.specs.Lists.{getD-map}
 use Rattle.spec_basics.specs.Tests.{and-fst, and-snd}
-use Rattle.spec_language.specs.Grammar.{Symbol, terminal, nonterminal, Body, empty, one, two, Rule}
+use Rattle.spec_language.specs.Grammar.{Symbol, terminal, nonterminal, Body, empty, one, two}
 use Rattle.relation.specs.Relation.{contained}
 use Rattle.spec_order.specs.Candidates.{sole, paired, bare}
 use Rattle.spec_order.specs.Coverage.{dropped-added}
@@ -24,17 +24,19 @@ use Rattle.spec_order.specs.Walking.{Post, step-post}
 use Rattle.spec_calls.specs.Checking.{journalLimit}
 use Rattle.spec_calls.specs.Rows.{rowOf, blank, Journal}
 use Rattle.search_rows.specs.Base as order
-use Rattle.search_rows.specs.Forming.{Part, none, some, rowChoice, symbolChoice, leftPart, rightPart, partChoice, combined, formedBy, entryAt}
+use Rattle.search_state.specs.Forming.{Part, none, some, leftPart, rightPart, entryAt, Composing, rowChoice, symbolChoice, partChoice, joined, combined}
 use Rattle.search_state.specs.declared.Place.{Place}
-use Rattle.search_order.specs.Lists.{rowAtPosition, Listed}
-use Rattle.search_order.specs.Places.{LeftFrom, FirstPlace, NextPlace}
-use Rattle.search_links.specs.Covers.{listsIn, Covering}
-use Rattle.search_links.specs.Rows.{firstRows}
-use Rattle.search_links.specs.RowLaws.{rows-length, rows-at}
-use Rattle.search_laws.specs.Meanings.{progressOf, countsIn, withJoin}
-use Rattle.search_laws.specs.Problems.{Letters, Problem, algebraOf, rulesIn, problemIn}
+use Rattle.search_state.specs.Layout.{listsIn}
+use Rattle.search_order.specs.Candidates.{candidateAt, LeftFrom}
+use Rattle.search_order.specs.CandidateLaws.{left-first, left-next}
+use Rattle.search_order.specs.Lists.{Listed}
+use Rattle.search_order.specs.Places.{FirstPlace, NextPlace}
+use Rattle.search_links.specs.Covers.{Covering}
+use Rattle.search_links.specs.RowLaws.{rows-length}
+use Rattle.search_laws.specs.Meanings.{firstRows, progressOf, countsIn, withJoin}
+use Rattle.search_laws.specs.Problems.{RuleBytes, Problem, algebraOf, composingIn, rulesIn, problemIn}
 use Rattle.search_laws.specs.ProblemLaws.{problem-laws}
-use Rattle.search_laws.specs.Walks.{considerIn, walkIn, candidatesIn, passIn, isBefore, repeatsAt, Known}
+use Rattle.search_laws.specs.Walks.{considerIn, walkIn, candidatesIn, candidateIn, passIn, isBefore, repeatsAt, Known}
 use Rattle.search_laws.specs.Contracts.{PassReady, Answers}
 use Rattle.search_laws.specs.Deciding.{answers-dropped}
 use Rattle.search_laws.specs.Remaining.{Remaining, EndsFrom, remaining-start, remaining-going, remaining-stopped, remaining-none}
@@ -47,7 +49,7 @@ use Rattle.search_state.specs.declared.Terms.{Terms}
 
 -- each is there, with the relation and the length that it had
 abbrev Kept : List order.Row → List order.Row → Type 0
-Kept A rows = (length A ≤ length rows) × ((i : ℕ) → i < length A → rowChoice i (rowAtPosition rows i) ≡ rowChoice i (rowAtPosition A i))
+Kept A rows = (length A ≤ length rows) × ((i : ℕ) → i < length A → rowChoice i (getD rows i (rowOf blank)) ≡ rowChoice i (getD A i (rowOf blank)))
 
 kept-added : (k : ℕ) (c : order.Candidate) (A rows : List order.Row) → Kept A rows → Kept A (added contained k c rows)
 unfolding added retire
@@ -74,31 +76,30 @@ consider-goes b J P c s s′ e p q =
 
 -- the rows A are kept among the first u of the journal j, and no number below u is that of no row
 module _ (A : List order.Row) (u : ℕ) (j : Journal) (room : u ≤ length j) (few : u ≤ absent) (kept : Kept A (firstRows u j)) where
-  row-same : (i : ℕ) → PointsBelow (length A) i → rowChoice i (rowAtPosition (firstRows u j) i) ≡ rowChoice i (rowAtPosition A i)
+  row-same : (i : ℕ) → PointsBelow (length A) i → rowChoice i (getD (firstRows u j) i (rowOf blank)) ≡ rowChoice i (getD A i (rowOf blank))
   row-same i (inl l) = kept .1 i l
   row-same i (inr e) =
-      let none : (rows : List order.Row) → length rows ≤ u → rowAtPosition rows i ≡ rowOf blank =
+      let none : (rows : List order.Row) → length rows ≤ u → getD rows i (rowOf blank) ≡ rowOf blank =
       λ rows h. List·getD-eq-default rows (rowOf blank) (omega (arith, h, few, e)) in
-      ap (rowChoice i) (none (firstRows u j) (omega (arith, rows-length u j room)) ∙ sym (none A (omega (arith, kept .0, rows-length u j room))))
+      ap (rowChoice i) (none (firstRows u j) (omega (arith, rows-length rowOf u j room)) ∙ sym (none A (omega (arith, kept .0, rows-length rowOf u j room))))
 
-  symbol-same : (letters : Letters) (s : Symbol) (i : ℕ) → PointsBelow (length A) (symbolChoice letters s i (rowAtPosition A i) .pointer)
-      → symbolChoice letters s i (rowAtPosition (firstRows u j) i) ≡ symbolChoice letters s i (rowAtPosition A i)
-  symbol-same letters (terminal c) i h = refl
-  symbol-same letters (nonterminal x) i h = row-same i h
+  symbol-same : (F : Composing ℕ) (s : Symbol) (i : ℕ) → PointsBelow (length A) (symbolChoice F s i (getD A i (rowOf blank)) .pointer)
+      → symbolChoice F s i (getD (firstRows u j) i (rowOf blank)) ≡ symbolChoice F s i (getD A i (rowOf blank))
+  symbol-same F (terminal c) i h = refl
+  symbol-same F (nonterminal x) i h = row-same i h
 
   -- a candidate of rows of A is formed from the used rows as it is from A
-  formed-same : (letters : Letters) (x : Rule) (p : Place) → Repeats (length A) (formedBy letters x p (rowAtPosition A (p .left)) (rowAtPosition A (p .right)))
-      → formedBy letters x p (rowAtPosition (firstRows u j) (p .left)) (rowAtPosition (firstRows u j) (p .right)) ≡ formedBy letters x p (rowAtPosition A (p .left)) (rowAtPosition A (p .right))
+  formed-same : (F : Composing ℕ) (rules : RuleBytes) (p : Place) → Repeats (length A) (candidateAt F (rowOf blank) A rules p) → candidateAt F (rowOf blank) (firstRows u j) rules p ≡ candidateAt F (rowOf blank) A rules p
   unfolding bare sole paired
-  formed-same letters x p = by (x .body)
+  formed-same F rules p = by (entryAt rules (p .rule) .body)
     where
       formed : Body → List order.Row → order.Candidate
-      formed b rows = combined (x .head) (p .rule) b (partChoice letters (leftPart b) (p .left) (rowAtPosition rows (p .left))) (partChoice letters (rightPart b) (p .right) (rowAtPosition rows (p .right)))
+      formed b rows = combined F (entryAt rules (p .rule) .head) (p .rule) b (partChoice F (leftPart b) (p .left) (getD rows (p .left) (rowOf blank))) (partChoice F (rightPart b) (p .right) (getD rows (p .right) (rowOf blank)))
 
       by : (b : Body) → Repeats (length A) (formed b A) → formed b (firstRows u j) ≡ formed b A
       by empty h = refl
-      by (one s) h = ap (λ (c : order.Choice). sole (x .head) (p .rule) c) (symbol-same letters s (p .left) (h .0))
-      by (two s s′) h = ap₂ (order.joined (x .head) (p .rule)) (symbol-same letters s (p .left) (h .0)) (symbol-same letters s′ (p .right) (h .1))
+      by (one s) h = ap (λ (c : order.Choice). sole (entryAt rules (p .rule) .head) (p .rule) c) (symbol-same F s (p .left) (h .0))
+      by (two s s′) h = ap₂ (joined F (entryAt rules (p .rule) .head) (p .rule)) (symbol-same F s (p .left) (h .0)) (symbol-same F s′ (p .right) (h .1))
 
 -- what is formed at a place whose rows are among the first n points to no others
 before-below : (n i : ℕ) → isBefore n i ≡ true → PointsBelow n i
@@ -108,21 +109,21 @@ before-below n i e = by (ltb i n) refl e
     by true l h = inl (ltb-true i n l)
     by false l h = inr (eqb-true i absent h)
 
-part-below : (letters : Letters) (p : Part) (n i : ℕ) (r : order.Row) → PointsBelow n i → PointsBelow n (partChoice letters p i r .pointer)
-part-below letters none n i r h = inr refl
-part-below letters (some (terminal c)) n i r h = inr refl
-part-below letters (some (nonterminal x)) n i r h = h
+part-below : (F : Composing ℕ) (p : Part) (n i : ℕ) (r : order.Row) → PointsBelow n i → PointsBelow n (partChoice F p i r .pointer)
+part-below F none n i r h = inr refl
+part-below F (some (terminal c)) n i r h = inr refl
+part-below F (some (nonterminal x)) n i r h = h
 
-formed-repeats : (n : ℕ) (letters : Letters) (x : Rule) (p : Place) (l r : order.Row) → repeatsAt n p ≡ true → (0 < n) × Repeats n (formedBy letters x p l r)
+formed-repeats : (n : ℕ) (F : Composing ℕ) (A : List order.Row) (rules : RuleBytes) (p : Place) → repeatsAt n p ≡ true → (0 < n) × Repeats n (candidateAt F (rowOf blank) A rules p)
 unfolding bare sole paired
-formed-repeats n letters x p l r e =
+formed-repeats n F A rules p e =
     let both = and-snd (ltb 0 n) (isBefore n (p .left) && isBefore n (p .right)) e in
-    (ltb-true 0 n (and-fst (ltb 0 n) (isBefore n (p .left) && isBefore n (p .right)) e), by (x .body) (before-below n (p .left) (and-fst (isBefore n (p .left)) (isBefore n (p .right)) both)) (before-below n (p .right) (and-snd (isBefore n (p .left)) (isBefore n (p .right)) both)))
+    (ltb-true 0 n (and-fst (ltb 0 n) (isBefore n (p .left) && isBefore n (p .right)) e), by (entryAt rules (p .rule) .body) (before-below n (p .left) (and-fst (isBefore n (p .left)) (isBefore n (p .right)) both)) (before-below n (p .right) (and-snd (isBefore n (p .left)) (isBefore n (p .right)) both)))
   where
-    by : (b : Body) → PointsBelow n (p .left) → PointsBelow n (p .right) → Repeats n (combined (x .head) (p .rule) b (partChoice letters (leftPart b) (p .left) l) (partChoice letters (rightPart b) (p .right) r))
+    by : (b : Body) → PointsBelow n (p .left) → PointsBelow n (p .right) → Repeats n (combined F (entryAt rules (p .rule) .head) (p .rule) b (partChoice F (leftPart b) (p .left) (getD A (p .left) (rowOf blank))) (partChoice F (rightPart b) (p .right) (getD A (p .right) (rowOf blank))))
     by empty f g = (inr refl, inr refl)
-    by (one s) f g = (part-below letters (some s) n (p .left) l f, inr refl)
-    by (two s s′) f g = (part-below letters (some s) n (p .left) l f, part-below letters (some s′) n (p .right) r g)
+    by (one s) f g = (part-below F (some s) n (p .left) (getD A (p .left) (rowOf blank)) f, inr refl)
+    by (two s s′) f g = (part-below F (some s) n (p .left) (getD A (p .left) (rowOf blank)) f, part-below F (some s′) n (p .right) (getD A (p .right) (rowOf blank)) g)
 
 -- ---- the loop
 
@@ -135,7 +136,7 @@ pub record InPass (b : Terms) (P : Problem) (first : Counts) (j₁ : Journal) (t
   pub kept : Kept rows (firstRows (w .used) j)
   -- what is left of the pass: each points to these rows, or to none
   pub candidates : List order.Candidate
-  pub stands : LeftFrom (P .letters) rows (listsIn t) (P .rules) p candidates
+  pub stands : LeftFrom (composingIn P) (rowOf blank) rows (P .rules) (listsIn t) p candidates
   pub points : (c : order.Candidate) → In c candidates → Repeats (length rows) c
   pub known : Known (b .«rows_at_previous_start») candidates (firstRows (w .used) j)
   pub left : Remaining (b .budget) (passIn b P first j₁) (walkIn b (length j₁) candidates (progressOf w j)) first j₁ w j
@@ -144,14 +145,14 @@ pub record InPass (b : Terms) (P : Problem) (first : Counts) (j₁ : Journal) (t
 
 pub pass-start : {b : Terms} {P : Problem} {first : Counts} {j₁ : Journal} {t : List ℕ} {p : Place} → Listed (firstRows (first .used) j₁) (listsIn t) → PassReady b first j₁ t
     → Known (b .«rows_at_previous_start») (candidatesIn P (firstRows (first .used) j₁)) (firstRows (first .used) j₁) → FirstPlace (listsIn t) (P .rules) 0 p → InPass b P first j₁ t first j₁ p
-pass-start {b} {P} {first} {j₁} l r k o =
+pass-start {b} {P} {first} {j₁} {t} {p} l r k o =
     let A = firstRows (first .used) j₁ in
     record {
       rows = A;
       listed = l;
       kept = (le-refl (length A), λ i m. refl);
       candidates = candidatesIn P A;
-      stands = o (P .letters) A l;
+      stands = left-first (composingIn P) (rowOf blank) A (P .rules) (listsIn t) l p o;
       points = pass-points (algebraOf P) A (rulesIn P) 0;
       known = k;
       left = remaining-start (r .room) (r .paid);
@@ -168,15 +169,15 @@ module _ {b : Terms} {P : Problem} {first : Counts} {j₁ : Journal} {t : List �
   unfolding walk
   pass-end h = by (g .candidates) (g .stands) (g .left)
     where
-      by : (cs : List order.Candidate) → LeftFrom (P .letters) (g .rows) (listsIn t) (P .rules) p cs → Rest cs → Answers (b .budget) (passIn b P first j₁) first j₁ j (Going w)
+      by : (cs : List order.Candidate) → LeftFrom (composingIn P) (rowOf blank) (g .rows) (P .rules) (listsIn t) p cs → Rest cs → Answers (b .budget) (passIn b P first j₁) first j₁ j (Going w)
       by [] s l = remaining-none l
       by (c ∷ cs) s l = absurd (omega (arith, h, s .0))
 
   -- the candidate is formed from the used rows
-  module _ (h : p .rule < length (P .rules)) {c : order.Candidate} (e : c ≡ formedBy (P .letters) (entryAt (P .rules) (p .rule)) p (rowAtPosition (firstRows (w .used) j) (p .left)) (rowAtPosition (firstRows (w .used) j) (p .right))) where
+  module _ (h : p .rule < length (P .rules)) {c : order.Candidate} (e : c ≡ candidateIn P (firstRows (w .used) j) p) where
     -- the candidate is the first that is left
     abbrev Next : order.Candidate → List order.Candidate → Type 0
-    Next d ds = (d ≡ c) × ((q : Place) → NextPlace (listsIn t) (P .rules) p q → LeftFrom (P .letters) (g .rows) (listsIn t) (P .rules) q ds)
+    Next d ds = (d ≡ c) × ((q : Place) → NextPlace (listsIn t) (P .rules) p q → LeftFrom (composingIn P) (rowOf blank) (g .rows) (P .rules) (listsIn t) q ds)
         × Rest (d ∷ ds)
         × Known (b .«rows_at_previous_start») (d ∷ ds) (firstRows (w .used) j)
         × ((f : order.Candidate) → In f (d ∷ ds) → Repeats (length (g .rows)) f)
@@ -187,16 +188,16 @@ module _ {b : Terms} {P : Problem} {first : Counts} {j₁ : Journal} {t : List �
     next : (d : order.Candidate) × (ds : List order.Candidate) × Next d ds
     next = by (g .candidates) (g .stands) (g .left) (g .known) (g .points)
       where
-        by : (cs : List order.Candidate) → LeftFrom (P .letters) (g .rows) (listsIn t) (P .rules) p cs → Rest cs → Known (b .«rows_at_previous_start») cs (firstRows (w .used) j) → ((f : order.Candidate) → In f cs → Repeats (length (g .rows)) f) → (d : order.Candidate) × (ds : List order.Candidate) × Next d ds
+        by : (cs : List order.Candidate) → LeftFrom (composingIn P) (rowOf blank) (g .rows) (P .rules) (listsIn t) p cs → Rest cs → Known (b .«rows_at_previous_start») cs (firstRows (w .used) j) → ((f : order.Candidate) → In f cs → Repeats (length (g .rows)) f) → (d : order.Candidate) × (ds : List order.Candidate) × Next d ds
         by [] z l k m = absurd (z h)
         by (d ∷ ds) z l k m = (
           d,
           ds,
           (
             z .1
-                ∙ sym (formed-same (g .rows) (w .used) j (omega (arith, g .left .room, g .left .same)) few (g .kept) (P .letters) (entryAt (P .rules) (p .rule)) p (subst (Repeats (length (g .rows))) (z .1) (m d (inl refl))))
+                ∙ sym (formed-same (g .rows) (w .used) j (omega (arith, g .left .room, g .left .same)) few (g .kept) (composingIn P) (P .rules) p (subst (Repeats (length (g .rows))) (z .1) (m d (inl refl))))
                 ∙ sym e,
-            λ q f. f (P .letters) (g .rows) (g .listed) d ds z,
+            λ q f. left-next (composingIn P) (rowOf blank) (g .rows) (P .rules) (listsIn t) (g .listed) p q f d ds z,
             l,
             k,
             m,
@@ -231,7 +232,7 @@ module _ {b : Terms} {P : Problem} {first : Counts} {j₁ : Journal} {t : List �
             listed = subst (Listed (g .rows)) (sym u) (g .listed);
             kept = consider-goes b (length j) (λ y. Kept (g .rows) (y .rows)) c (progressOf w j) (progressOf w′ j′) (x .answer) (g .kept) (kept-added (b .pass) c (g .rows) (firstRows (w .used) j) (g .kept));
             candidates = next .1;
-            stands = subst (λ (lists : List ℕ). LeftFrom (P .letters) (g .rows) lists (P .rules) q (next .1)) (sym u) (next .2 .1 q (subst (λ (lists : List ℕ). NextPlace lists (P .rules) p q) u f));
+            stands = subst (λ (lists : List ℕ). LeftFrom (composingIn P) (rowOf blank) (g .rows) (P .rules) lists q (next .1)) (sym u) (next .2 .1 q (subst (λ (lists : List ℕ). NextPlace lists (P .rules) p q) u f));
             points = λ d m. next .2 .4 d (inr m);
             known = consider-goes b (length j) (λ y. Known (b .«rows_at_previous_start») (next .1) (y .rows)) c (progressOf w j) (progressOf w′ j′) (x .answer) others (λ z d m e. dropped-added (algebraOf P) (problem-laws P) (b .pass) c d (firstRows (w .used) j) (others z d m e));
             left = remaining-going (next .2 .2) (considerIn b (length j) c (progressOf w j)) (walkIn b (length j₁) (next .1)) split j′ s w′ x;
@@ -243,7 +244,7 @@ module _ {b : Terms} {P : Problem} {first : Counts} {j₁ : Journal} {t : List �
   pub pass-over : p .rule < length (P .rules) → w .joins < b .budget → repeatsAt (b .«rows_at_previous_start») p ≡ true → {q : Place} → NextPlace (listsIn t) (P .rules) p q
       → InPass b P first j₁ t (withJoin w) j q
   pass-over h paid e {q} f =
-      let c : order.Candidate = formedBy (P .letters) (entryAt (P .rules) (p .rule)) p (rowAtPosition (firstRows (w .used) j) (p .left)) (rowAtPosition (firstRows (w .used) j) (p .right)) in
+      let c : order.Candidate = candidateIn P (firstRows (w .used) j) p in
       let room : w .used ≤ length j = omega (arith, g .left .room, g .left .same) in
-      let z = formed-repeats (b .«rows_at_previous_start») (P .letters) (entryAt (P .rules) (p .rule)) p (rowAtPosition (firstRows (w .used) j) (p .left)) (rowAtPosition (firstRows (w .used) j) (p .right)) e in
+      let z = formed-repeats (b .«rows_at_previous_start») (composingIn P) (firstRows (w .used) j) (P .rules) p e in
       pass-going h {c = c} refl refl (answers-dropped b c w j room (g .left .paid) (λ y. omega (arith, y, paid)) (there h {c = c} refl (z .0) (z .1))) refl refl (g .covering) f

@@ -15,7 +15,7 @@ use Rattle.search_state.specs.declared.Place.{Place}
 use Rattle.search_order.specs.Lists.{afterIn}
 use Rattle.search_order.specs.PlaceLaws.{follows-right}
 use Rattle.search_order.specs.Places.{NextPlace}
-use Rattle.search_links.specs.Covers.{listsIn}
+use Rattle.search_state.specs.Layout.{listsIn}
 use Rattle.search_state.specs.Budgets.{isSpent}
 use Rattle.search_state.specs.declared.Terms.{Terms}
 use Rattle.search_laws.specs.Passing.{pass-over}

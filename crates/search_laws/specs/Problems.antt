@@ -6,7 +6,8 @@ use Rattle.spec_language.specs.Grammar.{Rule}
 use Rattle.spec_order.specs.Algebra.{Algebra}
 use Rattle.spec_file.specs.Entries.{entryOf}
 use Rattle.search_rows.specs.Base.{Candidate}
-use Rattle.search_rows.specs.Meanings.{baseOf}
+use Rattle.search_rows.specs.Meanings.{composingOf, baseOf}
+use Rattle.search_state.specs.Forming.{Composing}
 use Rattle.search_state.specs.declared.Terms.{Terms}
 
 -- the table of letters, word by word, and the four bytes of each rule
@@ -27,6 +28,10 @@ pub record Problem : Type 0 where
 -- its algebra: what its bodies form, which nonterminals start, and which new rows break the check
 abbrev pub algebraOf : Problem → Algebra ℕ
 algebraOf P = baseOf (P .letters) (P .finals)
+
+-- what its bodies form
+abbrev pub composingIn : Problem → Composing ℕ
+composingIn P = composingOf (P .letters)
 
 abbrev pub rulesIn : Problem → List Rule
 rulesIn P = map entryOf (P .rules)

@@ -8,8 +8,8 @@ use lib.Dec.{T}
 use lib.ListN.{length, take, length-take}
 use Rattle.spec_file.specs.Limits.{letterWords}
 use Rattle.search_rows.specs.declared.Candidate.{Candidate}
-use Rattle.search_order.specs.Lists.{rowCells}
-use Rattle.spec_calls.specs.Rows.{Journal}
+use Rattle.search_state.specs.Layout.{rowCells}
+use Rattle.spec_calls.specs.Rows.{rowOf, Journal}
 use Rattle.search_links.specs.RowLaws.{rows-length}
 use Rattle.search_state.specs.PositionLaws.{position-inside}
 use Rattle.search_state.specs.declared.Fate.{Fate}
@@ -59,7 +59,7 @@ module _ {letters : Letters} {rules : RuleBytes} {start : State} {j₀ : Journal
   may-form = (sized .all, omega (arith, goes-on .here, length-take (start .rules) rules))
 
   pub may-find : MayFind s j t
-  may-find = (used-fits, some-row, record { covering = goes-on .in-pass .covering; size = rows-length (s .counts .used) j used-fits; limit = omega (arith, used-fits, limit) })
+  may-find = (used-fits, some-row, record { covering = goes-on .in-pass .covering; size = rows-length rowOf (s .counts .used) j used-fits; limit = omega (arith, used-fits, limit) })
 
   pub pass-some : 0 < s .terms .pass
   pass-some = omega (arith, goes-on .begun .at-pass .first, ap (λ (x : _). x .pass) (goes-on .begun .terms))

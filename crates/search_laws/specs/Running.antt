@@ -7,16 +7,16 @@ use Prim.Native.Nat.{ℕ, suc, _-_, _≤_, _<_}
 use lib.Dec.{T, ltb}
 use lib.ListN.{length, getD, take}
 use Rattle.spec_file.specs.Limits.{letterWords}
-use Rattle.spec_calls.specs.Rows.{blank, Journal}
+use Rattle.relation.specs.Relation.{contained}
+use Rattle.spec_calls.specs.Rows.{rowOf, blank, Journal}
 use Rattle.search_rows.specs.Base as order
 use Rattle.search_rows.specs.Forming.{formedIn}
 use Rattle.search_rows.specs.Meanings.{candidateOf}
 use Rattle.search_rows.specs.declared.Candidate.{Candidate}
 use Rattle.search_state.specs.declared.Place.{Place}
-use Rattle.search_order.specs.Lists.{rowCells, heads, headCell}
+use Rattle.search_state.specs.Layout.{rowCells, heads, headCell, listsFrom, tableCells, listsIn}
 use Rattle.search_order.specs.Places as places
-use Rattle.search_links.specs.Covers.{tableCells, listsFrom, listsIn, Covering}
-use Rattle.search_links.specs.Rows.{firstRows}
+use Rattle.search_links.specs.Covers.{Covering}
 use Rattle.search_cover.specs.Seeking.{Leads, Finds, Seeking}
 use Rattle.search_cover.specs.declared.CoverCursor.{CoverCursor}
 use Rattle.search_retire.specs.Clearing.{Inserted}
@@ -28,7 +28,7 @@ use Rattle.search_state.specs.declared.Fate.{Fate}
 use Rattle.search_state.specs.declared.State.{State}
 use Rattle.search_state.specs.declared.Terms.{Terms}
 use Rattle.search_laws.specs.Contracts.{Answers, Checked, orderOf}
-use Rattle.search_laws.specs.Meanings.{answerIn}
+use Rattle.search_laws.specs.Meanings.{firstRows, answerIn}
 use Rattle.search_laws.specs.Passes.{AtPass}
 use Rattle.search_laws.specs.Passing.{InPass}
 use Rattle.search_laws.specs.Problems.{Letters, RuleBytes, Problem, withRules, problemIn, termsOf, breakingIn}
@@ -104,7 +104,12 @@ MayFind s j t = (s .counts .used ≤ length j) × (0 < length j) × Leads (first
 
 -- looking for a cover has ended at the cursor l
 abbrev pub CoverFound : State → Candidate → Journal → List ℕ → CoverCursor → Type 0
-CoverFound s c j t l = Seeking (candidateOf c) (firstRows (s .counts .used) j) (s .counts .used) t l × T (not (l .active))
+CoverFound s c j t l = Seeking contained (candidateOf c) (firstRows (s .counts .used) j) (s .counts .used) t l × T (not (l .active))
+
+-- the candidate c has become a row, unless a row covers it or the journal is full: j and t were the journal and the table before, j′ and t′ are
+-- those after
+abbrev pub CandidateInserted : State → Candidate → CoverCursor → Journal → List ℕ → Journal → List ℕ → Type 0
+CandidateInserted s c l j t j′ t′ = Inserted contained rowOf blank (s .terms .pass) (candidateOf c) (s .counts .used) l j t j′ t′
 
 -- what becomes of the candidate c, where a row covers it or not
 abbrev pub fateFor : State → Candidate → Bool → Fate
@@ -118,7 +123,7 @@ pub record MayInsert (s : State) (c : Candidate) (f : Fate) (l : CoverCursor) (j
   pub room : s .counts .used ≤ length j
   pub limit : length j ≤ rowCells
   pub covering : Covering (firstRows (s .counts .used) j) t
-  pub finds : Finds (candidateOf c) (firstRows (s .counts .used) j) (s .counts .used) t l
+  pub finds : Finds contained (candidateOf c) (firstRows (s .counts .used) j) (s .counts .used) t l
 
 -- the candidate of the place has been formed, looked for, and inserted where no row covers it and there is room
 pub record Considered (letters : Letters) (rules : RuleBytes) (start : State) (j₀ : Journal) (s : State) (c : Candidate) (f : Fate) (l : CoverCursor) (j : Journal) (t : List ℕ) : Type 0 where
@@ -129,7 +134,7 @@ pub record Considered (letters : Letters) (rules : RuleBytes) (start : State) (j
   pub formed : candidateOf c ≡ formedIn letters rules s (getD before (s .«left_row») blank) (getD before (s .«right_row») blank)
   pub found : CoverFound s c before table l
   pub fate : f ≡ fateFor s c (l .covers)
-  pub inserted : Inserted (s .terms .pass) (candidateOf c) (s .counts .used) l before table j t
+  pub inserted : CandidateInserted s c l before table j t
 
 -- the measure of the loop: at most this many candidates are left, since each is one join
 abbrev pub candidatesLeft : State → ℕ

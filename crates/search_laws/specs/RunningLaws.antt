@@ -10,14 +10,13 @@ use lib.ListN.{length}
 use borrow.Author.Tests.{leb-true, leb-false, eq-eqb, ne-eqb, ltb-true, ltb-false}
 use Rattle.spec_calls.specs.Codes.{holdsCode, spentCode}
 use Rattle.search_rows.specs.Base as order
-use Rattle.search_rows.specs.Forming.{formedBy, entryAt}
 use Rattle.search_state.specs.declared.Place.{Place}
-use Rattle.search_order.specs.Lists.{rowCells, rowAtPosition, Listed}
+use Rattle.search_state.specs.Layout.{rowCells, listsIn}
+use Rattle.search_order.specs.Lists.{Listed}
 use Rattle.search_order.specs.Places as places
-use Rattle.search_links.specs.Covers.{listsIn, Covering}
+use Rattle.search_links.specs.Covers.{Covering}
 use Rattle.search_links.specs.Listing.{Gathered, gathered-listed, gathered-covering}
-use Rattle.spec_calls.specs.Rows.{Journal}
-use Rattle.search_links.specs.Rows.{firstRows}
+use Rattle.spec_calls.specs.Rows.{rowOf, Journal}
 use Rattle.search_links.specs.RowLaws.{rows-length}
 use Rattle.search_state.specs.Budgets.{isSpent}
 use Rattle.search_state.specs.declared.Counts.{Counts}
@@ -26,13 +25,13 @@ use Rattle.search_state.specs.declared.Terms.{Terms}
 use Rattle.search_laws.specs.Closing.{Again, Done, endBy, endOf}
 use Rattle.search_laws.specs.Contracts.{PassReady, Answers, Checked}
 use Rattle.search_laws.specs.Deciding.{answers-spent}
-use Rattle.search_laws.specs.Meanings.{inNextPass, totalsOf, answerIn}
+use Rattle.search_laws.specs.Meanings.{firstRows, inNextPass, totalsOf, answerIn}
 use Rattle.search_laws.specs.Problems.{Problem, termsOf}
 use Rattle.search_laws.specs.Passes.{AtPass, pass-done, pass-again, pass-known}
 use Rattle.search_laws.specs.Passing.{InPass, pass-start, pass-end, pass-stopped}
 use Rattle.search_laws.specs.Running.{target, InLimits, PassBegun, Onward, PassesOver}
 use Rattle.search_laws.specs.States.{ended, standingBy, standing, finished, openingBy, opening}
-use Rattle.search_laws.specs.Walks.{candidatesIn, passIn, Known}
+use Rattle.search_laws.specs.Walks.{candidatesIn, candidateIn, passIn, Known}
 use Rattle.search_laws.specs.declared.Answer.the-variants as answer
 use Rattle.search_laws.specs.declared.Answer.{Answer}
 use Rattle.search_laws.specs.declared.Outcome.the-variants as outcome
@@ -67,7 +66,7 @@ module _ (P : Problem) (B : ℕ) (j₀ : Journal) (s : State) (rows : s .rows �
       -- the budget is spent there
       spent-there : p .rule < length (P .rules) → w .joins ≡ B → Checked (target P B j₀) j₀ j (answer.Ended unbroken.Spent (totalsOf w k))
       spent-there h e =
-          let c : order.Candidate = formedBy (P .letters) (entryAt (P .rules) (p .rule)) p (rowAtPosition (firstRows (w .used) j) (p .left)) (rowAtPosition (firstRows (w .used) j) (p .right)) in
+          let c : order.Candidate = candidateIn P (firstRows (w .used) j) p in
           stops (g .left .same) (outcome.Stopped (stop.Ended unbroken.Spent w))
           (pass-stopped g h {c = c} refl refl {r = outcome.Stopped (stop.Ended unbroken.Spent w)}
           (answers-spent (at k n first) c w j (omega (arith, g .left .room, g .left .same)) (g .left .paid) e) (λ i K. refl)) refl
@@ -131,7 +130,7 @@ module _ (P : Problem) (B : ℕ) (j₀ : Journal) (s : State) (rows : s .rows �
 
   module _ (z : InLimits P B j₀) {w : Counts} {j : Journal} {k : ℕ} (a : AtPass P B (target P B j₀) j₀ w j k) (n : ℕ) (fits : n ≤ rowCells) (known : Known n (candidatesIn P (firstRows (w .used) j)) (firstRows (w .used) j)) {t t′ : List ℕ} (c : Covering (firstRows (w .used) j) t) (g : Gathered (w .used) t t′) where
     size-first : length (firstRows (w .used) j) ≡ w .used
-    size-first = rows-length (w .used) j (omega (arith, a .room, a .same))
+    size-first = rows-length rowOf (w .used) j (omega (arith, a .room, a .same))
 
     few : length (firstRows (w .used) j) ≤ rowCells
     few = omega (arith, size-first, a .room, z .limit)

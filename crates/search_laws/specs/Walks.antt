@@ -14,12 +14,12 @@ use Rattle.spec_order.specs.Order.{dropped, consider, walk}
 use Rattle.spec_order.specs.Repeating.{Repeats}
 use Rattle.search_rows.specs.Base.{Row, Candidate, Progress, Outcome}
 use Rattle.search_state.specs.declared.Place.{Place}
-use Rattle.spec_calls.specs.Rows.{Journal}
-use Rattle.search_links.specs.Rows.{firstRows}
+use Rattle.spec_calls.specs.Rows.{rowOf, blank, Journal}
+use Rattle.search_order.specs.Candidates.{candidateAt}
 use Rattle.search_state.specs.declared.Counts.{Counts}
 use Rattle.search_state.specs.declared.Terms.{Terms}
-use Rattle.search_laws.specs.Meanings.{progressOf}
-use Rattle.search_laws.specs.Problems.{Problem, algebraOf, rulesIn, problemIn}
+use Rattle.search_laws.specs.Meanings.{firstRows, progressOf}
+use Rattle.search_laws.specs.Problems.{Problem, algebraOf, composingIn, rulesIn, problemIn}
 
 abbrev pub considerIn : Terms → ℕ → Candidate → Progress → Outcome
 considerIn t J = consider contained (algebraOf (problemIn t [] []) .breaks) J (t .budget) (t .pass)
@@ -29,6 +29,10 @@ walkIn t J = walk contained (algebraOf (problemIn t [] []) .breaks) J (t .budget
 
 abbrev pub candidatesIn : Problem → List Row → List Candidate
 candidatesIn P rows = passCandidates (algebraOf P .forms) rows 0 (rulesIn P)
+
+-- the candidate of the place p, from these rows
+abbrev pub candidateIn : Problem → List Row → Place → Candidate
+candidateIn P rows p = candidateAt (composingIn P) (rowOf blank) rows (P .rules) p
 
 -- the whole pass that begins at w over the journal j
 abbrev pub passIn : Terms → Problem → Counts → Journal → Outcome

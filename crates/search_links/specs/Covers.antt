@@ -1,75 +1,87 @@
--- The table of covers: the live rows of each nonterminal, rising, one cell leading to the next. Behind it, in the same table, the lists of the pass. Definitions only. Assumes nothing.
+-- The table of covers: the live rows of each nonterminal, rising, one cell leading to the next. A link asks of a row only whose live row it is.
+-- Definitions only. Assumes nothing.
 use mathlib.Core.Path.{_≡_}
 use mathlib.Core.Bool.{Bool, true, false}
 use mathlib.Core.List.{List}
 use mathlib.Core.Logic.{_⊎_}
 use Prim.Native.Nat.{ℕ, suc, _≤_, _<_}
-use lib.ListN.{length, getD, set, drop}
-use Rattle.relation.specs.Relation.{contained}
-use Rattle.spec_order.specs.Journal.{liveOf}
+use lib.ListN.{length, getD, drop}
+use Rattle.spec_basics.specs.Elements.{any}
+use Rattle.spec_order.specs.Candidates.{Candidate}
+use Rattle.spec_order.specs.Journal.{Row, liveOf}
 use Rattle.spec_order.specs.Order.{larger, retire}
-use Rattle.spec_calls.specs.Rows.{rowOf, blank, Journal}
-use Rattle.search_rows.specs.Base.{Row, Candidate}
-use Rattle.search_order.specs.Lists.{heads, end, headCell, rowAtPosition}
+use Rattle.search_state.specs.Comparing.{isBelow}
+use Rattle.search_state.specs.Layout.{heads, headCell, tableCells, end}
+use Rattle.search_links.specs.Rows.{holdsAt, KeptBeyond, rowsRead}
 
--- the links of the live rows, hints, and behind them the lists of the pass
-abbrev pub tableCells : ℕ
-tableCells = 45824
+module _ {E : Type 0} where
+  -- row i is a live row of x
+  abbrev pub liveAt : ℕ → List (Row E) → ℕ → Bool
+  liveAt x rows i = holdsAt (liveOf x) rows i
 
-abbrev pub listsFrom : ℕ
-listsFrom = 41472
+  -- `cell` is a link of the list of x, and the rows it can lead to start at n: either the list's head (n = 0) or the cell of a live row
+  -- (n = that row + 1)
+  abbrev pub Cell : ℕ → List (Row E) → ℕ → ℕ → Type 0
+  Cell x rows cell n = ((cell ≡ headCell x) × (n ≡ 0)) ⊎ ((liveAt x rows cell ≡ true) × (n ≡ suc cell))
 
-abbrev pub listsIn : List ℕ → List ℕ
-listsIn table = drop listsFrom table
+  -- v is the first live row of x from n on, or the end
+  pub record Reach (x : ℕ) (rows : List (Row E)) (n v : ℕ) : Type 0 where
+    pub within : n ≤ v
+    pub gap : (i : ℕ) → n ≤ i → i < v → liveAt x rows i ≡ false
+    pub stop : (v ≡ end) ⊎ (liveAt x rows v ≡ true)
 
--- `cell` is a link of the list of x, and the rows it can lead to start at n: either the list's head (n = 0) or the cell of a live row
--- (n = that row + 1)
-abbrev pub Cell : ℕ → List Row → ℕ → ℕ → Type 0
-Cell x rows cell n = ((cell ≡ headCell x) × (n ≡ 0)) ⊎ ((cell < length rows) × (liveOf x (rowAtPosition rows cell) ≡ true) × (n ≡ suc cell))
+  -- each cell leads to the first live row after it
+  pub record Covering (rows : List (Row E)) (covers : List ℕ) : Type 0 where
+    pub size : length covers ≡ tableCells
+    pub reach : (x cell n : ℕ) → x < heads → Cell x rows cell n → Reach x rows n (getD covers cell 0)
 
--- v is the first live row of x from n on, or the end
-pub record Reach (x : ℕ) (rows : List Row) (n v : ℕ) : Type 0 where
-  pub within : n ≤ v
-  pub gap : (i : ℕ) → n ≤ i → i < v → i < length rows → liveOf x (rowAtPosition rows i) ≡ false
-  pub stop : (v ≡ end) ⊎ ((v < length rows) × (liveOf x (rowAtPosition rows v) ≡ true))
+  -- a cell of x that leads to no row
+  pub record LastCell (x : ℕ) (rows : List (Row E)) (covers : List ℕ) (cell : ℕ) : Type 0 where
+    pub from : ℕ
+    pub is : Cell x rows cell from
+    pub last : getD covers cell 0 ≡ end
 
--- each cell leads to the first live row after it
-pub record Covering (rows : List Row) (covers : List ℕ) : Type 0 where
-  pub size : length covers ≡ tableCells
-  pub reach : (x cell n : ℕ) → x < heads → Cell x rows cell n → Reach x rows n (getD covers cell 0)
+-- ---- a candidate beside the rows
 
--- a cell of x that leads to no row
-pub record LastCell (x : ℕ) (rows : List Row) (covers : List ℕ) (cell : ℕ) : Type 0 where
-  pub from : ℕ
-  pub is : Cell x rows cell from
-  pub last : getD covers cell 0 ≡ end
+module _ {E : Type 0} (below : E → E → Bool) (c : Candidate E) (rows : List (Row E)) where
+  -- row i covers the candidate
+  abbrev pub coversAt : ℕ → Bool
+  coversAt i = holdsAt (isBelow below c) rows i
 
--- the cell leads to no row, and no row is larger than the candidate, unless the flag is set
-pub record Free (c : Candidate) (rows : List Row) (covers : List ℕ) (cell : ℕ) (some : Bool) : Type 0 where
-  pub last : LastCell (c .head) rows covers cell
-  pub small : some ≡ false → (i : ℕ) → i < length rows → larger contained c (rowAtPosition rows i) ≡ false
+  -- row i is larger than the candidate
+  abbrev pub largerAt : ℕ → Bool
+  largerAt i = holdsAt (larger below c) rows i
 
--- row i is as it is to be in pass k, and the others are as they were
-pub record Replaced (k : ℕ) (c : Candidate) (i : ℕ) (old new : Journal) : Type 0 where
-  pub size : length new ≡ length old
-  pub row : rowOf (getD new i blank) ≡ retire contained k c (rowOf (getD old i blank))
-  pub others : (m : ℕ) → (m ≡ i → ⊥) → getD new m blank ≡ getD old m blank
-  pub beyond : (w : ℕ) → i < w → drop w new ≡ drop w old
+  -- the cell leads to no row, and no row is larger than the candidate, unless the flag is set
+  pub record Free (covers : List ℕ) (cell : ℕ) (some : Bool) : Type 0 where
+    pub last : LastCell (c .head) rows covers cell
+    pub small : some ≡ false → any (larger below c) rows ≡ false
 
--- row i, to which the cell leads, has retired in pass k, and the cell leads past it
-pub record Retired (k : ℕ) (c : Candidate) (i cell : ℕ) (old : Journal) (covers : List ℕ) (new : Journal) (covers′ : List ℕ) (r : ℕ) : Type 0 where
-  pub big : larger contained c (rowOf (getD old i blank)) ≡ true
-  pub stored : Replaced k c i old new
-  pub cells : covers′ ≡ set covers cell (getD covers i 0)
-  pub place : r ≡ cell
+  -- no row below v covers the candidate, none is larger unless the flag is set, and the cell leads to row v
+  pub record Unseen (covers : List ℕ) (v cell : ℕ) (some : Bool) : Type 0 where
+    pub none : (i : ℕ) → i < v → coversAt i ≡ false
+    pub small : some ≡ false → (i : ℕ) → i < v → largerAt i ≡ false
+    pub from : ℕ
+    pub is : Cell (c .head) rows cell from
+    pub at : getD covers cell 0 ≡ v
 
--- row i stays, and its own cell leads on
-pub record Stayed (k : ℕ) (c : Candidate) (i : ℕ) (old : Journal) (covers : List ℕ) (new : Journal) (covers′ : List ℕ) (r : ℕ) : Type 0 where
-  pub small : larger contained c (rowOf (getD old i blank)) ≡ false
-  pub stored : Replaced k c i old new
-  pub cells : covers′ ≡ covers
-  pub place : r ≡ i
+-- ---- a journal whose rows retire, in pass k for the candidate c; `rowOf` reads its rows, and `blank` stands past its end
 
--- by whether the candidate outgrows row i
-abbrev pub Retires : ℕ → Candidate → ℕ → ℕ → Journal → List ℕ → Journal → List ℕ → ℕ → Type 0
-Retires k c i cell old covers new covers′ r = Retired k c i cell old covers new covers′ r ⊎ Stayed k c i old covers new covers′ r
+module _ {E R : Type 0} (below : E → E → Bool) (rowOf : R → Row E) (blank : R) (k : ℕ) (c : Candidate E) where
+  -- row i is as it is to be, and the others are as they were
+  pub record Replaced (i : ℕ) (old new : List R) : Type 0 where
+    pub size : length new ≡ length old
+    pub row : rowOf (getD new i blank) ≡ retire below k c (rowOf (getD old i blank))
+    pub others : (m : ℕ) → (m ≡ i → ⊥) → getD new m blank ≡ getD old m blank
+    pub beyond : (w : ℕ) → i < w → drop w new ≡ drop w old
+
+  -- of the first u rows those below v are done and the others as they were, and the cell leads to row v
+  pub record Retiring (u : ℕ) (old : List R) (v cell : ℕ) (new : List R) (covers : List ℕ) : Type 0 where
+    pub size : length new ≡ length old
+    pub done : (i : ℕ) → i < v → i < u → rowOf (getD new i blank) ≡ retire below k c (rowOf (getD old i blank))
+    pub rest : (i : ℕ) → v ≤ i → getD new i blank ≡ getD old i blank
+    pub beyond : KeptBeyond u old new
+    pub covering : Covering (rowsRead rowOf u new) covers
+    pub from : ℕ
+    pub is : Cell (c .head) (rowsRead rowOf u new) cell from
+    pub at : getD covers cell 0 ≡ v

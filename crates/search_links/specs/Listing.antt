@@ -8,16 +8,15 @@ use native.Mathlib.Omega.{arith}
 use lib.Dec.{eqb, ltb}
 use lib.Arith.{lt-of-le-ne}
 use lib.ListN.{length, getD, drop, set, length-set}
-use lib.Seq.{drop-cons, drop-length, getD-drop, getD-set-same, getD-set-other}
+use lib.Seq.{drop-length, getD-drop, getD-set-same, getD-set-other}
 use borrow.Author.Tests.{lt-ltb, ltb-true, ltb-false, eqb-true, eqb-false}
-use Rattle.spec_order.specs.Candidates.{liveRows}
-use Rattle.spec_order.specs.Journal.{liveOf}
-use Rattle.spec_calls.specs.Rows.{rowOf, blank}
-use Rattle.search_rows.specs.Base.{Row}
-use Rattle.search_rows.specs.Forming.{rowChoice}
-use Rattle.search_order.specs.Lists.{rowCells, listCells, heads, end, headCell, afterIn, Chain, rowAtPosition, rowAs, Listed}
-use Rattle.search_links.specs.Covers.{tableCells, listsFrom, listsIn, Reach, Covering}
-use Rattle.search_links.specs.CoverLaws.{cell-bound}
+use Rattle.spec_order.specs.Journal.{Row, liveOf}
+use Rattle.search_state.specs.Layout.{rowCells, heads, headCell, listCells, listsFrom, tableCells, listsIn, end}
+use Rattle.search_order.specs.Lists.{afterIn, Chain, liveNumbers, Listed}
+use Rattle.search_links.specs.Covers.{liveAt, Reach, Covering}
+use Rattle.search_links.specs.CoverLaws.{live-inside, cell-bound}
+use Rattle.search_links.specs.RowLaws.{there}
+use Rattle.search_links.specs.Rows.{IsAt}
 
 -- the links are as they were, and those of the first u rows and of the nonterminals stand in the lists
 pub record Gathered (u : ℕ) (old new : List ℕ) : Type 0 where
@@ -64,52 +63,53 @@ gathered-both u old mid new l n a b =
       firsts = λ x m. getD-drop listsFrom new (headCell x) 0 ∙ b .copies (headCell x) (omega arith) (omega (arith, m)) ∙ a .links (headCell x) (omega (arith, m));
     }
 
-module _ (A : List Row) (limit : length A ≤ rowCells) (old new : List ℕ) (g : Covering A old) (h : Gathered (length A) old new) where
+module _ {E : Type 0} (A : List (Row E)) (limit : length A ≤ rowCells) (old new : List ℕ) (g : Covering A old) (h : Gathered (length A) old new) where
   -- the positions from v on are the live rows of x from row n on
   abbrev Rest : ℕ → ℕ → ℕ → Type 0
-  Rest x n v = Chain (rowAs A) (listsIn new) v (liveRows x n (drop n A))
+  Rest x n v = Chain (listsIn new) v (liveNumbers n (drop n A) x)
 
   rest-none : (x n v : ℕ) → n ≡ length A → Reach x A n v → Rest x n v
-  unfolding liveRows
   rest-none x n v e r =
-      subst (λ (rs : List Row). Chain (rowAs A) (listsIn new) v (liveRows x n rs)) (sym (ap (λ (m : ℕ). drop m A) e ∙ drop-length A)) (ended (r .stop))
+      subst (λ (rs : List (Row E)). Chain (listsIn new) v (liveNumbers n rs x)) (sym (ap (λ (m : ℕ). drop m A) e ∙ drop-length A)) (ended (r .stop))
     where
-      ended : (v ≡ end) ⊎ ((v < length A) × (liveOf x (rowAtPosition A v) ≡ true)) → v ≡ end
+      ended : (v ≡ end) ⊎ (liveAt x A v ≡ true) → v ≡ end
       ended (inl z) = z
-      ended (inr z) = absurd (omega (arith, z .0, r .within, e))
+      ended (inr z) = absurd (omega (arith, live-inside x A v z, r .within, e))
 
   module _ (x : ℕ) (hx : x < heads) (n : ℕ) (inside : n < length A) where
     -- a live row is where the list goes on
-    here : (v : ℕ) → liveOf x (rowAtPosition A n) ≡ true → Reach x A n v → v ≡ n
+    here : (v : ℕ) → liveAt x A n ≡ true → Reach x A n v → v ≡ n
     here v y r = by (ltb n v) refl
       where
         by : (b : Bool) → ltb n v ≡ b → v ≡ n
-        by true e = absurd (false≢true (sym (r .gap n (omega arith) (ltb-true n v e) inside) ∙ y))
+        by true e = absurd (false≢true (sym (r .gap n (omega arith) (ltb-true n v e)) ∙ y))
         by false e = omega (arith, ltb-false n v e, r .within)
 
     -- and another row is passed over
-    past : (v : ℕ) → liveOf x (rowAtPosition A n) ≡ false → Reach x A n v → Reach x A (suc n) v
+    past : (v : ℕ) → liveAt x A n ≡ false → Reach x A n v → Reach x A (suc n) v
     past v y r =
-        record { within = lt-of-le-ne (r .within) (λ e. there (r .stop) (sym e)); gap = λ i a b l. r .gap i (omega (arith, a)) b l; stop = r .stop }
+        record { within = lt-of-le-ne (r .within) (λ e. dead (r .stop) (sym e)); gap = λ i a b. r .gap i (omega (arith, a)) b; stop = r .stop }
       where
-        there : (v ≡ end) ⊎ ((v < length A) × (liveOf x (rowAtPosition A v) ≡ true)) → v ≡ n → ⊥
-        there (inl z) e = omega (arith, z, e, inside, limit)
-        there (inr z) e = false≢true (sym y ∙ ap (λ (m : ℕ). liveOf x (rowAtPosition A m)) (sym e) ∙ z .1)
+        dead : (v ≡ end) ⊎ (liveAt x A v ≡ true) → v ≡ n → ⊥
+        dead (inl z) e = omega (arith, z, e, inside, limit)
+        dead (inr z) e = false≢true (sym y ∙ ap (liveAt x A) (sym e) ∙ z)
 
     rest-some : ((v : ℕ) → Reach x A (suc n) v → Rest x (suc n) v) → (v : ℕ) → Reach x A n v → Rest x n v
-    unfolding liveRows
     rest-some f v r =
-        subst (λ (rs : List Row). Chain (rowAs A) (listsIn new) v (liveRows x n rs)) (sym (drop-cons A n (rowOf blank) inside)) (by (liveOf x (rowAtPosition A n)) refl)
+        subst (λ (rs : List (Row E)). Chain (listsIn new) v (liveNumbers n rs x)) (sym (row .2)) (by (liveOf x (row .0)) (row .1 (liveOf x)))
       where
+        row : (r : Row E) × IsAt A n r × (drop n A ≡ r ∷ drop (suc n) A)
+        row = there A n inside
+
         after : afterIn (listsIn new) n ≡ getD old n 0
         after = ap (λ (b : Bool). cond b (getD (listsIn new) n 0) end) (lt-ltb n rowCells (omega (arith, inside, limit))) ∙ h .rows n inside
 
-        by : (b : Bool) → liveOf x (rowAtPosition A n) ≡ b → Chain (rowAs A) (listsIn new) v (cond b (rowChoice n (rowAtPosition A n) ∷ liveRows x (suc n) (drop (suc n) A)) (liveRows x (suc n) (drop (suc n) A)))
+        by : (b : Bool) → liveAt x A n ≡ b → Chain (listsIn new) v (cond b (n ∷ liveNumbers (suc n) (drop (suc n) A) x) (liveNumbers (suc n) (drop (suc n) A) x))
         by true y =
-            subst (λ (m : ℕ). Chain (rowAs A) (listsIn new) m (rowChoice n (rowAtPosition A n) ∷ liveRows x (suc n) (drop (suc n) A))) (sym (here v y r)) (
+            subst (λ (m : ℕ). Chain (listsIn new) m (n ∷ liveNumbers (suc n) (drop (suc n) A) x)) (sym (here v y r)) (
               λ z. omega (arith, z, inside, limit),
               refl,
-              subst (λ (m : ℕ). Rest x (suc n) m) (sym after) (f (getD old n 0) (g .reach x n (suc n) hx (inr (inside, y, refl)))),
+              subst (λ (m : ℕ). Rest x (suc n) m) (sym after) (f (getD old n 0) (g .reach x n (suc n) hx (inr (y, refl)))),
             )
         by false y = f v (past v y r)
 

@@ -6,8 +6,7 @@ use search_state::LISTS;
 ghost use mathlib.Core.Path.{_≡_};
 ghost use Prim.Native.Nat.{_≤_};
 ghost use lib.ListN.{length};
-ghost use Rattle.search_order.specs.Lists.{listCells, rowCells};
-ghost use Rattle.search_links.specs.Covers.{tableCells};
+ghost use Rattle.search_state.specs.Layout.{rowCells, listCells, tableCells};
 ghost use Rattle.search_links.specs.Listing.{Copied, Gathered};
 
 // Copies the links in the cells from `from` to `to` to the lists.

@@ -26,7 +26,9 @@ use Rattle.search_state.specs.Positions.{positionRow}
 use Rattle.search_state.specs.declared.Comparison.{Comparison}
 use Rattle.search_state.specs.declared.Fate.{Fate}
 use Rattle.search_state.specs.declared.State.{State}
-use Rattle.search_rows.specs.Forming.{isBelow, ComparedAt, replacedBy, slotCells, formedIn}
+use Rattle.search_state.specs.Layout.{rowCells, slotCells, tableCells}
+use Rattle.search_rows.specs.Forming.{formedIn}
+use Rattle.search_state.specs.Comparing.{isBelow, ComparedAt, replacedBy}
 use Rattle.search_rows.specs.Meanings.{candidateOf}
 use Rattle.search_rows.specs.declared.Candidate.{Candidate}
 use Rattle.search_rows.proofs.form as form
@@ -35,19 +37,17 @@ use Rattle.search_rows.proofs.compare_at as compare_at
 use Rattle.search_rows.proofs.slot_unless as slot_unless
 use Rattle.search_rows.proofs.fate as fate-of
 use Rattle.search_rows.proofs.replacement as replacement
-use Rattle.search_order.specs.Lists.{rowCells}
-use Rattle.search_links.specs.Covers.{tableCells}
 use Rattle.search_cover.specs.Steps.{lastNoted, begun, stepped}
 use Rattle.search_cover.specs.declared.CoverCursor.{CoverCursor}
 use Rattle.search_cover.proofs.last_row as last_row
 use Rattle.search_cover.proofs.begin as cover-begin
 use Rattle.search_cover.proofs.step as cover-step
-use Rattle.search_retire.specs.Clearing.{MayClear, Inserted}
+use Rattle.search_retire.specs.Clearing.{MayClear}
 use Rattle.search_retire.specs.Steps as retiring
 use Rattle.search_retire.specs.declared.RetireCursor.{RetireCursor}
 use Rattle.search_retire.proofs.begin as retire-begin
 use Rattle.search_retire.proofs.step as retire-step
-use Rattle.search_laws.specs.Running.{MayFind, CoverFound, fateFor, MayInsert, MayAdvance, Advances}
+use Rattle.search_laws.specs.Running.{MayFind, CoverFound, CandidateInserted, fateFor, MayInsert, MayAdvance, Advances}
 use Rattle.search_passes.proofs.advance as advance
 use Rattle.search_loops.proofs.find as find
 use Rattle.search_loops.proofs.insert as insert
@@ -64,7 +64,7 @@ slice R m L ys {n} e = record { mode = m; type = R; loan = L; elements = ys; cou
 
 -- what comparing a row with the candidate gives
 abbrev pub Compared : Candidate → Row → Comparison → Type 0
-Compared c held m = (m .covers ≡ isBelow (candidateOf c) (rowOf held)) × (m .larger ≡ larger contained (candidateOf c) (rowOf held))
+Compared c held m = (m .covers ≡ isBelow contained (candidateOf c) (rowOf held)) × (m .larger ≡ larger contained (candidateOf c) (rowOf held))
 
 module _ {M : Type 1} (𝓤 : URA M) (H : Heap 𝓤) (A : Atoms 𝓤) (mem : Memory → SProp 𝓤) (run : Routine → Fun 𝓤) (s : State) (s-is : Means state s) where
   -- ---- forming a candidate
@@ -109,7 +109,7 @@ module _ {M : Type 1} (𝓤 : URA M) (H : Heap 𝓤) (A : Atoms 𝓤) (mem : Mem
           values = vs;
           fits = record { bound = binds hs vs; ghost = λ cs. tt; enters = λ cs. id⊢ 𝓤 _; leaves = λ cs. id⊢ 𝓤 _; lists = λ cs ws. tt; others = λ cs ws. _; ends = λ cs ws. refl };
           asked = λ cs. id⊢ 𝓤 _;
-          φ = λ cs r ws. ComparedAt linked (candidateOf c) (rowOf held) r;
+          φ = λ cs r ws. ComparedAt contained linked (candidateOf c) (rowOf held) r;
           says = λ cs r ws. id⊢ 𝓤 _;
           val = λ cs. val comparison;
           tells = λ cs. tells comparison;
@@ -231,7 +231,7 @@ module _ {M : Type 1} (𝓤 : URA M) (H : Heap 𝓤) (A : Atoms 𝓤) (mem : Mem
           values = vs;
           fits = record { bound = binds hs vs; ghost = λ cs. tt; enters = λ cs. id⊢ 𝓤 _; leaves = λ cs. id⊢ 𝓤 _; lists = λ cs ws. (ws .0, (ws .1 .0, tt)); others = λ cs ws. _; ends = λ cs ws. refl };
           asked = λ cs. factI 𝓤 (MayInsert s c f l j t) _ asks;
-          φ = λ cs r ws. Inserted (s .terms .pass) (candidateOf c) (s .counts .used) l j t (ws .0) (ws .1 .0);
+          φ = λ cs r ws. CandidateInserted s c l j t (ws .0) (ws .1 .0);
           says = λ cs r ws. id⊢ 𝓤 _;
           val = λ cs. λ r. vunit;
           tells = λ cs. nothing-tells;

@@ -6,7 +6,7 @@ use denote.RattleType.{RattleType}
 use denote.Builtin.{u32}
 use denote.Struct.Laws as LL
 use Rattle.search_rows.specs.declared.Candidate.{Candidate}
-use Rattle.search_order.specs.Lists.{heads}
+use Rattle.search_state.specs.Layout.{heads}
 use Rattle.search_rows.proofs.Candidate as D
 use Rattle.search_rows.proofs.Candidate.Laws as D′
 use Rattle.search_state.specs.declared.State.{State}

@@ -6,9 +6,7 @@ use search_rows::Candidate;
 use search_state::Fate;
 use search_state::State;
 use spec_calls::Row;
-ghost use Rattle.search_rows.specs.Meanings.{candidateOf};
-ghost use Rattle.search_retire.specs.Clearing.{Inserted};
-ghost use Rattle.search_laws.specs.Running.{MayFind, CoverFound, MayInsert, Running, Ran};
+ghost use Rattle.search_laws.specs.Running.{MayFind, CoverFound, MayInsert, CandidateInserted, Running, Ran};
 
 // Looks for a live row that covers `candidate`, until one is found or none is left: at the row of its nonterminal that covered last, at the
 // row that its hint names, and then along the linked rows. Any that covers will do: the contract is whether there is one.
@@ -43,7 +41,7 @@ fn insert(
     found: CoverCursor,
 )
     requires { ⌜ MayInsert state candidate fate found (now journal) (now table) ⌝ }
-    ensures { λ r. ⌜ Inserted (state .terms .pass) (candidateOf candidate) (state .counts .used) found (now (journal .entry)) (now (table .entry)) (now (journal .exit)) (now (table .exit)) ⌝ }
+    ensures { λ r. ⌜ CandidateInserted state candidate found (now (journal .entry)) (now (table .entry)) (now (journal .exit)) (now (table .exit)) ⌝ }
 {
     let mut cursor = search_retire::begin(table, state, fate, found);
     while cursor.active {

@@ -1,3 +1,5 @@
 pub mod Lists
 pub mod Places
 pub mod PlaceLaws
+pub mod Candidates
+pub mod CandidateLaws

@@ -1,5 +1,5 @@
--- Stepping from one place to the next removes exactly one candidate from those that are left: the one formed at the place we leave. Assumes nothing.
-use mathlib.Core.Path.{_≡_, refl, sym, ap, ap₂, _∙_, subst}
+-- Stepping from one place to the next removes exactly one place from those that are left: the one that is left behind. Assumes nothing.
+use mathlib.Core.Path.{_≡_, refl, sym, ap, _∙_, subst}
 use mathlib.Core.Bool.{Bool, true, false, not, _&&_}
 use mathlib.Core.Logic.{_⊎_, inl, inr}
 use mathlib.Core.List.{List, [], _∷_, _++_, map, append-assoc}
@@ -11,99 +11,89 @@ use lib.Seq.{drop-cons}
 use borrow.Author.Tests.{eqb-true, eq-eqb}
 use Rattle.spec_basics.specs.Tests.{and-fst, and-snd, not-excludes, not-fails}
 use Rattle.spec_basics.specs.Elements.{concatMap}
-use Rattle.spec_basics.specs.Lists.{concatMap-one, concatMap-same}
-use Rattle.spec_language.specs.Grammar.{terminal, nonterminal, Body, empty, one, two, Rule}
-use Rattle.spec_order.specs.Candidates.{choices, sole, bare, bodyCandidates, passCandidates}
+use Rattle.spec_language.specs.Grammar.{terminal, nonterminal, Rule}
 use Rattle.spec_order.specs.Journal.{absent}
 use Rattle.spec_file.specs.Entries.{entryOf}
-use Rattle.search_rows.specs.Base.{Row, Choice, Candidate, joined}
-use Rattle.search_rows.specs.Meanings.{formsOf}
-use Rattle.search_rows.specs.Forming.{none, some, leftPart, rightPart, combined, entryAt}
+use Rattle.search_state.specs.Forming.{none, some, leftPart, rightPart, entryAt}
+use Rattle.search_state.specs.Layout.{heads, headCell, end}
+use Rattle.search_state.specs.Positions.{firstAt}
 use Rattle.search_state.specs.declared.Place.{Place}
-use Rattle.search_order.specs.Lists.{heads, end, headCell, afterIn, Chain, Listed}
-use Rattle.search_order.specs.Places.{partChoices, FirstPosition, withRights, allRights, allLefts, onward, leftOf, rightOf, Ahead, LeftFrom, FirstPlace, NextPlace}
+use Rattle.search_order.specs.Lists.{afterIn, Chain, ListedAs}
+use Rattle.search_order.specs.Places.{withRights, rulePlaces, FirstPosition, allRights, allLefts, leftPlaces, onward, Ahead, PlacesFrom, FirstPlace, NextPlace}
 
 -- ---- positions
 
-module _ (f : ℕ → Choice) (lists : List ℕ) where
-  chain-end : (i : ℕ) → i ≡ end → (cs : List Choice) → Chain f lists i cs → cs ≡ []
+module _ (lists : List ℕ) where
+  chain-end : (i : ℕ) → i ≡ end → (ks : List ℕ) → Chain lists i ks → ks ≡ []
   chain-end i e [] h = refl
-  chain-end i e (c ∷ cs) h = absurd (h .0 e)
+  chain-end i e (k ∷ ks) h = absurd (h .0 e)
 
-  chain-some : (i : ℕ) → (i ≡ end → ⊥) → (cs : List Choice) → Chain f lists i cs → (ds : List Choice) × (cs ≡ f i ∷ ds) × Chain f lists (afterIn lists i) ds
+  chain-some : (i : ℕ) → (i ≡ end → ⊥) → (ks : List ℕ) → Chain lists i ks → (ms : List ℕ) × (ks ≡ i ∷ ms) × Chain lists (afterIn lists i) ms
   chain-some i n [] h = absurd (n h)
-  chain-some i n (c ∷ cs) h = (cs, ap (λ (d : Choice). d ∷ cs) (sym (h .1)), h .2)
+  chain-some i n (k ∷ ks) h = (ks, ap (λ (m : ℕ). m ∷ ks) (sym (h .1)), h .2)
 
 pub begins-none : (lists : List ℕ) → FirstPosition lists none absent
-begins-none lists letters A l = (λ e. omega (arith, e), refl, refl)
+begins-none lists live l = (λ e. omega (arith, e), refl, refl)
 
 pub begins-terminal : (lists : List ℕ) (c : ℕ) → FirstPosition lists (some (terminal c)) absent
-unfolding choices
-begins-terminal lists c letters A l = (λ e. omega (arith, e), refl, refl)
+begins-terminal lists c live l = (λ e. omega (arith, e), refl, refl)
 
 pub begins-nonterminal : (lists : List ℕ) (x : ℕ) → x < heads → FirstPosition lists (some (nonterminal x)) (getD lists (headCell x) 0)
-unfolding choices
-begins-nonterminal lists x h letters A l = l x h
+begins-nonterminal lists x h live l = l x h
 
--- ---- the candidates of a rule
+-- ---- the places of a rule
 
-module _ (letters : List ℕ) (A : List Row) (x r : ℕ) where
-  body-formed : (b : Body) → bodyCandidates (formsOf letters) A x r b ≡ concatMap (λ c. map (combined x r b c) (partChoices letters A (rightPart b))) (partChoices letters A (leftPart b))
-  unfolding bodyCandidates bare
-  body-formed empty = refl
-  body-formed (one s) = sym (concatMap-one (sole x r) (choices (formsOf letters) A s))
-  body-formed (two s t) = concatMap-same _ _ (λ c. concatMap-one (joined x r c) (choices (formsOf letters) A t)) (choices (formsOf letters) A s)
+-- of the rules from r on, where r is one, rule r comes first
+pub rules-next : (rules : List (List ℕ)) (r : ℕ) → r < length rules → drop r (map entryOf rules) ≡ entryAt rules r ∷ drop (suc r) (map entryOf rules)
+rules-next rules r h =
+    drop-cons (map entryOf rules) r (entryOf []) (subst (λ (n : ℕ). r < n) (sym (length-map rules entryOf)) h)
+    ∙ ap (λ (x : Rule). x ∷ drop (suc r) (map entryOf rules)) (List·getD-map entryOf rules r [])
 
-module _ (letters : List ℕ) (A : List Row) (lists : List ℕ) (rules : List (List ℕ)) where
-  onward-next : (r : ℕ) → r < length rules
-      → onward letters A lists rules r ≡ concatMap (withRights letters A lists rules r (allRights letters A lists rules r)) (allLefts letters A lists rules r) ++ onward letters A lists rules (suc r)
-  unfolding passCandidates
-  onward-next r h =
-      ap (passCandidates (formsOf letters) A r)
-      (drop-cons (map entryOf rules) r (entryOf []) (subst (λ (n : ℕ). r < n) (sym (length-map rules entryOf)) h)
-      ∙ ap (λ (x : Rule). x ∷ drop (suc r) (map entryOf rules)) (List·getD-map entryOf rules r []))
-      ∙ ap (λ (cs : List Candidate). cs ++ onward letters A lists rules (suc r)) (body-formed letters A (entryAt rules r .head) r (entryAt rules r .body))
+pub rules-end : (rules : List (List ℕ)) (r : ℕ) → length rules ≤ r → drop r (map entryOf rules) ≡ []
+rules-end rules r h = drop-of-length-le (map entryOf rules) (subst (λ (n : ℕ). n ≤ r) (sym (length-map rules entryOf)) h)
 
-  onward-end : (r : ℕ) → length rules ≤ r → onward letters A lists rules r ≡ []
-  unfolding passCandidates
-  onward-end r h = ap (passCandidates (formsOf letters) A r) (drop-of-length-le (map entryOf rules) (subst (λ (n : ℕ). n ≤ r) (sym (length-map rules entryOf)) h))
+module _ (live : ℕ → List ℕ) (rules : List (List ℕ)) where
+  onward-next : (r : ℕ) → r < length rules → onward live rules r ≡ concatMap (leftPlaces live rules r) (allLefts live rules r) ++ onward live rules (suc r)
+  onward-next r h = ap (rulePlaces live r) (rules-next rules r h)
 
-  -- a rule one of whose parts has no position forms nothing
-  onward-skip : (r : ℕ) → r < length rules → (allLefts letters A lists rules r ≡ []) ⊎ (allRights letters A lists rules r ≡ []) → onward letters A lists rules r ≡ onward letters A lists rules (suc r)
+  onward-end : (r : ℕ) → length rules ≤ r → onward live rules r ≡ []
+  onward-end r h = ap (rulePlaces live r) (rules-end rules r h)
+
+  -- a rule one of whose parts has no position has no place
+  onward-skip : (r : ℕ) → r < length rules → (allLefts live rules r ≡ []) ⊎ (allRights live rules r ≡ []) → onward live rules r ≡ onward live rules (suc r)
   onward-skip r h e =
-      onward-next r h ∙ ap (λ (cs : List Candidate). cs ++ onward letters A lists rules (suc r)) (nothing e)
+      onward-next r h ∙ ap (λ (ps : List Place). ps ++ onward live rules (suc r)) (nothing e)
     where
-      no-rights : (g : Choice → List Candidate) → ((c : Choice) → g c ≡ []) → (ls : List Choice) → concatMap g ls ≡ []
-      no-rights g z [] = refl
-      no-rights g z (c ∷ ls) = ap₂ (λ (xs ys : List Candidate). xs ++ ys) (z c) (no-rights g z ls)
+      no-rights : (is : List ℕ) → concatMap (withRights r []) is ≡ []
+      no-rights [] = refl
+      no-rights (i ∷ is) = no-rights is
 
-      nothing : (allLefts letters A lists rules r ≡ []) ⊎ (allRights letters A lists rules r ≡ []) → concatMap (withRights letters A lists rules r (allRights letters A lists rules r)) (allLefts letters A lists rules r) ≡ []
-      nothing (inl z) = ap (concatMap (withRights letters A lists rules r (allRights letters A lists rules r))) z
-      nothing (inr z) = no-rights (withRights letters A lists rules r (allRights letters A lists rules r)) (λ c. ap (λ (ds : List Choice). withRights letters A lists rules r ds c) z) (allLefts letters A lists rules r)
+      nothing : (allLefts live rules r ≡ []) ⊎ (allRights live rules r ≡ []) → concatMap (leftPlaces live rules r) (allLefts live rules r) ≡ []
+      nothing (inl z) = ap (concatMap (leftPlaces live rules r)) z
+      nothing (inr z) = ap (λ (ks : List ℕ). concatMap (withRights r ks) (allLefts live rules r)) z ∙ no-rights (allLefts live rules r)
 
 -- ---- the first place from a rule on
 
-cons-some : (c : Choice) (cs : List Choice) → c ∷ cs ≡ [] → ⊥
-cons-some c cs e = let z : suc (length cs) ≡ 0 = ap length e in omega arith
+cons-some : (k : ℕ) (ks : List ℕ) → k ∷ ks ≡ [] → ⊥
+cons-some k ks e = let z : suc (length ks) ≡ 0 = ap length e in omega arith
 
-module _ (letters : List ℕ) (A : List Row) (lists : List ℕ) (rules : List (List ℕ)) (listed : Listed A lists) where
+module _ (live : ℕ → List ℕ) (lists : List ℕ) (rules : List (List ℕ)) (listed : ListedAs live lists) where
   -- at the first position of both parts of its rule
   stands-first : (p : Place) → p .rule < length rules → FirstPosition lists (leftPart (entryAt rules (p .rule) .body)) (p .left) → FirstPosition lists (rightPart (entryAt rules (p .rule) .body)) (p .right)
-      → (p .left ≡ end → ⊥) → (p .right ≡ end → ⊥) → LeftFrom letters A lists rules p (onward letters A lists rules (p .rule))
+      → (p .left ≡ end → ⊥) → (p .right ≡ end → ⊥) → PlacesFrom live lists rules p (onward live rules (p .rule))
   stands-first p h bl br nl nr =
       let r = p .rule in
-      let W = withRights letters A lists rules r (allRights letters A lists rules r) in
-      let O = onward letters A lists rules (suc r) in
-      let l = leftOf letters A lists rules p (p .left) in
-      let ls = chain-some (leftOf letters A lists rules p) lists (p .left) nl (allLefts letters A lists rules r) (bl letters A listed) in
-      let rs = chain-some (rightOf letters A lists rules p) lists (p .right) nr (allRights letters A lists rules r) (br letters A listed) in
-      subst (LeftFrom letters A lists rules p)
+      let of-left = leftPlaces live rules r in
+      let O = onward live rules (suc r) in
+      let ls = chain-some lists (p .left) nl (allLefts live rules r) (bl live listed) in
+      let rs = chain-some lists (p .right) nr (allRights live rules r) (br live listed) in
+      subst (PlacesFrom live lists rules p)
       (sym
-      (onward-next letters A lists rules r h ∙ ap (λ (cs : List Choice). concatMap W cs ++ O) (ls .1) ∙ append-assoc (W l) (concatMap W (ls .0)) O
-      ∙ ap (λ (ds : List Choice). withRights letters A lists rules r ds l ++ (concatMap W (ls .0) ++ O)) (rs .1))) (
+      (onward-next live rules r h ∙ ap (λ (is : List ℕ). concatMap of-left is ++ O) (ls .1) ∙ append-assoc (of-left (p .left)) (concatMap of-left (ls .0)) O
+      ∙ ap (λ (ks : List ℕ). withRights r ks (p .left) ++ (concatMap of-left (ls .0) ++ O)) (rs .1))) (
         h,
         refl,
-        record { rights = rs .0; lefts = ls .0; inner = rs .2; outer = ls .2; some = λ z. cons-some _ (rs .0) (sym (rs .1) ∙ z); rest = refl },
+        record { rights = rs .0; lefts = ls .0; inner = rs .2; outer = ls .2; some-right = λ z. cons-some _ (rs .0) (sym (rs .1) ∙ z); rest = refl },
       )
 
 pub both-open : (i j : ℕ) → (not (eqb i end) && not (eqb j end)) ≡ true → (i ≡ end → ⊥) × (j ≡ end → ⊥)
@@ -117,76 +107,68 @@ one-is-end i j e = by (eqb i end) refl e
     by true p t = inl (eqb-true i end p)
     by false p t = inr (eqb-true j end (not-fails (eqb j end) t))
 
--- the rules from k up to r form nothing
+-- the rules from k up to r have no place
 abbrev pub Skipped : List ℕ → List (List ℕ) → ℕ → ℕ → Type 0
-Skipped lists rules k r = (letters : List ℕ) (A : List Row) → Listed A lists → onward letters A lists rules r ≡ onward letters A lists rules k
+Skipped lists rules k r = (live : ℕ → List ℕ) → ListedAs live lists → onward live rules r ≡ onward live rules k
 
 module _ (lists : List ℕ) (rules : List (List ℕ)) (k r : ℕ) (s : Skipped lists rules k r) where
   module _ (h : r < length rules) (p : Place) (e : p .rule ≡ r) (bl : FirstPosition lists (leftPart (entryAt rules r .body)) (p .left)) (br : FirstPosition lists (rightPart (entryAt rules r .body)) (p .right)) where
-    abbrev q : Place
-    q = record { rule = r; left = p .left; right = p .right }
-
     pub opens-here : (p .left ≡ end → ⊥) → (p .right ≡ end → ⊥) → FirstPlace lists rules k p
-    opens-here nl nr letters A l =
-        subst (λ (n : ℕ). LeftFrom letters A lists rules (record { rule = n; left = p .left; right = p .right }) (onward letters A lists rules k)) (sym e)
-        (subst (LeftFrom letters A lists rules q) (s letters A l) (stands-first letters A lists rules l q h bl br nl nr))
+    opens-here nl nr live l =
+        subst (λ (n : ℕ). PlacesFrom live lists rules (firstAt n (p .left) (p .right)) (onward live rules k)) (sym e)
+        (subst (PlacesFrom live lists rules (firstAt r (p .left) (p .right))) (s live l) (stands-first live lists rules l (firstAt r (p .left) (p .right)) h bl br nl nr))
 
     pub skipped-next : (p .left ≡ end) ⊎ (p .right ≡ end) → Skipped lists rules k (suc r)
-    skipped-next t letters A l = sym (onward-skip letters A lists rules r h (by t)) ∙ s letters A l
+    skipped-next t live l = sym (onward-skip live rules r h (by t)) ∙ s live l
       where
-        by : (p .left ≡ end) ⊎ (p .right ≡ end) → (allLefts letters A lists rules r ≡ []) ⊎ (allRights letters A lists rules r ≡ [])
-        by (inl z) = inl (chain-end (leftOf letters A lists rules q) lists (p .left) z (allLefts letters A lists rules r) (bl letters A l))
-        by (inr z) = inr (chain-end (rightOf letters A lists rules q) lists (p .right) z (allRights letters A lists rules r) (br letters A l))
+        by : (p .left ≡ end) ⊎ (p .right ≡ end) → (allLefts live rules r ≡ []) ⊎ (allRights live rules r ≡ [])
+        by (inl z) = inl (chain-end lists (p .left) z (allLefts live rules r) (bl live l))
+        by (inr z) = inr (chain-end lists (p .right) z (allRights live rules r) (br live l))
 
-  pub opens-end : length rules ≤ r → (i j : ℕ) → FirstPlace lists rules k (record { rule = r; left = i; right = j })
-  opens-end h i j letters A l =
-      subst (LeftFrom letters A lists rules (record { rule = r; left = i; right = j })) (sym (onward-end letters A lists rules r h) ∙ s letters A l) (λ z. omega (arith, h, z))
+  pub opens-end : length rules ≤ r → (i j : ℕ) → FirstPlace lists rules k (firstAt r i j)
+  opens-end h i j live l = subst (PlacesFrom live lists rules (firstAt r i j)) (sym (onward-end live rules r h) ∙ s live l) (λ z. omega (arith, h, z))
 
 -- ---- the place after a place
 
 module _ (lists : List ℕ) (rules : List (List ℕ)) (p : Place) where
   pub follows-none : length rules ≤ p .rule → (q : Place) → NextPlace lists rules p q
-  follows-none h q letters A l c cs (i, e, a) = absurd (omega (arith, h, i))
+  follows-none h q live l ps (i, e, a) = absurd (omega (arith, h, i))
 
-  pub follows-right : (i : ℕ) → i ≡ afterIn lists (p .right) → (i ≡ end → ⊥) → NextPlace lists rules p (record { rule = p .rule; left = p .left; right = i })
-  follows-right i e n letters A l c cs (h, f, a) =
-      let rs = chain-some (rightOf letters A lists rules p) lists i n (a .rights) (subst (λ (k : ℕ). Chain (rightOf letters A lists rules p) lists k (a .rights)) (sym e) (a .inner)) in
-      let q : Place = record { rule = p .rule; left = p .left; right = i } in
-      subst (LeftFrom letters A lists rules q)
-      (sym (a .rest ∙ ap (λ (ds : List Choice). withRights letters A lists rules (p .rule) ds (leftOf letters A lists rules p (p .left)) ++ (concatMap (withRights letters A lists rules (p .rule) (allRights letters A lists rules (p .rule))) (a .lefts) ++ onward letters A lists rules (suc (p .rule)))) (rs .1)))
-      (h, refl, record { rights = rs .0; lefts = a .lefts; inner = rs .2; outer = a .outer; some = a .some; rest = refl })
+  pub follows-right : (i : ℕ) → i ≡ afterIn lists (p .right) → (i ≡ end → ⊥) → NextPlace lists rules p (firstAt (p .rule) (p .left) i)
+  follows-right i e n live l ps (h, f, a) =
+      let r = p .rule in
+      let rs = chain-some lists i n (a .rights) (subst (λ (k : ℕ). Chain lists k (a .rights)) (sym e) (a .inner)) in
+      subst (PlacesFrom live lists rules (firstAt r (p .left) i))
+      (sym (a .rest ∙ ap (λ (ks : List ℕ). withRights r ks (p .left) ++ (concatMap (leftPlaces live rules r) (a .lefts) ++ onward live rules (suc r))) (rs .1)))
+      (h, refl, record { rights = rs .0; lefts = a .lefts; inner = rs .2; outer = a .outer; some-right = a .some-right; rest = refl })
 
   module _ (er : afterIn lists (p .right) ≡ end) where
     -- no other right is left
-    left-next : (letters : List ℕ) (A : List Row) (cs : List Candidate) (a : Ahead letters A lists rules p cs)
-        → cs ≡ concatMap (withRights letters A lists rules (p .rule) (allRights letters A lists rules (p .rule))) (a .lefts) ++ onward letters A lists rules (suc (p .rule))
-    left-next letters A cs a =
+    left-next : (live : ℕ → List ℕ) (ps : List Place) (a : Ahead live lists rules p ps) → ps ≡ concatMap (leftPlaces live rules (p .rule)) (a .lefts) ++ onward live rules (suc (p .rule))
+    left-next live ps a =
         a .rest
-        ∙ ap (λ (ds : List Choice). withRights letters A lists rules (p .rule) ds (leftOf letters A lists rules p (p .left)) ++ (concatMap (withRights letters A lists rules (p .rule) (allRights letters A lists rules (p .rule))) (a .lefts) ++ onward letters A lists rules (suc (p .rule))))
-        (chain-end (rightOf letters A lists rules p) lists (afterIn lists (p .right)) er (a .rights) (a .inner))
+        ∙ ap (λ (ks : List ℕ). withRights (p .rule) ks (p .left) ++ (concatMap (leftPlaces live rules (p .rule)) (a .lefts) ++ onward live rules (suc (p .rule))))
+        (chain-end lists (afterIn lists (p .right)) er (a .rights) (a .inner))
 
-    pub follows-left : (i k : ℕ) → i ≡ afterIn lists (p .left) → (i ≡ end → ⊥) → FirstPosition lists (rightPart (entryAt rules (p .rule) .body)) k → NextPlace lists rules p (record { rule = p .rule; left = i; right = k })
-    follows-left i k e n b letters A l c cs (h, f, a) =
+    pub follows-left : (i k : ℕ) → i ≡ afterIn lists (p .left) → (i ≡ end → ⊥) → FirstPosition lists (rightPart (entryAt rules (p .rule) .body)) k → NextPlace lists rules p (firstAt (p .rule) i k)
+    follows-left i k e n b live l ps (h, f, a) =
         let r = p .rule in
-        let q : Place = record { rule = r; left = i; right = k } in
-        let W = withRights letters A lists rules r (allRights letters A lists rules r) in
-        let O = onward letters A lists rules (suc r) in
-        let ls = chain-some (leftOf letters A lists rules p) lists i n (a .lefts) (subst (λ (m : ℕ). Chain (leftOf letters A lists rules p) lists m (a .lefts)) (sym e) (a .outer)) in
-        let bk = b letters A l in
-        let nk : k ≡ end → ⊥ = λ z. a .some (chain-end (rightOf letters A lists rules p) lists k z (allRights letters A lists rules r) bk) in
-        let rs = chain-some (rightOf letters A lists rules p) lists k nk (allRights letters A lists rules r) bk in
-        let y = leftOf letters A lists rules p i in
-        subst (LeftFrom letters A lists rules q)
+        let of-left = leftPlaces live rules r in
+        let O = onward live rules (suc r) in
+        let ls = chain-some lists i n (a .lefts) (subst (λ (m : ℕ). Chain lists m (a .lefts)) (sym e) (a .outer)) in
+        let bk = b live l in
+        let nk : k ≡ end → ⊥ = λ z. a .some-right (chain-end lists k z (allRights live rules r) bk) in
+        let rs = chain-some lists k nk (allRights live rules r) bk in
+        subst (PlacesFrom live lists rules (firstAt r i k))
         (sym
-        (left-next letters A cs a ∙ ap (λ (ds : List Choice). concatMap W ds ++ O) (ls .1) ∙ append-assoc (W y) (concatMap W (ls .0)) O
-        ∙ ap (λ (ds : List Choice). withRights letters A lists rules r ds y ++ (concatMap W (ls .0) ++ O)) (rs .1)))
-        (h, refl, record { rights = rs .0; lefts = ls .0; inner = rs .2; outer = ls .2; some = a .some; rest = refl })
+        (left-next live ps a ∙ ap (λ (is : List ℕ). concatMap of-left is ++ O) (ls .1) ∙ append-assoc (of-left i) (concatMap of-left (ls .0)) O
+        ∙ ap (λ (ks : List ℕ). withRights r ks i ++ (concatMap of-left (ls .0) ++ O)) (rs .1)))
+        (h, refl, record { rights = rs .0; lefts = ls .0; inner = rs .2; outer = ls .2; some-right = a .some-right; rest = refl })
 
     pub follows-rule : afterIn lists (p .left) ≡ end → (q : Place) → FirstPlace lists rules (suc (p .rule)) q → NextPlace lists rules p q
-    follows-rule el q o letters A l c cs (h, f, a) =
-        let W = withRights letters A lists rules (p .rule) (allRights letters A lists rules (p .rule)) in
-        subst (LeftFrom letters A lists rules q)
+    follows-rule el q o live l ps (h, f, a) =
+        subst (PlacesFrom live lists rules q)
         (sym
-        (left-next letters A cs a
-        ∙ ap (λ (ds : List Choice). concatMap W ds ++ onward letters A lists rules (suc (p .rule))) (chain-end (leftOf letters A lists rules p) lists (afterIn lists (p .left)) el (a .lefts) (a .outer))))
-        (o letters A l)
+        (left-next live ps a
+        ∙ ap (λ (is : List ℕ). concatMap (leftPlaces live rules (p .rule)) is ++ onward live rules (suc (p .rule))) (chain-end lists (afterIn lists (p .left)) el (a .lefts) (a .outer))))
+        (o live l)

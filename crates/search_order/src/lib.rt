@@ -12,8 +12,9 @@ ghost use Prim.Native.Nat.{_≤_};
 ghost use lib.ListN.{length};
 ghost use Rattle.spec_file.specs.Views.{symbolOf};
 ghost use Rattle.spec_file.specs.Entries.{entryOf};
-ghost use Rattle.search_rows.specs.Forming.{some, leftPart, rightPart};
-ghost use Rattle.search_order.specs.Lists.{listCells, end, afterIn};
+ghost use Rattle.search_state.specs.Forming.{some, leftPart, rightPart};
+ghost use Rattle.search_state.specs.Layout.{listCells, end};
+ghost use Rattle.search_order.specs.Lists.{afterIn};
 ghost use Rattle.search_order.specs.Places.{FirstPosition, FirstPlace, NextPlace};
 
 // ---- positions

@@ -1,28 +1,23 @@
--- Retiring the larger rows and adding a new one: what is known of the journal and the table at each cursor. Definitions only. Assumes nothing.
+-- Retiring the larger rows and adding a new one: what is known of the journal and the table at each cursor, whatever an effect is. Definitions
+-- only. Assumes nothing.
 use mathlib.Core.Path.{_≡_}
 use mathlib.Core.Bool.{Bool, true, false, cond}
 use mathlib.Core.List.{List, map}
 use mathlib.Core.Logic.{_⊎_}
 use Prim.Native.Nat.{ℕ, _+_, _-_, _≤_, _<_}
-use lib.Dec.{T, ltb}
-use lib.ListN.{length, getD, set}
-use Rattle.relation.specs.Relation.{contained}
-use Rattle.spec_order.specs.Order.{retire, born, added}
-use Rattle.spec_calls.specs.Rows.{rowOf, blank, Journal}
-use Rattle.spec_calls.specs.declared.Row.{Row as LentRow}
-use Rattle.search_rows.specs.Base as order
-use Rattle.search_rows.specs.Meanings.{candidateOf}
-use Rattle.search_rows.specs.declared.Candidate.{Candidate}
-use Rattle.search_order.specs.Lists.{rowCells}
-use Rattle.search_links.specs.Covers.{tableCells, listsFrom, listsIn, Covering, LastCell}
-use Rattle.search_links.specs.Retirements.{Retiring}
-use Rattle.search_links.specs.Rows.{firstRows, Stored}
-use Rattle.search_cover.specs.Seeking.{Finds}
+use lib.ListN.{length}
+use Rattle.spec_order.specs.Candidates.{Candidate}
+use Rattle.spec_order.specs.Journal.{Row}
+use Rattle.spec_order.specs.Order.{retire, added}
+use Rattle.search_state.specs.Layout.{rowCells, listsFrom, tableCells, listsIn}
+use Rattle.search_links.specs.Covers.{Covering, LastCell, Retiring}
+use Rattle.search_links.specs.Rows.{rowsRead, Stored}
 use Rattle.search_retire.specs.declared.RetireCursor.{RetireCursor}
 use Rattle.search_cover.specs.declared.CoverCursor.{CoverCursor}
 
--- in pass k, for the candidate c, over the journal j₀ with u rows used, where looking for a cover ended in l; cl is the cursor
-module _ (k : ℕ) (c : order.Candidate) (u : ℕ) (l : CoverCursor) (j₀ : Journal) where
+-- in pass k, for the candidate c, over the journal j₀ with u rows used, where looking for a cover ended in l; cl is the cursor. `rowOf` reads the
+-- rows of the journal, and `blank` stands past its end
+module _ {E R : Type 0} (below : E → E → Bool) (rowOf : R → Row E) (blank : R) (k : ℕ) (c : Candidate E) (u : ℕ) (l : CoverCursor) (j₀ : List R) where
   -- a row covers, or there is no room
   abbrev pub Idle : Type 0
   Idle = (l .covers ≡ true) ⊎ (u ≡ length j₀)
@@ -34,35 +29,35 @@ module _ (k : ℕ) (c : order.Candidate) (u : ℕ) (l : CoverCursor) (j₀ : Jou
     pub pass : 0 < k
 
   -- the larger rows have retired, and the cell leads to no row
-  pub record Cleared (cell : ℕ) (j : Journal) (t : List ℕ) : Type 0 where
-    pub stored : Stored u (map (retire contained k c) (firstRows u j₀)) j₀ j
-    pub covering : Covering (firstRows u j) t
-    pub last : LastCell (c .head) (firstRows u j) t cell
+  pub record Cleared (cell : ℕ) (j : List R) (t : List ℕ) : Type 0 where
+    pub stored : Stored rowOf u (map (retire below k c) (rowsRead rowOf u j₀)) j₀ j
+    pub covering : Covering (rowsRead rowOf u j) t
+    pub last : LastCell (c .head) (rowsRead rowOf u j) t cell
 
   -- and the candidate is the next row
-  pub record Added (j : Journal) (t : List ℕ) : Type 0 where
-    pub stored : Stored (u + 1) (added contained k c (firstRows u j₀)) j₀ j
-    pub covering : Covering (firstRows (u + 1) j) t
+  pub record Added (j : List R) (t : List ℕ) : Type 0 where
+    pub stored : Stored rowOf (u + 1) (added below k c (rowsRead rowOf u j₀)) j₀ j
+    pub covering : Covering (rowsRead rowOf (u + 1) j) t
 
-  abbrev pub Clears : Bool → RetireCursor → Journal → List ℕ → Type 0
+  abbrev pub Clears : Bool → RetireCursor → List R → List ℕ → Type 0
   Clears true cl j t = (cl .row ≡ u) × Cleared (cl .cell) j t
-  Clears false cl j t = (cl .row < u) × Retiring k c u j₀ (cl .row) (cl .cell) j t
+  Clears false cl j t = (cl .row < u) × Retiring below rowOf blank k c u j₀ (cl .row) (cl .cell) j t
 
   module _ (t₀ : List ℕ) where
-    abbrev pub ClearingEnd : Journal → List ℕ → Type 0
+    abbrev pub ClearingEnd : List R → List ℕ → Type 0
     ClearingEnd j t = (Idle × (j ≡ j₀) × (t ≡ t₀)) ⊎ (Fresh × Added j t)
 
-    abbrev pub ClearingAt : Bool → RetireCursor → Journal → List ℕ → Type 0
+    abbrev pub ClearingAt : Bool → RetireCursor → List R → List ℕ → Type 0
     ClearingAt true cl j t = Fresh × Clears (cl .new) cl j t
     ClearingAt false cl j t = ClearingEnd j t
 
-    pub record InClearing (cl : RetireCursor) (j : Journal) (t : List ℕ) : Type 0 where
+    pub record InClearing (cl : RetireCursor) (j : List R) (t : List ℕ) : Type 0 where
       pub size : length j ≡ length j₀
       pub lists : listsIn t ≡ listsIn t₀
       pub stands : ClearingAt (cl .active) cl j t
 
     -- when it has ended
-    pub record Inserted (j : Journal) (t : List ℕ) : Type 0 where
+    pub record Inserted (j : List R) (t : List ℕ) : Type 0 where
       pub size : length j ≡ length j₀
       pub lists : listsIn t ≡ listsIn t₀
       pub outcome : ClearingEnd j t

@@ -6,7 +6,7 @@ use Prim.Native.Nat.{ℕ}
 use lib.Dec.{ltb}
 use lib.ListN.{getD, set}
 use Rattle.search_state.specs.declared.Fate.{Fate}
-use Rattle.search_order.specs.Lists.{rowCells, end, headCell}
+use Rattle.search_state.specs.Layout.{rowCells, headCell, end}
 use Rattle.search_cover.specs.declared.CoverCursor.{CoverCursor}
 use Rattle.search_retire.specs.declared.RetireCursor.{RetireCursor}
 

@@ -9,7 +9,7 @@ use search_state::Fate;
 use search_state::State;
 ghost use mathlib.Core.Path.{_≡_};
 ghost use lib.ListN.{length};
-ghost use Rattle.search_links.specs.Covers.{tableCells};
+ghost use Rattle.search_state.specs.Layout.{tableCells};
 ghost use Rattle.search_retire.specs.Steps.{retireFrom, begun, stepped, linksAfter};
 ghost use Rattle.search_retire.specs.Clearing.{MayClear};
 

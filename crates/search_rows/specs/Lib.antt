@@ -1,4 +1,3 @@
 pub mod Base
 pub mod Meanings
 pub mod Forming
-pub mod Retiring

@@ -1,17 +1,19 @@
 -- What the code's candidates, choices and letter tables stand for in the working order. Definitions only. Assumes nothing.
 use mathlib.Core.List.{List}
 use Prim.Native.Nat.{ℕ}
-use Rattle.relation.specs.Relation.{states}
+use Rattle.relation.specs.Relation.{states, identity, compose}
 use Rattle.relation.specs.Representation.{value}
 use Rattle.relation.specs.Stored.{relationIn}
-use Rattle.spec_order.specs.Algebra.{Forms, Algebra}
-use Rattle.spec_calls.specs.Base.{formsBy, baseBy}
+use Rattle.spec_order.specs.Algebra.{Algebra}
+use Rattle.spec_calls.specs.Base.{baseBy}
+use Rattle.search_state.specs.Forming.{Composing}
 use Rattle.search_rows.specs.Base as order
 use Rattle.search_rows.specs.declared.Candidate.{Candidate}
 use Rattle.search_rows.specs.declared.Choice.{Choice}
 
-abbrev pub formsOf : List ℕ → Forms ℕ
-formsOf letters = formsBy states (λ c. value (relationIn letters c))
+-- what bodies form, where a terminal has its relation in the table of letters
+abbrev pub composingOf : List ℕ → Composing ℕ
+composingOf letters = record { ofEmpty = identity states; ofTerminal = λ c. value (relationIn letters c); compose = compose states }
 
 abbrev pub baseOf : List ℕ → ℕ → Algebra ℕ
 baseOf letters finals = baseBy states (λ c. value (relationIn letters c)) (order.rejecting finals)

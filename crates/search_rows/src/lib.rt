@@ -22,9 +22,12 @@ ghost use Rattle.spec_order.specs.Order.{larger, born};
 ghost use Rattle.spec_file.specs.Entries.{entryOf};
 ghost use Rattle.spec_calls.specs.Rows.{rowOf};
 ghost use Rattle.search_rows.specs.Base.{emptyBody, joined, breaking};
-ghost use Rattle.search_rows.specs.Meanings.{candidateOf, choiceOf};
+ghost use Rattle.search_rows.specs.Meanings.{composingOf, candidateOf, choiceOf};
+ghost use Rattle.search_state.specs.Comparing.{isBelow, ComparedAt, retiredIn, replacedBy};
 ghost use Rattle.search_state.specs.Fates.{fateIn};
-ghost use Rattle.search_rows.specs.Forming.{isBelow, retiredIn, ComparedAt, replacedBy, slotCells, symbolChoice, formedBy, amongFirst, formedIn};
+ghost use Rattle.search_state.specs.Forming.{symbolChoice, formedBy};
+ghost use Rattle.search_state.specs.Layout.{slotCells};
+ghost use Rattle.search_rows.specs.Forming.{amongFirst, formedIn};
 
 // What would become a row.
 pub struct Candidate {
@@ -54,7 +57,7 @@ struct Choice {
 // Compares `row` with `candidate`: `row` covers it where it is live, of the same nonterminal, and its relation is contained in the
 // candidate's; it is larger where the candidate's is contained in its own, and not the other way round.
 pub fn compare(row: Row, candidate: Candidate) -> Comparison
-    ensures { λ r. ⌜ (r .covers ≡ isBelow (candidateOf candidate) (rowOf row)) × (r .larger ≡ larger contained (candidateOf candidate) (rowOf row)) ⌝ }
+    ensures { λ r. ⌜ (r .covers ≡ isBelow contained (candidateOf candidate) (rowOf row)) × (r .larger ≡ larger contained (candidateOf candidate) (rowOf row)) ⌝ }
 {
     let held = row.relation;
     let formed = candidate.relation;
@@ -70,7 +73,7 @@ pub fn compare(row: Row, candidate: Candidate) -> Comparison
 // Compares `row` with `candidate`, by their relations alone if `linked`: a linked row is live and of the candidate's nonterminal, so that the
 // search spends no instruction on asking. A row that is a hint is compared as `compare` does.
 pub fn compare_at(row: Row, candidate: Candidate, linked: bool) -> Comparison
-    ensures { λ r. ⌜ ComparedAt linked (candidateOf candidate) (rowOf row) r ⌝ }
+    ensures { λ r. ⌜ ComparedAt contained linked (candidateOf candidate) (rowOf row) r ⌝ }
 {
     if linked {
         let held = row.relation;
@@ -176,7 +179,7 @@ pub fn slot_unless(compared: Comparison, candidate: Candidate) -> usize
 // Returns how `symbol` is taken: a terminal by its relation in `letters`, a nonterminal by row `i`, which is `row`.
 fn taken(letters: &[Letter], symbol: u8, i: usize, row: Row) -> Choice
     requires { ⌜ letterWords ≤ length (now letters) ⌝ }
-    ensures { λ r. ⌜ choiceOf r ≡ symbolChoice (now (letters .entry)) (symbolOf symbol) i (rowOf row) ⌝ }
+    ensures { λ r. ⌜ choiceOf r ≡ symbolChoice (composingOf (now (letters .entry))) (symbolOf symbol) i (rowOf row) ⌝ }
 {
     if symbol < TERMINALS {
         return Choice {
@@ -238,7 +241,7 @@ fn two_symbols(origin: Origin, first: Choice, second: Choice) -> Candidate
 // Returns the candidate of `place`, whose rule is `rule` and whose rows are `left` and `right`.
 fn formed(letters: &[Letter], rule: [u8; 4], place: Place, left: Row, right: Row) -> Candidate
     requires { ⌜ letterWords ≤ length (now letters) ⌝ }
-    ensures { λ r. ⌜ candidateOf r ≡ formedBy (now (letters .entry)) (entryOf rule) place (rowOf left) (rowOf right) ⌝ }
+    ensures { λ r. ⌜ candidateOf r ≡ formedBy (composingOf (now (letters .entry))) (entryOf rule) place (rowOf left) (rowOf right) ⌝ }
 {
     let origin = Origin {
         head: rule[0],

@@ -11,9 +11,9 @@ ghost use Prim.Native.Nat.{_≤_, _<_};
 ghost use mathlib.Core.Path.{_≡_};
 ghost use mathlib.Core.Bool.{true};
 ghost use lib.ListN.{length, take};
-ghost use Rattle.search_order.specs.Lists.{end, afterIn};
+ghost use Rattle.search_state.specs.Layout.{tableCells, listsIn, end};
+ghost use Rattle.search_order.specs.Lists.{afterIn};
 ghost use Rattle.search_order.specs.Places as places;
-ghost use Rattle.search_links.specs.Covers.{tableCells, listsIn};
 ghost use Rattle.search_laws.specs.Walks.{isBefore, repeatsAt};
 ghost use Rattle.search_laws.specs.Running.{passesAt, PassesRights, PassesOver};
 

@@ -1,5 +1,9 @@
+pub mod Layout
 pub mod Budgets
 pub mod Positions
 pub mod PositionLaws
 pub mod Fates
 pub mod NextPass
+pub mod Comparing
+pub mod Retiring
+pub mod Forming

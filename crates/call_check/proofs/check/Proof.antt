@@ -56,8 +56,7 @@ use Rattle.spec_calls.proofs.Types.{RowType, options, Entry}
 use Rattle.search_state.specs.declared.State.{State}
 use Rattle.search_state.proofs.State as S
 use Rattle.search_state.proofs.State.Laws as S′
-use Rattle.search_links.specs.Covers.{tableCells}
-use Rattle.search_order.specs.Lists.{end}
+use Rattle.search_state.specs.Layout.{tableCells, end}
 use Rattle.search_laws.specs.Meanings.{answerIn}
 use Rattle.search_laws.specs.Running.{Running, Ran}
 use Rattle.search_loops.proofs.run as running

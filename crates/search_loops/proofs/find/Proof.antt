@@ -4,7 +4,7 @@
 -- The loop's invariant is `Seeking`: no linked row before the cursor covers the candidate, and the cursor is at a used row. The measure
 -- `stepsLeft` falls, since a hint comes before all linked rows, and those rise.
 -- Assumes nothing.
-use mathlib.Core.Path.{_≡_, refl, sym, ap, _∙_, subst}
+use mathlib.Core.Path.{_≡_, refl, sym, _∙_, subst}
 use mathlib.Core.Option.{Option, none, some}
 use mathlib.Core.List.{List, [], _∷_}
 use Prim.Native.Nat.{ℕ, _*_, _<_, _^_}
@@ -34,19 +34,18 @@ use denote.Steps.{owned, nothing}
 use denote.Triple.Bound.{Bound}
 use denote.Triple.Entry.{alive}
 use denote.Triple.Walked.{says, needs, walkOf, ends-at}
+use Rattle.relation.specs.Relation.{contained}
 use Rattle.spec_calls.specs.Rows.{rowOf, blank, Journal}
-use Rattle.search_rows.specs.Base as order
 use Rattle.search_rows.specs.Meanings.{candidateOf}
 use Rattle.search_rows.specs.declared.Candidate.{Candidate}
 use Rattle.search_state.specs.declared.State.{State}
 use Rattle.search_state.specs.declared.Comparison.{Comparison}
-use Rattle.search_order.specs.Lists.{rowCells, rowAtPosition}
-use Rattle.search_links.specs.Covers.{tableCells}
-use Rattle.search_links.specs.Rows.{firstRows}
-use Rattle.search_links.specs.RowLaws.{rows-at}
+use Rattle.search_state.specs.Layout.{rowCells, slotCells, tableCells}
+use Rattle.search_links.specs.Covers.{coversAt}
+use Rattle.search_links.specs.RowLaws.{rows-is-at}
 use Rattle.search_state.specs.PositionLaws.{position-inside}
 use Rattle.search_state.specs.Positions.{positionRow}
-use Rattle.search_rows.specs.Forming.{isBelow, ComparedAt, slotCells}
+use Rattle.search_state.specs.Comparing.{isBelow, ComparedAt}
 use Rattle.search_rows.proofs.compare as compare
 use Rattle.search_rows.proofs.compare.Symbol as compare-def
 use Rattle.search_rows.proofs.compare.Met as compare-thm
@@ -69,6 +68,7 @@ use Rattle.search_cover.proofs.begin.Met as cover-begin-thm
 use Rattle.search_cover.proofs.step as cover-step
 use Rattle.search_cover.proofs.step.Symbol as cover-step-def
 use Rattle.search_cover.proofs.step.Met as cover-step-thm
+use Rattle.search_laws.specs.Meanings.{firstRows}
 use Rattle.search_laws.specs.Running.{MayFind, CoverFound}
 use Rattle.walk_kit.proofs.Closing.{locals-of, keeping, closing}
 use Rattle.walk_kit.proofs.Parameters.{Param, shared, datum, stays, spells, typed-all}
@@ -133,7 +133,7 @@ module _ {M : Type 1} (𝓤 : URA M) (H : Heap 𝓤) (A : Atoms 𝓤) (W : Given
 
   -- ---- the loop's variable: the cursor
   abbrev Within : CoverCursor → Type 0
-  Within = Seeking (candidateOf c) (firstRows (s .counts .used) j) (s .counts .used) t
+  Within = Seeking contained (candidateOf c) (firstRows (s .counts .used) j) (s .counts .used) t
 
   record X : Type 0 where
     l : CoverCursor
@@ -149,8 +149,8 @@ module _ {M : Type 1} (𝓤 : URA M) (H : Heap 𝓤) (A : Atoms 𝓤) (W : Given
     last-inside = subst (λ (n : ℕ). n < length j) (sym e) (position-inside (lastNoted t (c .head)) (s .counts .used) (length j) (may .0) (may .1))
 
   -- what comparing row i gave is said of row i of the used ones
-  covers-there : (i : ℕ) → i < s .counts .used → (m : Comparison) → Compared c (getD j i blank) m → m .covers ≡ isBelow (candidateOf c) (rowAtPosition (firstRows (s .counts .used) j) i)
-  covers-there i h m k = k .0 ∙ ap (isBelow (candidateOf c)) (sym (rows-at (s .counts .used) j i h))
+  covers-there : (i : ℕ) → i < s .counts .used → (m : Comparison) → Compared c (getD j i blank) m → m .covers ≡ coversAt contained (candidateOf c) (firstRows (s .counts .used) j) i
+  covers-there i h m k = k .0 ∙ sym (rows-is-at rowOf blank (s .counts .used) j (may .0) i h (isBelow contained (candidateOf c)))
 
   begun : (i : ℕ) (m : Comparison) → Compared c (getD j i blank) m → (n : ℕ) → n < slotCells → (r : CoverCursor) → Means cover-cursor r → r ≡ begunAt t (s .counts .used) (c .head) i (m .covers) n → X
   begun i m k n hn r is h =
@@ -170,14 +170,11 @@ module _ {M : Type 1} (𝓤 : URA M) (H : Heap 𝓤) (A : Atoms 𝓤) (W : Given
     asked : (length t ≡ tableCells) × (x .l .row < rowCells)
     asked = (may .2 .covering .size, lt-of-lt-of-le used (may .2 .limit))
 
-    module _ (m : Comparison) (k : ComparedAt (x .l .linked) (candidateOf c) (rowOf (getD j (x .l .row) blank)) m) (r : CoverCursor) (h : r ≡ stepped t (s .counts .used) (c .head) (x .l) (m .covers) (m .larger)) where
-      there : ComparedAt (x .l .linked) (candidateOf c) (rowAtPosition (firstRows (s .counts .used) j) (x .l .row)) m
-      there = subst (λ (z : order.Row). ComparedAt (x .l .linked) (candidateOf c) z m) (sym (rows-at (s .counts .used) j (x .l .row) used)) k
-
+    module _ (m : Comparison) (k : ComparedAt contained (x .l .linked) (candidateOf c) (rowOf (getD j (x .l .row) blank)) m) (r : CoverCursor) (h : r ≡ stepped t (s .counts .used) (c .head) (x .l) (m .covers) (m .larger)) where
       sought : Within r × (stepsLeft r < stepsLeft (x .l))
       sought =
           subst (λ (z : CoverCursor). Within z × (stepsLeft z < stepsLeft (x .l))) (sym h)
-          (seek-stepped (may .2) (head-fits c c-is) (x .within) y (m .covers) (m .larger) (there .0) (there .1))
+          (seek-stepped (may .2) (head-fits c c-is) (x .within) y (rowOf (getD j (x .l .row) blank)) (rows-is-at rowOf blank (s .counts .used) j (may .0) (x .l .row) used) (m .covers) (m .larger) (k .0) (k .1))
 
       next : Means cover-cursor r → X
       next is = record { l = r; l-is = is; within = sought .0 }

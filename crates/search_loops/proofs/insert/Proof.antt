@@ -33,6 +33,7 @@ use denote.Steps.{owned, nothing}
 use denote.Triple.Bound.{Bound}
 use denote.Triple.Entry.{alive}
 use denote.Triple.Walked.{says, needs, walkOf, ends-at}
+use Rattle.relation.specs.Relation.{contained}
 use Rattle.spec_calls.specs.Rows.{rowOf, blank, Journal}
 use Rattle.spec_calls.specs.declared.Row.{Row}
 use Rattle.search_rows.specs.Meanings.{candidateOf}
@@ -42,14 +43,14 @@ use Rattle.search_state.specs.declared.Comparison.{Comparison}
 use Rattle.search_state.specs.declared.Fate.{Fate}
 use Rattle.search_cover.specs.declared.CoverCursor.{CoverCursor}
 use Rattle.search_retire.specs.declared.RetireCursor.{RetireCursor}
-use Rattle.search_rows.specs.Forming.{replacedBy}
+use Rattle.search_state.specs.Comparing.{replacedBy}
 use Rattle.search_rows.proofs.compare as compare
 use Rattle.search_rows.proofs.compare.Symbol as compare-def
 use Rattle.search_rows.proofs.compare.Met as compare-thm
 use Rattle.search_rows.proofs.replacement as replacement
 use Rattle.search_rows.proofs.replacement.Symbol as replacement-def
 use Rattle.search_rows.proofs.replacement.Met as replacement-thm
-use Rattle.search_retire.specs.Clearing.{InClearing, Inserted, clearsLeft}
+use Rattle.search_retire.specs.Clearing.{InClearing, clearsLeft}
 use Rattle.search_retire.specs.ClearLaws.{clearing-at, clearing-may, clearing-done, clears-begun, clears-stepped}
 use Rattle.search_retire.specs.Steps.{begun as begunAt, stepped, linksAfter}
 use Rattle.search_retire.proofs.begin as retire-begin
@@ -58,7 +59,7 @@ use Rattle.search_retire.proofs.begin.Met as retire-begin-thm
 use Rattle.search_retire.proofs.step as retire-step
 use Rattle.search_retire.proofs.step.Symbol as retire-step-def
 use Rattle.search_retire.proofs.step.Met as retire-step-thm
-use Rattle.search_laws.specs.Running.{MayInsert}
+use Rattle.search_laws.specs.Running.{MayInsert, CandidateInserted}
 use Rattle.walk_kit.proofs.Closing.{locals-of, keeping, closing}
 use Rattle.walk_kit.proofs.Parameters.{Param, lent, datum, stays, spells, typed-all}
 use Rattle.walk_kit.proofs.Functions.{Callee, callee, Function, Knows, WalkAsking, walked-asking}
@@ -113,9 +114,9 @@ module _ {M : Type 1} (𝓤 : URA M) (H : Heap 𝓤) (A : Atoms 𝓤) (W : Given
 
   -- in the pass of the state, for the candidate
   abbrev Within : RetireCursor → Journal → List ℕ → Type 0
-  Within = InClearing (s .terms .pass) (candidateOf c) (s .counts .used) l j₀ t₀
+  Within = InClearing contained rowOf blank (s .terms .pass) (candidateOf c) (s .counts .used) l j₀ t₀
 
-  exits : (j : Journal) (t : List ℕ) → length j ≡ length j₀ → length t ≡ length t₀ → Inserted (s .terms .pass) (candidateOf c) (s .counts .used) l j₀ t₀ j t → ent 𝓤 (⋆ 𝓤 H A (Holds j t [])) (Post vunit)
+  exits : (j : Journal) (t : List ℕ) → length j ≡ length j₀ → length t ≡ length t₀ → CandidateInserted s c l j₀ t₀ j t → ent 𝓤 (⋆ 𝓤 H A (Holds j t [])) (Post vunit)
   exits j t ej et h =
       let vs = value state s s-is ∷ value candidate c c-is ∷ value fate w w-is ∷ value cover-cursor l l-is ∷ [] in
       qed W (Holds j t []) ∵

@@ -39,7 +39,6 @@ use Rattle.search_rows.specs.declared.Candidate.{Candidate}
 use Rattle.search_state.specs.declared.State.{State}
 use Rattle.search_state.specs.declared.Fate.{Fate}
 use Rattle.search_cover.specs.declared.CoverCursor.{CoverCursor}
-use Rattle.search_retire.specs.Clearing.{Inserted}
 use Rattle.search_rows.specs.Forming.{formedIn}
 use Rattle.search_rows.proofs.form as form
 use Rattle.search_rows.proofs.form.Symbol as form-def
@@ -56,7 +55,7 @@ use Rattle.search_loops.proofs.find.Met as find-thm
 use Rattle.search_loops.proofs.insert as insert
 use Rattle.search_loops.proofs.insert.Symbol as insert-def
 use Rattle.search_loops.proofs.insert.Met as insert-thm
-use Rattle.search_laws.specs.Running.{Running, Ran, CoverFound, fateFor, Considered, Advances, candidatesLeft}
+use Rattle.search_laws.specs.Running.{Running, Ran, CoverFound, CandidateInserted, fateFor, Considered, Advances, candidatesLeft}
 use Rattle.search_laws.specs.RunLaws.{left-inside, right-inside, may-form, may-find, may-insert}
 use Rattle.search_laws.specs.Advancing.{may-advance}
 use Rattle.walk_kit.proofs.Closing.{locals-of, keeping, closing}
@@ -139,7 +138,7 @@ module _ {M : Type 1} (𝓤 : URA M) (H : Heap 𝓤) (A : Atoms 𝓤) (W : Given
 
   -- after a turn at x: the candidate c is formed, looked for, inserted or not, and left behind
   module _ (x : X) (y : T (x .s .going)) (c : Candidate) (h : candidateOf c ≡ formedIn letters rules (x .s) (getD (x .j) (x .s .«left_row») blank) (getD (x .j) (x .s .«right_row») blank)) (l : CoverCursor) (h₁ : CoverFound (x .s) c (x .j) (x .t) l) (w : Fate) (hw : w ≡ fateFor (x .s) c (l .covers)) (j : Journal) (t : List ℕ)
-      (h₂ : Inserted (x .s .terms .pass) (candidateOf c) (x .s .counts .used) l (x .j) (x .t) j t) where
+      (h₂ : CandidateInserted (x .s) c l (x .j) (x .t) j t) where
     considered : Considered letters rules s₀ j₀ (x .s) c w l j t
     considered = record { before = x .j; table = x .t; running = x .running; going = y; formed = h; found = h₁; fate = hw; inserted = h₂ }
 

@@ -17,7 +17,7 @@ abbrev μ-loop : tie.MeasureT-loop
 μ-loop lists rules r r₀ r' = length rules - r'
 
 loop-holds : tie.Need-loop-holds Inv-loop μ-loop
-loop-holds c letters A l = refl
+loop-holds c live l = refl
 
 mul-rule : tie.Need-mul-rule Inv-loop μ-loop
 mul-rule c = omega arith

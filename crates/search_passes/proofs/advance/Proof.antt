@@ -5,7 +5,7 @@ use borrow.Author.Needs.{needs}
 use Rattle.search_laws.specs.Advancing.{Right, decided-so, decided-right, stopped-running, going-running, decided-used}
 use Rattle.search_laws.specs.Meanings.{countsIn}
 use Rattle.search_laws.specs.declared.Outcome.{Outcome}
-use Rattle.search_order.specs.Lists.{rowCells}
+use Rattle.search_state.specs.Layout.{rowCells}
 use Rattle.search_passes.proofs.advance.Statement.{statement}
 use Rattle.search_passes.proofs.advance.Tie as tie
 

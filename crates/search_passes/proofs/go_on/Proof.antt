@@ -5,7 +5,7 @@ use lib.Seq.{length-take-le}
 use borrow.Author.Needs.{needs}
 use Rattle.search_state.specs.declared.Place.{Place}
 use Rattle.search_order.specs.PlaceLaws.{follows-right}
-use Rattle.search_links.specs.Covers.{listsIn}
+use Rattle.search_state.specs.Layout.{listsIn}
 use Rattle.search_laws.specs.Problems.{withRules}
 use Rattle.search_laws.specs.RunningLaws.{stand-on}
 use Rattle.search_passes.proofs.go_on.Statement.{statement}

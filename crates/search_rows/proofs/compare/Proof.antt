@@ -3,7 +3,7 @@ use mathlib.Core.Path.{refl}
 use borrow.Author.Needs.{needs}
 use Rattle.spec_order.specs.Journal.{live, liveOf}
 use Rattle.spec_order.specs.Order.{larger}
-use Rattle.search_rows.specs.Forming.{isBelow}
+use Rattle.search_state.specs.Comparing.{isBelow}
 use Rattle.search_rows.proofs.compare.Statement.{statement}
 use Rattle.search_rows.proofs.compare.Tie as tie
 

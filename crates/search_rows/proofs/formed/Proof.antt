@@ -2,12 +2,13 @@
 use mathlib.Core.Path.{ap, ap₂, _∙_}
 use borrow.Author.Needs.{needs}
 use borrow.Author.Tests.{eq-eqb, ne-eqb}
-use Rattle.spec_order.specs.Candidates.{sole}
+use Rattle.spec_order.specs.Candidates.{bare, sole}
 use Rattle.search_rows.specs.Base.{joined}
 use Rattle.search_rows.proofs.formed.Statement.{statement}
 use Rattle.search_rows.proofs.formed.Tie as tie
 
 returns : tie.Need-returns
+unfolding bare
 returns c = rw (eq-eqb _ _ (c .before .if1 .taken)) (c .empty-body .ensures)
 
 returns-2 : tie.Need-returns-2

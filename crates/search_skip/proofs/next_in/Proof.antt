@@ -3,7 +3,7 @@ use mathlib.Core.Path.{sym, _∙_}
 use lib.ListN.{take}
 use borrow.Author.Needs.{needs}
 use Rattle.search_order.specs.PlaceLaws.{follows-right}
-use Rattle.search_links.specs.Covers.{listsIn}
+use Rattle.search_state.specs.Layout.{listsIn}
 use Rattle.search_skip.proofs.next_in.Statement.{statement}
 use Rattle.search_skip.proofs.next_in.Tie as tie
 

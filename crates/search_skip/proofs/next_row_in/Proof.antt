@@ -6,7 +6,8 @@ use native.Mathlib.Omega.{arith}
 use lib.ListN.{length, drop, take, length-drop, length-take}
 use lib.Seq.{length-take-le}
 use borrow.Author.Needs.{needs}
-use Rattle.search_order.specs.Lists.{end, afterIn}
+use Rattle.search_state.specs.Layout.{end}
+use Rattle.search_order.specs.Lists.{afterIn}
 use Rattle.search_order.specs.Places.{NextPlace}
 use Rattle.search_laws.specs.HintLaws.{lent-lists}
 use Rattle.search_skip.proofs.next_row_in.Statement.{statement}

@@ -9,7 +9,7 @@ use borrow.Author.Needs.{needs}
 use borrow.Author.Tests.{ltb-true}
 use Rattle.spec_basics.specs.Tests.{and-fst, and-snd}
 use Rattle.search_order.specs.Lists.{afterIn}
-use Rattle.search_links.specs.Covers.{listsIn}
+use Rattle.search_state.specs.Layout.{listsIn}
 use Rattle.search_state.specs.Budgets.{isSpent}
 use Rattle.search_laws.specs.PassingOver.{not-spent, withRight, rights-none, rights-next}
 use Rattle.search_laws.specs.Running.{PassesRights}

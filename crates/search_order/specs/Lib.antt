@@ -3,3 +3,5 @@ pub mod Places
 pub mod PlaceLaws
 pub mod Candidates
 pub mod CandidateLaws
+pub mod PlacesLeft
+pub mod PlacesLeftLaws

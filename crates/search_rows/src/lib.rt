@@ -104,7 +104,7 @@ fn retired(row: Row, pass: u64) -> Row
 }
 
 // The row that the candidate becomes.
-fn opened(pass: u64, candidate: Candidate) -> Row
+fn new_row(pass: u64, candidate: Candidate) -> Row
     ensures { λ r. ⌜ rowOf r ≡ born pass (candidateOf candidate) ⌝ }
 {
     let relation = candidate.relation;
@@ -133,7 +133,7 @@ pub fn replacement(
 {
     let terms = state.terms;
     if new {
-        return opened(terms.pass, candidate);
+        return new_row(terms.pass, candidate);
     }
     if compared.larger {
         return retired(held, terms.pass);
@@ -177,7 +177,7 @@ pub fn slot_unless(compared: Comparison, candidate: Candidate) -> usize
 // ---- forming a candidate
 
 // Returns how `symbol` is taken: a terminal by its relation in `letters`, a nonterminal by row `i`, which is `row`.
-fn taken(letters: &[Letter], symbol: u8, i: usize, row: Row) -> Choice
+fn choice_of(letters: &[Letter], symbol: u8, i: usize, row: Row) -> Choice
     requires { ⌜ letterWords ≤ length (now letters) ⌝ }
     ensures { λ r. ⌜ choiceOf r ≡ symbolChoice (composingOf (now (letters .entry))) (symbolOf symbol) i (rowOf row) ⌝ }
 {
@@ -239,7 +239,7 @@ fn two_symbols(origin: Origin, first: Choice, second: Choice) -> Candidate
 }
 
 // Returns the candidate of `place`, whose rule is `rule` and whose rows are `left` and `right`.
-fn formed(letters: &[Letter], rule: [u8; 4], place: Place, left: Row, right: Row) -> Candidate
+fn form_from(letters: &[Letter], rule: [u8; 4], place: Place, left: Row, right: Row) -> Candidate
     requires { ⌜ letterWords ≤ length (now letters) ⌝ }
     ensures { λ r. ⌜ candidateOf r ≡ formedBy (composingOf (now (letters .entry))) (entryOf rule) place (rowOf left) (rowOf right) ⌝ }
 {
@@ -251,11 +251,11 @@ fn formed(letters: &[Letter], rule: [u8; 4], place: Place, left: Row, right: Row
     if size == 0 {
         return empty_body(origin);
     }
-    let first = taken(letters, rule[2], place.left, left);
+    let first = choice_of(letters, rule[2], place.left, left);
     if size == 1 {
         return one_symbol(origin, first);
     }
-    let second = taken(letters, rule[3], place.right, right);
+    let second = choice_of(letters, rule[3], place.right, right);
     two_symbols(origin, first, second)
 }
 
@@ -280,5 +280,5 @@ pub fn form(letters: &[Letter], rules: &[[u8; 4]], state: State, left: Row, righ
     let rule = rules[r];
     let first = among(left, place.left, counts.used);
     let second = among(right, place.right, counts.used);
-    formed(letters, rule, place, first, second)
+    form_from(letters, rule, place, first, second)
 }

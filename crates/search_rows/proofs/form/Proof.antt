@@ -5,7 +5,7 @@ use Rattle.search_rows.proofs.form.Statement.{statement}
 use Rattle.search_rows.proofs.form.Tie as tie
 
 returns : tie.Need-returns
-returns c = rw (sym (c .before .before .among .ensures), sym (c .before .among2 .ensures)) (c .formed .ensures)
+returns c = rw (sym (c .before .before .among .ensures), sym (c .before .among2 .ensures)) (c .form-from .ensures)
 
 pub form-spec : {M : Type 1} → statement M
 form-spec =

@@ -4,7 +4,7 @@ use Rattle.search_rows.proofs.replacement.Statement.{statement}
 use Rattle.search_rows.proofs.replacement.Tie as tie
 
 returns : tie.Need-returns
-returns c = rw (c .before .if1 .taken) (c .opened .ensures)
+returns c = rw (c .before .if1 .taken) (c .new-row .ensures)
 
 returns-2 : tie.Need-returns-2
 returns-2 c = rw (c .before .before .if1 .left, c .before .if2 .taken) (c .retired .ensures)

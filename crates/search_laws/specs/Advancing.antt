@@ -1,5 +1,5 @@
 -- One candidate: what became of it is what the working order makes of it, and the invariant of the search holds after it. Assumes nothing.
-use mathlib.Core.Path.{_≡_, refl, sym, ap, ap₂, _∙_, subst}
+use mathlib.Core.Path.{_≡_, refl, sym, ap, ap₂, _∙_, subst, subst₂}
 use mathlib.Core.Bool.{Bool, true, false, true≢false, not, cond}
 use mathlib.Core.List.{List, []}
 use mathlib.Core.Logic.{_⊎_, inl, inr}
@@ -21,6 +21,7 @@ use Rattle.search_state.specs.Forming.{entryAt, formedBy}
 use Rattle.search_rows.specs.Meanings.{candidateOf}
 use Rattle.search_rows.specs.declared.Candidate.{Candidate}
 use Rattle.search_state.specs.Layout.{rowCells, tableCells}
+use Rattle.search_order.specs.PlacesLeft.{PassFrom}
 use Rattle.search_links.specs.Covers.{Covering}
 use Rattle.search_links.specs.RowLaws.{rows-length, among-row}
 use Rattle.search_retire.specs.Clearing.{ClearingEnd as Ending}
@@ -98,18 +99,6 @@ module _ {letters : Letters} {rules : RuleBytes} {start : State} {j₀ : Journal
       by (inl z) = ap length (z .2) ∙ go .in-pass .covering .size
       by (inr z) = z .1 .covering .size
 
-  pub may-advance : MayAdvance rules s f l t
-  may-advance =
-      record {
-        full = ap (λ (z : Fate). z .full) (x .fate);
-        remember = record { used = omega (arith, room, limit (x .running) (x .going)); table = cells; above = x .found .0 .slot .0; below = x .found .0 .slot .1; row = finds .row };
-        decide = record { used = omega (arith, room, limit (x .running) (x .going)); joins = unspent; added = omega (arith, go .in-pass .left .adds, go .begun .at-pass .none-added) };
-        count = omega (arith, stands-on (x .running) (x .going) .count, length-take (start .rules) rules);
-        pass = omega (arith, ap (λ (b : _). b .pass) (go .begun .terms), go .begun .at-pass .count, go .begun .at-pass .room, sized (x .running) (x .going) .limit);
-        room = omega (arith, room, stands-on (x .running) (x .going) .rows, stands-on (x .running) (x .going) .size);
-        limit = omega (arith, stands-on (x .running) (x .going) .rows, sized (x .running) (x .going) .limit);
-      }
-
   -- ---- what became of the candidate
 
   rows-are : s .rows ≡ length (x .before)
@@ -167,6 +156,36 @@ module _ {letters : Letters} {rules : RuleBytes} {start : State} {j₀ : Journal
       by true e (inl z) = kept _ (z .1) (z .2) refl (answers-dropped (s .terms) (candidateOf c) (s .counts) (x .before) room hb not-spent (none true e))
       by true e (inr z) = absurd (true≢false (sym e ∙ z .0 .none))
       by false e z = by-room (eqb u (s .rows)) refl e z
+
+  rules-same : s .rules ≡ start .rules
+  rules-same = stands-on (x .running) (x .going) .count ∙ length-take-le (start .rules) rules (x .running .whole (started (x .running) (x .going)))
+
+  pub may-advance : MayAdvance rules s f l t
+  may-advance =
+      let few = limit (x .running) (x .going) in
+      let at = stands-on (x .running) (x .going) in
+      let used = decided-right .0 .room in
+      record {
+        full = ap (λ (z : Fate). z .full) (x .fate);
+        remember = record { used = omega (arith, room, few); table = cells; above = x .found .0 .slot .0; below = x .found .0 .slot .1; row = finds .row };
+        decide = record { used = omega (arith, room, few); joins = unspent; added = omega (arith, go .in-pass .left .adds, go .begun .at-pass .none-added) };
+        here = omega (arith, go .here, at .count);
+        passes = record {
+          table = cells;
+          count = omega (arith, at .count, length-take (start .rules) rules);
+          old = omega (arith, ap (λ (b : Terms). b .«rows_at_previous_start») (go .begun .terms), go .begun .fits);
+          places = subst₂ (λ (lists : List ℕ) (k : ℕ). PassFrom lists (take k rules) (s .place)) (sym (x .inserted .lists)) (sym rules-same) (go .in-pass .places);
+        };
+        links = record {
+          rows = firstRows (countsIn became .used) j;
+          size = rows-length rowOf (countsIn became .used) j (omega (arith, used, x .inserted .size)) ∙ ap (λ (o : Outcome). countsIn o .used) (sym decided-so);
+          covering = decided-right .1;
+        };
+        start = omega (arith, ap (λ (b : Terms). b .«rows_at_pass_start») (go .begun .terms), go .in-pass .left .grows, room, few);
+        pass = omega (arith, ap (λ (b : _). b .pass) (go .begun .terms), go .begun .at-pass .count, go .begun .at-pass .room, sized (x .running) (x .going) .limit);
+        room = omega (arith, room, at .rows, at .size);
+        limit = omega (arith, at .rows, sized (x .running) (x .going) .limit);
+      }
 
   -- ---- the candidate is that of the place
 
@@ -245,9 +264,6 @@ module _ {letters : Letters} {rules : RuleBytes} {start : State} {j₀ : Journal
       by false true b = refl
       by false false true = refl
       by false false false = refl
-
-  rules-same : s .rules ≡ start .rules
-  rules-same = stands-on (x .running) (x .going) .count ∙ length-take-le (start .rules) rules (x .running .whole (started (x .running) (x .going)))
 
   pub going-running : (tn : List ℕ) → Remembers t tn → {w : Counts} → outcome.Going w ≡ became → {t′ : List ℕ} {r : State} → GoesOn rules tn s w t′ r → Running letters rules start j₀ r j t′ × (candidatesLeft r < candidatesLeft s)
   going-running tn nt {w} e {t′} {r} g =

@@ -16,19 +16,21 @@ use Rattle.search_rows.specs.declared.Candidate.{Candidate}
 use Rattle.search_state.specs.declared.Place.{Place}
 use Rattle.search_state.specs.Layout.{rowCells, heads, headCell, listsFrom, tableCells, listsIn}
 use Rattle.search_order.specs.Places as places
+use Rattle.search_order.specs.PlacesLeft.{placesLeft, PassFrom}
 use Rattle.search_links.specs.Covers.{Covering}
 use Rattle.search_cover.specs.Seeking.{Leads, Finds, Seeking}
 use Rattle.search_cover.specs.declared.CoverCursor.{CoverCursor}
 use Rattle.search_retire.specs.Clearing.{Inserted}
 use Rattle.search_state.specs.Budgets.{isSpent}
 use Rattle.search_state.specs.Fates.{fullIn, fateIn}
+use Rattle.search_state.specs.NextPass.{nextPass}
 use Rattle.search_state.specs.Positions.{positionRow}
 use Rattle.search_state.specs.declared.Counts.{Counts}
 use Rattle.search_state.specs.declared.Fate.{Fate}
 use Rattle.search_state.specs.declared.State.{State}
 use Rattle.search_state.specs.declared.Terms.{Terms}
 use Rattle.search_laws.specs.Contracts.{Answers, Checked, orderOf}
-use Rattle.search_laws.specs.Meanings.{firstRows, answerIn}
+use Rattle.search_laws.specs.Meanings.{firstRows, countsIn, decidedIn, answerIn}
 use Rattle.search_laws.specs.Passes.{AtPass}
 use Rattle.search_laws.specs.Passing.{InPass}
 use Rattle.search_laws.specs.Problems.{Letters, RuleBytes, Problem, withRules, problemIn, termsOf, breakingIn}
@@ -161,20 +163,40 @@ pub record MayDecide (s : State) : Type 0 where
   pub joins : s .counts .joins < s .terms .budget
   pub added : s .counts .added ≤ s .counts .used
 
-pub record MayOpen (rules : RuleBytes) (n : ℕ) (w : Counts) (t : List ℕ) : Type 0 where
+-- the links of the table lead along some u rows
+pub record LinksAlong (u : ℕ) (t : List ℕ) : Type 0 where
+  pub rows : List order.Row
+  pub size : length rows ≡ u
+  pub covering : Covering rows t
+
+-- passing over may begin at the place p, which is one of the pass over the first n rules, under the terms b
+pub record MayPass (rules : RuleBytes) (n : ℕ) (b : Terms) (t : List ℕ) (p : Place) : Type 0 where
   pub table : length t ≡ tableCells
   pub count : n ≤ length rules
-  pub used : w .used ≤ rowCells
+  pub old : b .«rows_at_previous_start» ≤ rowCells
+  pub places : PassFrom (listsIn t) (take n rules) p
 
+-- a pass over the first n rules may begin, under the terms b
+pub record MayOpen (rules : RuleBytes) (n : ℕ) (b : Terms) (w : Counts) (t : List ℕ) : Type 0 where
+  pub table : length t ≡ tableCells
+  pub count : n ≤ length rules
+  pub old : b .«rows_at_previous_start» ≤ rowCells
+  pub used : w .used ≤ rowCells
+  pub links : LinksAlong (w .used) t
+
+-- the pass after that of s may begin
 pub record MayGoOn (rules : RuleBytes) (s : State) (w : Counts) (t : List ℕ) : Type 0 where
-  pub opens : MayOpen rules (s .rules) w t
+  pub opens : MayOpen rules (s .rules) (nextPass (s .terms) (w .used)) w t
   pub pass : s .terms .pass ≤ 65535
 
 pub record MayAdvance (rules : RuleBytes) (s : State) (f : Fate) (l : CoverCursor) (t : List ℕ) : Type 0 where
   pub full : f .full ≡ fullIn s
   pub remember : MayRemember s l t
   pub decide : MayDecide s
-  pub count : s .rules ≤ length rules
+  pub here : s .place .rule < s .rules
+  pub passes : MayPass rules (s .rules) (s .terms) t (s .place)
+  pub links : LinksAlong (countsIn (decidedIn s f) .used) t
+  pub start : s .terms .«rows_at_pass_start» ≤ rowCells
   pub pass : s .terms .pass ≤ 65535
   pub room : s .counts .used ≤ s .rows
   pub limit : s .rows ≤ rowCells
@@ -201,16 +223,24 @@ pub record JoinsAlone (x r : Reached) : Type 0 where
   pub used : r .counts .used ≡ x .counts .used
   pub added : r .counts .added ≡ x .counts .added
 
--- if the candidate of x has been handled, then so have all up to that of r, which has the same rule and left row
+-- q is a place of the pass after p: less of the pass is left
+abbrev pub Later : RuleBytes → List ℕ → Place → Place → Type 0
+Later rules t p q = PassFrom (listsIn t) rules q × (placesLeft (listsIn t) rules q < placesLeft (listsIn t) rules p)
+
+-- if the candidate of x has been handled, then so have all up to that of r, which has the same rule and left row; if x is a place of the pass,
+-- so is r, and no more of the pass is left from there
 pub record PassesRights (t : List ℕ) (b : Terms) (x r : Reached) : Type 0 where
   pub counted : JoinsAlone x r
+  pub rule : r .place .rule ≡ x .place .rule
+  pub along : (rules : RuleBytes) → x .place .rule < length rules → PassFrom (listsIn t) rules (x .place)
+      → PassFrom (listsIn t) rules (r .place) × (placesLeft (listsIn t) rules (r .place) ≤ placesLeft (listsIn t) rules (x .place))
   pub done : (P : Problem) (first : Counts) (j₁ j : Journal) → x .place .rule < length (P .rules) → repeatsAt (b .«rows_at_previous_start») (x .place) ≡ true
-      → b .«rows_at_previous_start» ≤ rowCells → DoneAt b P first j₁ t j x → DoneAt b P first j₁ t j r
+      → DoneAt b P first j₁ t j x → DoneAt b P first j₁ t j r
 
 -- if the invariant of the pass holds at x, it holds at r: every candidate between them was passed over
 pub record PassesOver (rules : RuleBytes) (t : List ℕ) (b : Terms) (x r : Reached) : Type 0 where
   pub counted : JoinsAlone x r
-  pub stands : (P : Problem) (first : Counts) (j₁ j : Journal) → b .«rows_at_previous_start» ≤ rowCells
+  pub stands : (P : Problem) (first : Counts) (j₁ j : Journal)
       → InPass b (withRules P rules) first j₁ t (x .counts) j (x .place) → InPass b (withRules P rules) first j₁ t (r .counts) j (r .place)
 
 -- ---- the steps between candidates

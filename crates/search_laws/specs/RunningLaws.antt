@@ -14,6 +14,8 @@ use Rattle.search_state.specs.declared.Place.{Place}
 use Rattle.search_state.specs.Layout.{rowCells, listsIn}
 use Rattle.search_order.specs.Lists.{Listed}
 use Rattle.search_order.specs.Places as places
+use Rattle.search_order.specs.PlacesLeft.{PassFrom}
+use Rattle.search_order.specs.PlacesLeftLaws.{pass-first}
 use Rattle.search_links.specs.Covers.{Covering}
 use Rattle.search_links.specs.Listing.{Gathered, gathered-listed, gathered-covering}
 use Rattle.spec_calls.specs.Rows.{rowOf, Journal}
@@ -26,10 +28,10 @@ use Rattle.search_laws.specs.Closing.{Again, Done, endBy, endOf}
 use Rattle.search_laws.specs.Contracts.{PassReady, Answers, Checked}
 use Rattle.search_laws.specs.Deciding.{answers-spent}
 use Rattle.search_laws.specs.Meanings.{firstRows, inNextPass, totalsOf, answerIn}
-use Rattle.search_laws.specs.Problems.{Problem, termsOf}
+use Rattle.search_laws.specs.Problems.{RuleBytes, Problem, termsOf}
 use Rattle.search_laws.specs.Passes.{AtPass, pass-done, pass-again, pass-known}
 use Rattle.search_laws.specs.Passing.{InPass, pass-start, pass-end, pass-stopped}
-use Rattle.search_laws.specs.Running.{target, InLimits, PassBegun, Onward, PassesOver}
+use Rattle.search_laws.specs.Running.{target, InLimits, PassBegun, LinksAlong, Onward, PassesOver}
 use Rattle.search_laws.specs.States.{ended, standingBy, standing, finished, openingBy, opening}
 use Rattle.search_laws.specs.Walks.{candidatesIn, candidateIn, passIn, Known}
 use Rattle.search_laws.specs.declared.Answer.the-variants as answer
@@ -39,6 +41,12 @@ use Rattle.search_laws.specs.declared.Outcome.{Outcome}
 use Rattle.search_laws.specs.declared.Reached.{Reached}
 use Rattle.search_laws.specs.declared.Stop.the-variants as stop
 use Rattle.search_laws.specs.declared.Unbroken.the-variants as unbroken
+
+-- the first place along the lists of the links is one of the pass
+pub opens-place : {u : ℕ} {t t′ : List ℕ} {rules : RuleBytes} {p : Place} → LinksAlong u t → u ≤ rowCells → Gathered u t t′ → places.FirstPlace (listsIn t′) rules 0 p → PassFrom (listsIn t′) rules p
+opens-place {u} {t} {t′} l h g o =
+    let few : length (l .rows) ≤ rowCells = omega (arith, l .size, h) in
+    pass-first (l .rows) few (gathered-listed (l .rows) few t t′ (l .covering) (subst (λ (n : ℕ). Gathered n t t′) (sym (l .size)) g)) o
 
 module _ (P : Problem) (B : ℕ) (j₀ : Journal) (s : State) (rows : s .rows ≡ length j₀) (count : s .rules ≡ length (P .rules)) where
   -- the terms of pass k, which began at w, after one that began with n rows
@@ -120,12 +128,6 @@ module _ (P : Problem) (B : ℕ) (j₀ : Journal) (s : State) (rows : s .rows �
       subst (λ (b : Terms). Onward P B j₀ w (standing s b w p) j t) (sym (y .terms))
       (stand-there (y .at-pass) (y .before) (y .fits) (y .known) (subst (λ (b : Terms). InPass b P first j₁ t w j p) (y .terms) g) h)
 
-  -- and has come over places that need no work
-  pub over-reached : {first : Counts} {j₁ : Journal} (y : PassBegun P B j₀ s first j₁) {t : List ℕ} {j : Journal} {x r : Reached} → PassesOver (P .rules) t (s .terms) x r
-      → InPass (s .terms) P first j₁ t (x .counts) j (x .place) → InPass (s .terms) P first j₁ t (r .counts) j (r .place)
-  over-reached {first} {j₁} y {t} {j} v g =
-      v .stands P first j₁ j (omega (arith, ap (λ (b : Terms). b .«rows_at_previous_start») (y .terms), y .fits)) g
-
   -- ---- a pass begins
 
   module _ (z : InLimits P B j₀) {w : Counts} {j : Journal} {k : ℕ} (a : AtPass P B (target P B j₀) j₀ w j k) (n : ℕ) (fits : n ≤ rowCells) (known : Known n (candidatesIn P (firstRows (w .used) j)) (firstRows (w .used) j)) {t t′ : List ℕ} (c : Covering (firstRows (w .used) j) t) (g : Gathered (w .used) t t′) where
@@ -148,7 +150,7 @@ module _ (P : Problem) (B : ℕ) (j₀ : Journal) (s : State) (rows : s .rows �
     -- at its first place, and then at one that is reached from there
     module _ (p : Place) (o : places.FirstPlace (listsIn t′) (P .rules) 0 p) {r : Reached} (v : PassesOver (P .rules) t′ (at k n w) (record { counts = w; place = p }) r) where
       reached : InPass (at k n w) P w j t′ (r .counts) j (r .place)
-      reached = v .stands P w j j fits (pass-start listed ready known o)
+      reached = v .stands P w j j (pass-start listed ready known o)
 
       pub open-reached : Onward P B j₀ w (opening s (at k n w) r) j t′
       open-reached = onward-from (v .counted .joins) (by (ltb (r .place .rule) (s .rules)) refl)

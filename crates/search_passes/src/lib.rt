@@ -7,7 +7,8 @@ use search_state::END;
 use search_state::Fate;
 use search_state::State;
 use search_state::Terms;
-ghost use Rattle.search_laws.specs.Running.{MayOpen, OpensPass, MayGoOn, Closes, GoesFrom, GoesOn, MayAdvance, Advances};
+ghost use Prim.Native.Nat.{_<_};
+ghost use Rattle.search_laws.specs.Running.{MayPass, MayOpen, OpensPass, MayGoOn, Closes, GoesFrom, GoesOn, MayAdvance, Advances};
 
 // A pass over n rules begins: the lists first, then its first place that needs work. The state is not here: a call that is handed one, or
 // gives one, made the compiler copy its padding for each candidate.
@@ -18,7 +19,7 @@ pub fn open_pass(
     terms: Terms,
     counts: Counts,
 ) -> Reached
-    requires { ⌜ MayOpen (now rules) n counts (now table) ⌝ }
+    requires { ⌜ MayOpen (now rules) n terms counts (now table) ⌝ }
     ensures { λ r. ⌜ OpensPass (now (rules .entry)) (now (table .entry)) n terms counts (now (table .exit)) r ⌝ }
 {
     search_links::gather(table, counts.used);
@@ -47,7 +48,7 @@ fn close_pass(rules: &[[u8; 4]], table: &mut [u32], state: State, counts: Counts
 
 // From a place on to the first that needs work, or to the end of the pass.
 fn go_from(rules: &[[u8; 4]], table: &mut [u32], state: State, from: Reached) -> State
-    requires { ⌜ MayGoOn (now rules) state (from .counts) (now table) ⌝ }
+    requires { ⌜ MayGoOn (now rules) state (from .counts) (now table) × MayPass (now rules) (state .rules) (state .terms) (now table) (from .place) ⌝ }
     ensures { λ r. ⌜ GoesFrom (now (rules .entry)) (now (table .entry)) state from (now (table .exit)) r ⌝ }
 {
     let n = state.rules;
@@ -64,7 +65,7 @@ fn go_from(rules: &[[u8; 4]], table: &mut [u32], state: State, from: Reached) ->
 // Moves the search to the next place whose candidate must be formed, or ends the pass. The current candidate was formed, so its rows are not
 // both old. Later rights are younger, so their candidates must be formed too: no test is necessary.
 fn go_on(rules: &[[u8; 4]], table: &mut [u32], state: State, counts: Counts) -> State
-    requires { ⌜ MayGoOn (now rules) state counts (now table) ⌝ }
+    requires { ⌜ MayGoOn (now rules) state counts (now table) × (state .place .rule < state .rules) × MayPass (now rules) (state .rules) (state .terms) (now table) (state .place) ⌝ }
     ensures { λ r. ⌜ GoesOn (now (rules .entry)) (now (table .entry)) state counts (now (table .exit)) r ⌝ }
 {
     let terms = state.terms;

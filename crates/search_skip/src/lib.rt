@@ -7,15 +7,15 @@ use search_state::END;
 use search_state::LISTS;
 use search_state::Place;
 use search_state::Terms;
-ghost use Prim.Native.Nat.{_≤_, _<_};
+ghost use Prim.Native.Nat.{_≤_};
 ghost use mathlib.Core.Path.{_≡_};
 ghost use mathlib.Core.Bool.{true};
 ghost use lib.ListN.{length, take};
-ghost use Rattle.search_state.specs.Layout.{tableCells, listsIn, end};
+ghost use Rattle.search_state.specs.Layout.{rowCells, tableCells, listsIn, end};
 ghost use Rattle.search_order.specs.Lists.{afterIn};
 ghost use Rattle.search_order.specs.Places as places;
 ghost use Rattle.search_laws.specs.Walks.{isBefore, repeatsAt};
-ghost use Rattle.search_laws.specs.Running.{passesAt, PassesRights, PassesOver};
+ghost use Rattle.search_laws.specs.Running.{passesAt, Later, MayPass, PassesRights, PassesOver};
 
 // ---- the lists of the pass
 
@@ -82,7 +82,7 @@ fn may_pass(terms: Terms, n: usize, at: Reached) -> bool
 
 // From a place whose candidate is done over the rights after it that are rows of the pass before; its left is one.
 fn pass_rights(table: &[u32], terms: Terms, done: Reached) -> Reached
-    requires { ⌜ length (now table) ≡ tableCells ⌝ }
+    requires { ⌜ (length (now table) ≡ tableCells) × (terms .«rows_at_previous_start» ≤ rowCells) ⌝ }
     ensures { λ r. ⌜ PassesRights (now (table .entry)) terms done r ⌝ }
 {
     let counts = done.counts;
@@ -107,8 +107,8 @@ fn pass_rights(table: &[u32], terms: Terms, done: Reached) -> Reached
 
 // From a place that may be passed over to the first place that is not a right of the same left, or may not.
 fn pass_left(rules: &[[u8; 4]], table: &[u32], n: usize, terms: Terms, at: Reached) -> Reached
-    requires { ⌜ (length (now table) ≡ tableCells) × (n ≤ length (now rules)) × (passesAt terms n at ≡ true) ⌝ }
-    ensures { λ r. ⌜ PassesOver (take n (now (rules .entry))) (now (table .entry)) terms at r × (at .counts .joins < r .counts .joins) ⌝ }
+    requires { ⌜ MayPass (now rules) n terms (now table) (at .place) × (passesAt terms n at ≡ true) ⌝ }
+    ensures { λ r. ⌜ PassesOver (take n (now (rules .entry))) (now (table .entry)) terms at r × Later (take n (now (rules .entry))) (now (table .entry)) (at .place) (r .place) ⌝ }
 {
     let counts = at.counts;
     let place = at.place;
@@ -129,7 +129,7 @@ fn pass_left(rules: &[[u8; 4]], table: &[u32], n: usize, terms: Terms, at: Reach
 
 // From a place on to the first that may not be passed over.
 pub fn pass_over(rules: &[[u8; 4]], table: &[u32], n: usize, terms: Terms, from: Reached) -> Reached
-    requires { ⌜ (length (now table) ≡ tableCells) × (n ≤ length (now rules)) ⌝ }
+    requires { ⌜ MayPass (now rules) n terms (now table) (from .place) ⌝ }
     ensures { λ r. ⌜ PassesOver (take n (now (rules .entry))) (now (table .entry)) terms from r ⌝ }
 {
     let mut at = from;

@@ -3,7 +3,9 @@ use mathlib.Core.Path.{sym, ap, _∙_, subst}
 use Prim.Native.Nat.{ℕ, _≤_}
 use borrow.Author.Needs.{needs}
 use Rattle.search_laws.specs.Advancing.{Right, decided-so, decided-right, stopped-running, going-running, decided-used}
+use Rattle.search_laws.specs.HintLaws.{remembers-links, remembers-passes}
 use Rattle.search_laws.specs.Meanings.{countsIn}
+use Rattle.search_laws.specs.Running.{LinksAlong}
 use Rattle.search_laws.specs.declared.Outcome.{Outcome}
 use Rattle.search_state.specs.Layout.{rowCells}
 use Rattle.search_passes.proofs.advance.Statement.{statement}
@@ -14,14 +16,21 @@ go-on-requires c κs =
     let s = c .before .before .before .before .before .before .before .before .before .before in
     let o = c .before .before .before .before .decide in
     let u = decided-used (s .args .state) (s .args .fate) (s .pre .full) (s .pre .room) (s .pre .limit) in
-    record {
-      opens = record {
-        table = c .before .before .before .before .before .before .before .remember-hint .ensures .size ∙ s .pre .remember .table;
-        count = s .pre .count;
-        used = subst (λ (n : ℕ). n ≤ rowCells) (ap (λ (z : Outcome). countsIn z .used) (sym (o .ensures) ∙ c .before .before .outcome .given .1)) u;
-      };
-      pass = s .pre .pass;
-    }
+    let hints = c .before .before .before .before .before .before .before .remember-hint in
+    let same = ap (λ (z : Outcome). countsIn z .used) (sym (o .ensures) ∙ c .before .before .outcome .given .1) in (
+      record {
+        opens = record {
+          table = hints .ensures .size ∙ s .pre .remember .table;
+          count = s .pre .passes .count;
+          old = s .pre .start;
+          used = subst (λ (n : ℕ). n ≤ rowCells) same u;
+          links = subst (λ (n : ℕ). LinksAlong n (hints .last .0)) same (remembers-links (hints .ensures) u (s .pre .links));
+        };
+        pass = s .pre .pass;
+      },
+      s .pre .here,
+      remembers-passes (hints .ensures) (s .pre .passes),
+    )
 
 returns : tie.Need-returns
 returns c letters start j₀ j d x =

@@ -1,6 +1,6 @@
 -- `search_passes::close_pass` meets its contract: the last pass, or one more. Assumes nothing.
 use mathlib.Core.Path.{_≡_, refl, sym, ap, _∙_, subst}
-use Prim.Native.Nat.{_+_}
+use Prim.Native.Nat.{_+_, _≤_}
 use native.Mathlib.Nat.{le-refl}
 use native.Mathlib.Omega.{arith}
 use lib.ListN.{length, take}
@@ -13,6 +13,7 @@ use Rattle.search_laws.specs.Walks.{passIn}
 use Rattle.search_laws.specs.declared.Outcome.the-variants.{Going}
 use Rattle.search_laws.specs.Problems.{withRules}
 use Rattle.search_laws.specs.RunningLaws.{onward-from, close-last, close-again, close-known}
+use Rattle.search_state.specs.Layout.{rowCells}
 use Rattle.search_state.specs.NextPass.{nextPass}
 use Rattle.search_state.specs.declared.Terms.{Terms}
 use Rattle.search_passes.proofs.close_pass.Statement.{statement}
@@ -28,6 +29,11 @@ returns c P B j₀ first j₁ j z rows y h x g =
     rw (c .finish .ensures)
     (subst (λ (b : Terms). Onward Q B j₀ (s .args .counts) (finished st b (s .args .counts)) j (s .args .table .now)) (sym (y .terms))
     (close-last Q B j₀ st rows n (y .at-pass) (y .before) h (subst (λ (b : Terms). Answers B (passIn b Q first j₁) first j₁ j (Going (s .args .counts))) (y .terms) x) (s .args .table .now) (c .before .if1 .taken)))
+
+asked : tie.Need-open-pass-requires
+asked c κs =
+    let a = c .before .before .before .before .before .before .pre .opens in
+    record { table = a .table; count = a .count; old = subst (λ (b : Terms). b .«rows_at_previous_start» ≤ rowCells) (sym (c .before .next-pass .ensures)) (a .old); used = a .used; links = a .links }
 
 returns-2 : tie.Need-returns-2
 returns-2 c P B j₀ first j₁ j z rows y h x g =
@@ -46,4 +52,4 @@ returns-2 c P B j₀ first j₁ j z rows y h x g =
     (omega (arith, y .at-pass .room, z .limit)) (close-known Q B j₀ st rows n (y .at-pass) (y .before) h gave more (z .limit)) g))
 
 pub close-pass-spec : {M : Type 1} → statement M
-close-pass-spec = tie.close (tie.spec (λ c κs. search needs) returns (λ c. search needs) (λ c κs. search needs) (λ c κs. search needs) (λ c. search needs) returns-2)
+close-pass-spec = tie.close (tie.spec (λ c κs. search needs) returns (λ c κs. search needs) asked (λ c κs. search needs) (λ c. search needs) returns-2)

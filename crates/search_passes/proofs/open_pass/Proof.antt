@@ -6,10 +6,16 @@ use borrow.Author.Needs.{needs}
 use Rattle.search_laws.specs.Running.{Onward, PassesOver}
 use Rattle.search_laws.specs.States.{opening}
 use Rattle.search_laws.specs.Problems.{withRules}
-use Rattle.search_laws.specs.RunningLaws.{open-reached}
+use Rattle.search_laws.specs.RunningLaws.{opens-place, open-reached}
 use Rattle.search_state.specs.declared.Terms.{Terms}
 use Rattle.search_passes.proofs.open_pass.Statement.{statement}
 use Rattle.search_passes.proofs.open_pass.Tie as tie
+
+asked : tie.Need-pass-over-requires
+asked c κs =
+    let gathered = c .before .before .before .before .before .gather in
+    let s = c .before .before .before .before .before .before .before .before in
+    record { table = gathered .ensures .size ∙ s .pre .table; count = s .pre .count; old = s .pre .old; places = opens-place (s .pre .links) (s .pre .used) (gathered .ensures) (c .before .first-in .ensures) }
 
 returns : tie.Need-returns
 returns c P B j₀ j k m st count z rows a e fits known g =
@@ -24,4 +30,4 @@ returns c P B j₀ j k m st count z rows a e fits known g =
     (subst (λ (b : Terms). PassesOver rs (gathered .last .0) b (record { counts = s .args .counts; place = p .result }) (o .result)) e (o .ensures)))
 
 pub open-pass-spec : {M : Type 1} → statement M
-open-pass-spec = tie.close (tie.spec (λ c κs. search needs) (λ c κs. search needs) (λ c κs. search needs) (λ c. search needs) returns)
+open-pass-spec = tie.close (tie.spec (λ c κs. search needs) (λ c κs. search needs) asked (λ c. search needs) returns)

@@ -1,44 +1,42 @@
--- `search_skip::pass_over` meets its contract. The loop's invariant: from the first place to `at` every candidate was one
--- that the pass before formed, and is counted. The measure is the joins that the budget leaves, of which each turn makes at least one. Assumes
--- nothing.
+-- `search_skip::pass_over` meets its contract. The loop's invariant: from the first place to `at` every candidate was one that the pass before
+-- formed, and is counted, and `at` is a place of the pass. The measure is what is left of the pass from `at` on: each turn comes to a later
+-- place. Assumes nothing.
 use mathlib.Core.Path.{sym, _∙_}
-use Prim.Native.Nat.{_-_}
-use native.Mathlib.Omega.{arith}
 use lib.ListN.{take}
 use borrow.Author.Needs.{needs}
-use Rattle.search_laws.specs.PassingOver.{passes-paid, over-none, over-more}
+use Rattle.search_order.specs.PlacesLeft.{placesLeft, PassFrom}
+use Rattle.search_state.specs.Layout.{listsIn}
+use Rattle.search_laws.specs.PassingOver.{over-none, over-more}
 use Rattle.search_laws.specs.Running.{PassesOver}
 use Rattle.search_skip.proofs.pass_over.Statement.{statement}
 use Rattle.search_skip.proofs.pass_over.Tie as tie
 
 abbrev Inv-loop : tie.InvT-loop
-Inv-loop rules table n terms at₀ at = PassesOver (take n rules) table terms at₀ at
+Inv-loop rules table n terms at₀ at = PassesOver (take n rules) table terms at₀ at × PassFrom (listsIn table) (take n rules) (at .place)
 
 abbrev μ-loop : tie.MeasureT-loop
-μ-loop rules table n terms at₀ at = terms .budget - at .counts .joins
+μ-loop rules table n terms at₀ at = placesLeft (listsIn table) (take n rules) (at .place)
 
 loop-holds : tie.Need-loop-holds Inv-loop μ-loop
 loop-holds c =
     let a = c .before .args in
-    over-none (take (a .n) (a .rules .now)) (a .table .now) (a .terms) (a .from)
+    (over-none (take (a .n) (a .rules .now)) (a .table .now) (a .terms) (a .from), c .before .pre .places)
 
 asked : tie.Need-pass-left-requires Inv-loop μ-loop
 asked c κs =
     let s = c .before .before .before .before in
-    (s .pre .0, s .pre .1, sym (c .before .may-pass .ensures) ∙ c .if1 .taken)
+    (record { table = s .pre .table; count = s .pre .count; old = s .pre .old; places = c .before .before .loop .inv .1 }, sym (c .before .may-pass .ensures) ∙ c .if1 .taken)
 
 loop-less : tie.Need-loop-less Inv-loop μ-loop
-loop-less c =
-    let a = c .before .before .before .before .before .args in
-    omega (arith, c .pass-left .ensures .1, passes-paid (a .terms) (a .n) (c .before .before .before .loop .at) (sym (c .before .before .may-pass .ensures) ∙ c .before .if1 .taken))
+loop-less c = c .pass-left .ensures .1 .1
 
 loop-again : tie.Need-loop-again Inv-loop μ-loop
 loop-again c =
     let a = c .before .before .before .before .before .args in
-    over-more (take (a .n) (a .rules .now)) (a .table .now) (a .terms) (c .before .before .before .loop .inv) (c .pass-left .ensures .0)
+    (over-more (take (a .n) (a .rules .now)) (a .table .now) (a .terms) (c .before .before .before .loop .inv .0) (c .pass-left .ensures .0), c .pass-left .ensures .1 .0)
 
 returns : tie.Need-returns Inv-loop μ-loop
-returns c = c .before .before .loop .inv
+returns c = c .before .before .loop .inv .0
 
 pub pass-over-spec : {M : Type 1} → statement M
 pass-over-spec = tie.close (tie.spec Inv-loop μ-loop loop-holds (λ c κs. search needs) asked loop-less loop-again returns)

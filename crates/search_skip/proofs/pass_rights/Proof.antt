@@ -47,10 +47,11 @@ loop-less c =
 
 loop-again : tie.Need-loop-again Inv-loop μ-loop
 loop-again c =
-    let a = c .before .before .before .before .before .before .before .before .before .args in
+    let s = c .before .before .before .before .before .before .before .before .before in
+    let a = s .args in
     let l = c .before .before .before .before .loop in
     let t = tested (l .next) (a .terms .«rows_at_previous_start») (l .joins) (a .terms .budget) _ (c .before .before .spent .ensures) (c .before .if1 .taken) in
-    (c .after-in2 .ensures, rights-next (a .table .now) (a .terms) (a .done) (l .joins) (l .right) (l .next) (l .inv .1) (l .inv .0) (t .0) (t .1))
+    (c .after-in2 .ensures, rights-next (a .table .now) (a .terms) (a .done) (l .joins) (l .right) (l .next) (s .pre .1) (l .inv .1) (l .inv .0) (t .0) (t .1))
 
 returns : tie.Need-returns Inv-loop μ-loop
 returns c = rw (c .with-right .ensures) (c .before .before .before .before .loop .inv .1)

@@ -58,9 +58,14 @@ module _ (bs : List ℕ) (g : Settings) where
   pub starts-refused : (letters : Letters) (rules : RuleBytes) (t : List ℕ) (r : Refusal) → refusalOf r ≡ firstOf (checkRefusals bs J) → (r .number ≡ 0 → ⊥) → (s : State) → s ≡ waiting g 0 0 → Starts bs g letters rules t (record { refusal = r; state = s })
   starts-refused letters rules t r e z s w = record { refusal = e; refused = λ _. ap (λ (x : State). x .going) w; begins = λ q. absurd (z q) }
 
-  pub may-open : (finals : ℕ) (before rules : RuleBytes) (n : ℕ) → RuleTable bs before rules n → (t : List ℕ) → t ≡ replicate tableCells end → (w : State) → w ≡ waiting g n finals → MayOpen rules n (w .counts) t
+  -- a table without a row
+  no-links : (t : List ℕ) → t ≡ replicate tableCells end → Covering {E = ℕ} [] t
+  no-links t et = subst (Covering []) (sym et) covering-none
+
+  pub may-open : (finals : ℕ) (before rules : RuleBytes) (n : ℕ) → RuleTable bs before rules n → (t : List ℕ) → t ≡ replicate tableCells end → (w : State) → w ≡ waiting g n finals → MayOpen rules n (w .terms) (w .counts) t
   may-open finals before rules n en t et w ew =
-      subst (λ (x : State). MayOpen rules n (x .counts) t) (sym ew) (record { table = ap length et ∙ length-replicate tableCells end; count = rules-fit bs before rules n en; used = omega arith })
+      subst (λ (x : State). MayOpen rules n (x .terms) (x .counts) t) (sym ew)
+      (record { table = ap length et ∙ length-replicate tableCells end; count = rules-fit bs before rules n en; old = omega arith; used = omega arith; links = record { rows = []; size = refl; covering = no-links t et } })
 
   module _ (letters : Letters) (el : letters ≡ letterTable states (transitionsOf bs)) (finals : ℕ) (ef : finals ≡ number states (isFinal (automatonOf bs))) (before rules : RuleBytes) (n : ℕ) (en : RuleTable bs before rules n) (t t′ : List ℕ)
       (et : t ≡ replicate tableCells end) (w : State) (ew : w ≡ waiting g n finals) (x : Reached) (o : OpensPass rules t n (w .terms) (w .counts) t′ x) (s : State) (es : s ≡ opening w (w .terms) x) (r : Refusal) (e : refusalOf r ≡ firstOf (checkRefusals bs J)) (z : r .number ≡ 0) where
@@ -75,7 +80,7 @@ module _ (bs : List ℕ) (g : Settings) where
         let k = journal-size J (quiet .1) in
         subst (λ (y : State). Onward P B j (record { used = 0; joins = 0; added = 0 }) y j t′) (sym (es ∙ ap (λ (y : State). opening y (y .terms) x) ew))
         (subst (λ (y : State). OpensPass rules t n (y .terms) (y .counts) t′ x) ew o P B j j 1 0 (waiting g n finals) refl (record { all = omega (arith, ap length el, letters-length states (transitionsOf bs)); some = omega (arith, l, k .0); limit = omega (arith, l, k .1) }) (sym l) (pass-first P B j) refl (omega arith) (λ q. absurd (omega (arith, q)))
-        (subst (λ (rows : List Row). Covering rows t) (sym (rows-none rowOf j)) (subst (Covering []) (sym et) covering-none)))
+        (subst (λ (rows : List Row). Covering rows t) (sym (rows-none rowOf j)) (no-links t et)))
 
     fit : n ≤ length rules
     fit = rules-fit bs before rules n en

@@ -32,7 +32,7 @@ use Rattle.search_order.specs.CandidateLaws.{left-first, left-next}
 use Rattle.search_order.specs.Lists.{Listed}
 use Rattle.search_order.specs.Places.{FirstPlace, NextPlace}
 use Rattle.search_order.specs.PlacesLeft.{PassFrom}
-use Rattle.search_order.specs.PlacesLeftLaws.{pass-next, pass-first}
+use Rattle.search_order.specs.PlacesLeftLaws.{places-next, places-first}
 use Rattle.search_links.specs.Covers.{Covering}
 use Rattle.search_links.specs.RowLaws.{rows-length}
 use Rattle.search_laws.specs.Meanings.{firstRows, progressOf, countsIn, withJoin}
@@ -153,7 +153,7 @@ pass-start {b} {P} {first} {j₁} {t} {p} l r k o =
     record {
       rows = A;
       listed = l;
-      places = pass-first A (omega (arith, rows-length rowOf (first .used) j₁ (r .room), r .room, r .limit)) l o;
+      places = places-first A (omega (arith, rows-length rowOf (first .used) j₁ (r .room), r .room, r .limit)) l o;
       kept = (le-refl (length A), λ i m. refl);
       candidates = candidatesIn P A;
       stands = left-first (composingIn P) (rowOf blank) A (P .rules) (listsIn t) l p o;
@@ -234,7 +234,7 @@ module _ {b : Terms} {P : Problem} {first : Counts} {j₁ : Journal} {t : List �
           record {
             rows = g .rows;
             listed = subst (Listed (g .rows)) (sym u) (g .listed);
-            places = subst (λ (lists : List ℕ). PassFrom lists (P .rules) q) (sym u) (pass-next h (subst (λ (lists : List ℕ). NextPlace lists (P .rules) p q) u f) (g .places) .0);
+            places = subst (λ (lists : List ℕ). PassFrom lists (P .rules) q) (sym u) (places-next h (subst (λ (lists : List ℕ). NextPlace lists (P .rules) p q) u f) (g .places) .0);
             kept = consider-goes b (length j) (λ y. Kept (g .rows) (y .rows)) c (progressOf w j) (progressOf w′ j′) (x .answer) (g .kept) (kept-added (b .pass) c (g .rows) (firstRows (w .used) j) (g .kept));
             candidates = next .1;
             stands = subst (λ (lists : List ℕ). LeftFrom (composingIn P) (rowOf blank) (g .rows) (P .rules) lists q (next .1)) (sym u) (next .2 .1 q (subst (λ (lists : List ℕ). NextPlace lists (P .rules) p q) u f));

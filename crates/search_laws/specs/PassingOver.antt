@@ -16,7 +16,7 @@ use Rattle.search_order.specs.Lists.{afterIn}
 use Rattle.search_order.specs.PlaceLaws.{follows-right}
 use Rattle.search_order.specs.Places.{NextPlace}
 use Rattle.search_order.specs.PlacesLeft.{placesLeft, PassFrom}
-use Rattle.search_order.specs.PlacesLeftLaws.{pass-next}
+use Rattle.search_order.specs.PlacesLeftLaws.{places-next}
 use Rattle.search_state.specs.Layout.{rowCells, listsIn}
 use Rattle.search_state.specs.Budgets.{isSpent}
 use Rattle.search_state.specs.declared.Terms.{Terms}
@@ -45,7 +45,7 @@ module _ (b : Terms) (n : ℕ) (x : Reached) (e : passesAt b n x ≡ true) where
   rest-passes : (not (isSpent (b .budget) (x .counts .joins)) && repeatsAt (b .«rows_at_previous_start») (x .place)) ≡ true
   rest-passes = and-snd (ltb (x .place .rule) n) (not (isSpent (b .budget) (x .counts .joins)) && repeatsAt (b .«rows_at_previous_start») (x .place)) e
 
-  passes-here : x .place .rule < n
+  pub passes-here : x .place .rule < n
   passes-here = ltb-true (x .place .rule) n (and-fst (ltb (x .place .rule) n) (not (isSpent (b .budget) (x .counts .joins)) && repeatsAt (b .«rows_at_previous_start») (x .place)) e)
 
   pub passes-paid : x .counts .joins < b .budget
@@ -71,7 +71,7 @@ module _ (t : List ℕ) (b : Terms) (x : Reached) where
         rule = refl;
         along = λ rules h w.
             let a = v .along rules h w in
-            let z = pass-next h (next rules) (a .0) in
+            let z = places-next h (next rules) (a .0) in
             (z .0, omega (arith, z .1, a .1));
         done = λ P first j₁ j h e d q f. pass-over (v .done P first j₁ j h e d (withRight x n m .place) (next (P .rules))) h hn (again e) f;
       }
@@ -113,5 +113,5 @@ module _ (rules : RuleBytes) (t : List ℕ) (b : Terms) where
     pub left-less : PassFrom (listsIn t) rules (x .place) → Later rules t (x .place) q
     left-less w =
         let a = v .along rules here w in
-        let z = pass-next (omega (arith, v .rule, here)) f (a .0) in
+        let z = places-next (omega (arith, v .rule, here)) f (a .0) in
         (z .0, omega (arith, z .1, a .1))

@@ -15,7 +15,7 @@ use Rattle.search_state.specs.Layout.{rowCells, listsIn}
 use Rattle.search_order.specs.Lists.{Listed}
 use Rattle.search_order.specs.Places as places
 use Rattle.search_order.specs.PlacesLeft.{PassFrom}
-use Rattle.search_order.specs.PlacesLeftLaws.{pass-first}
+use Rattle.search_order.specs.PlacesLeftLaws.{places-first}
 use Rattle.search_links.specs.Covers.{Covering}
 use Rattle.search_links.specs.Listing.{Gathered, gathered-listed, gathered-covering}
 use Rattle.spec_calls.specs.Rows.{rowOf, Journal}
@@ -46,7 +46,7 @@ use Rattle.search_laws.specs.declared.Unbroken.the-variants as unbroken
 pub opens-place : {u : ℕ} {t t′ : List ℕ} {rules : RuleBytes} {p : Place} → LinksAlong u t → u ≤ rowCells → Gathered u t t′ → places.FirstPlace (listsIn t′) rules 0 p → PassFrom (listsIn t′) rules p
 opens-place {u} {t} {t′} l h g o =
     let few : length (l .rows) ≤ rowCells = omega (arith, l .size, h) in
-    pass-first (l .rows) few (gathered-listed (l .rows) few t t′ (l .covering) (subst (λ (n : ℕ). Gathered n t t′) (sym (l .size)) g)) o
+    places-first (l .rows) few (gathered-listed (l .rows) few t t′ (l .covering) (subst (λ (n : ℕ). Gathered n t t′) (sym (l .size)) g)) o
 
 module _ (P : Problem) (B : ℕ) (j₀ : Journal) (s : State) (rows : s .rows ≡ length j₀) (count : s .rules ≡ length (P .rules)) where
   -- the terms of pass k, which began at w, after one that began with n rows

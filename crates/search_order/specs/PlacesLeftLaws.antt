@@ -3,8 +3,8 @@ use mathlib.Core.Path.{_≡_, refl, sym, ap, _∙_, subst}
 use mathlib.Core.Bool.{Bool, true, false, cond}
 use mathlib.Core.Logic.{_⊎_, inl, inr}
 use mathlib.Core.List.{List, [], _∷_, _++_, map}
-use Prim.Native.Nat.{ℕ, zero, suc, _+_, _-_, _*_, _≤_, _<_, zero-le, suc-le-suc}
-use native.Mathlib.Nat.{le-refl, le-trans, le-of-eq, mul-le-mul, suc-mul}
+use Prim.Native.Nat.{ℕ, zero, suc, _+_, _-_, _*_, _^_, _≤_, _<_, zero-le, suc-le-suc}
+use native.Mathlib.Nat.{le-refl, le-trans, le-of-eq, le-suc, mul-le-mul, suc-mul}
 use native.Mathlib.Omega.{arith}
 use lib.Dec.{eqb}
 use lib.ListN.{length, drop, length-map, length-append}
@@ -20,7 +20,7 @@ use Rattle.search_state.specs.Positions.{firstAt}
 use Rattle.search_state.specs.declared.Place.{Place}
 use Rattle.search_order.specs.Lists.{afterIn, Chain, liveNumbers, Listed}
 use Rattle.search_order.specs.Places.{withRights, positions, bodyPlaces, rulePlaces, allRights, leftPlaces, onward, Ahead, PlacesFrom, FirstPlace, NextPlace}
-use Rattle.search_order.specs.PlacesLeft.{placeLimit, positionsFrom, placesLeft, PassFrom}
+use Rattle.search_order.specs.PlacesLeft.{placeLimit, positionsFrom, listLimit, ListEnds, positionsLeft, placesLeft, PassFrom}
 
 -- ---- counting positions
 
@@ -41,6 +41,16 @@ count-chain (suc f) lists i [] h l = ap (λ (b : Bool). cond b 0 (suc (positions
 count-chain (suc f) lists i (k ∷ ks) h l =
     ap (λ (b : Bool). cond b 0 (suc (positionsFrom f lists (afterIn lists i)))) (ne-eqb i end (h .0))
     ∙ ap suc (count-chain f lists (afterIn lists i) ks (h .2) (let z : suc (length ks) ≤ suc f = l in omega arith))
+
+pub ends-next : {lists : List ℕ} {i : ℕ} → ListEnds lists i → (i ≡ end → ⊥) → ListEnds lists (afterIn lists i) × (positionsLeft lists (afterIn lists i) < positionsLeft lists i)
+ends-next {lists} {i} e n = by (e .positions) (e .chain) (e .few)
+  where
+    by : (ks : List ℕ) → Chain lists i ks → length ks ≤ listLimit → ListEnds lists (afterIn lists i) × (positionsLeft lists (afterIn lists i) < positionsLeft lists i)
+    by [] c l = absurd (n c)
+    by (k ∷ ks) c l =
+        let few : length ks ≤ listLimit = le-trans (le-suc (length ks)) l in
+        let after = count-chain listLimit lists (afterIn lists i) ks (c .2) few in
+        (record { positions = ks; chain = c .2; few = few }, le-of-eq (ap suc after ∙ sym (count-chain listLimit lists i (k ∷ ks) c l)))
 
 -- a number of which the digits to base K are a and c is below one whose first digit is larger
 digits-less : (K a b c d : ℕ) → a < b → c < K → a * K + c < b * K + d
@@ -121,8 +131,8 @@ module _ (live : ℕ → List ℕ) (lists : List ℕ) (rules : List (List ℕ)) 
           subst (λ (x : Place). placesLeft lists rules x < placesLeft lists rules p) (sym first) (later-left l k ls d (omega (arith, size, few, lefts-few (p .rule) (k ∷ ks) (l ∷ ls) n)))
       by [] [] all c d n e = later-rule q′ (next-rule live (suc (p .rule)) (drop (suc (p .rule)) (map entryOf rules)) q′ qs e)
 
-pub pass-next : {lists : List ℕ} {rules : List (List ℕ)} {p q : Place} → p .rule < length rules → NextPlace lists rules p q → PassFrom lists rules p → PassFrom lists rules q × (placesLeft lists rules q < placesLeft lists rules p)
-pass-next {lists} {rules} {p} {q} h n w = by (w .places) (w .stands) (w .few)
+pub places-next : {lists : List ℕ} {rules : List (List ℕ)} {p q : Place} → p .rule < length rules → NextPlace lists rules p q → PassFrom lists rules p → PassFrom lists rules q × (placesLeft lists rules q < placesLeft lists rules p)
+places-next {lists} {rules} {p} {q} h n w = by (w .places) (w .stands) (w .few)
   where
     by : (ps : List Place) → PlacesFrom (w .live) lists rules p ps → length ps ≤ placeLimit (length rules) → PassFrom lists rules q × (placesLeft lists rules q < placesLeft lists rules p)
     by [] s few = absurd (s h)
@@ -130,6 +140,19 @@ pass-next {lists} {rules} {p} {q} h n w = by (w .places) (w .stands) (w .few)
         let z = n (w .live) (w .listed) ps (h, refl, s .2) in
         let less : length ps ≤ placeLimit (length rules) = omega (arith, few) in
         (record { live = w .live; listed = w .listed; places = ps; stands = z; few = less }, next-less (w .live) lists rules p h q ps (s .2) z less)
+
+-- the rights after that of a place come to an end
+pub rights-end : {lists : List ℕ} {rules : List (List ℕ)} {p : Place} → length rules ≤ 2 ^ 64 → p .rule < length rules → PassFrom lists rules p → ListEnds lists (afterIn lists (p .right))
+rights-end {lists} {rules} {p} m h w = by (w .places) (w .stands) (w .few)
+  where
+    by : (ps : List Place) → PlacesFrom (w .live) lists rules p ps → length ps ≤ placeLimit (length rules) → ListEnds lists (afterIn lists (p .right))
+    by [] s few = absurd (s h)
+    by (p′ ∷ ps) s few =
+        let a = s .2 in
+        let others = concatMap (leftPlaces (w .live) rules (p .rule)) (a .lefts) ++ onward (w .live) rules (suc (p .rule)) in
+        let size = ap length (a .rest) ∙ length-append (withRights (p .rule) (a .rights) (p .left)) others in
+        let short : length (a .rights) ≤ placeLimit (length rules) = omega (arith, size, few, length-map (a .rights) (firstAt (p .rule) (p .left))) in
+        record { positions = a .rights; chain = a .inner; few = le-trans short (mul-le-mul m (le-refl (rowCells * rowCells))) }
 
 -- ---- the first place
 
@@ -156,8 +179,8 @@ module _ (live : ℕ → List ℕ) (short : (x : ℕ) → length (live x) ≤ ro
       le-trans (length-concatMap (withRights r ks) rowCells (λ i. le-trans (le-of-eq (length-map ks (firstAt r i))) (length-positions (rightPart (x .body)))) is) (mul-le-mul (length-positions (leftPart (x .body))) (le-refl rowCells)) in
       omega (arith, length-append (bodyPlaces live r (x .body)) (rulePlaces live (suc r) rules), here, length-places (suc r) rules, suc-mul (length rules) (rowCells * rowCells))
 
-pub pass-first : {E : Type 0} (A : List (Row E)) {lists : List ℕ} {rules : List (List ℕ)} {p : Place} → length A ≤ rowCells → Listed A lists → FirstPlace lists rules 0 p → PassFrom lists rules p
-pass-first A {lists} {rules} l d o =
+pub places-first : {E : Type 0} (A : List (Row E)) {lists : List ℕ} {rules : List (List ℕ)} {p : Place} → length A ≤ rowCells → Listed A lists → FirstPlace lists rules 0 p → PassFrom lists rules p
+places-first A {lists} {rules} l d o =
     record {
       live = liveNumbers 0 A;
       listed = d;

@@ -14,6 +14,7 @@ ghost use lib.ListN.{length, take};
 ghost use Rattle.search_state.specs.Layout.{rowCells, tableCells, listsIn, end};
 ghost use Rattle.search_order.specs.Lists.{afterIn};
 ghost use Rattle.search_order.specs.Places as places;
+ghost use Rattle.search_order.specs.PlacesLeft.{ListEnds};
 ghost use Rattle.search_laws.specs.Walks.{isBefore, repeatsAt};
 ghost use Rattle.search_laws.specs.Running.{passesAt, Later, MayPass, PassesRights, PassesOver};
 
@@ -82,7 +83,7 @@ fn may_pass(terms: Terms, n: usize, at: Reached) -> bool
 
 // From a place whose candidate is done over the rights after it that are rows of the pass before; its left is one.
 fn pass_rights(table: &[u32], terms: Terms, done: Reached) -> Reached
-    requires { ⌜ (length (now table) ≡ tableCells) × (terms .«rows_at_previous_start» ≤ rowCells) ⌝ }
+    requires { ⌜ (length (now table) ≡ tableCells) × (terms .«rows_at_previous_start» ≤ rowCells) × ListEnds (listsIn (now table)) (afterIn (listsIn (now table)) (done .place .right)) ⌝ }
     ensures { λ r. ⌜ PassesRights (now (table .entry)) terms done r ⌝ }
 {
     let counts = done.counts;

@@ -6,7 +6,8 @@ use native.Mathlib.Omega.{arith}
 use lib.ListN.{take}
 use lib.Seq.{length-take-le}
 use borrow.Author.Needs.{needs}
-use Rattle.search_laws.specs.PassingOver.{passes-paid, over-left, left-less}
+use Rattle.search_order.specs.PlacesLeftLaws.{rights-end}
+use Rattle.search_laws.specs.PassingOver.{passes-here, passes-paid, over-left, left-less}
 use Rattle.search_laws.specs.Running.{passesAt}
 use Rattle.search_skip.proofs.pass_left.Statement.{statement}
 use Rattle.search_skip.proofs.pass_left.Tie as tie
@@ -15,6 +16,14 @@ add-joins : tie.Need-add-t13
 add-joins c =
     let s = c .before .before .before .before in
     omega (arith, passes-paid (s .args .terms) (s .args .n) (s .args .at) (s .pre .1), c .struct-known)
+
+rights-requires : tie.Need-pass-rights-requires
+rights-requires c κs =
+    let s = c .before .before .before .before in
+    let a = s .args in
+    let m = s .pre .0 in
+    let size = length-take-le (a .n) (a .rules .now) (m .count) in
+    (m .table, m .old, rights-end (omega (arith, size, c)) (omega (arith, size, passes-here (a .terms) (a .n) (a .at) (s .pre .1))) (m .places))
 
 returns : tie.Need-returns
 returns c =
@@ -28,4 +37,4 @@ returns c =
     )
 
 pub pass-left-spec : {M : Type 1} → statement M
-pass-left-spec = tie.close (tie.spec add-joins (λ c κs. search needs) (λ c κs. search needs) returns)
+pass-left-spec = tie.close (tie.spec add-joins rights-requires (λ c κs. search needs) returns)

@@ -150,6 +150,7 @@ pub record Remembers (old new : List ℕ) : Type 0 where
   pub lists : listsIn new ≡ listsIn old
   pub covering : (rows : List order.Row) → length rows ≤ rowCells → Covering rows old → Covering rows new
 
+-- a slot of the hints is there, and what is stored in it is a row
 pub record MayRemember (s : State) (l : CoverCursor) (t : List ℕ) : Type 0 where
   pub used : s .counts .used ≤ rowCells
   pub table : length t ≡ tableCells
@@ -189,6 +190,7 @@ pub record MayGoOn (rules : RuleBytes) (s : State) (w : Counts) (t : List ℕ) :
   pub opens : MayOpen rules (s .rules) (nextPass (s .terms) (w .used)) w t
   pub pass : s .terms .pass ≤ 65535
 
+-- what follows a candidate may be done: hints are stored, the candidate is counted, the pass goes on from the place of s, or the next one begins
 pub record MayAdvance (rules : RuleBytes) (s : State) (f : Fate) (l : CoverCursor) (t : List ℕ) : Type 0 where
   pub full : f .full ≡ fullIn s
   pub remember : MayRemember s l t
@@ -254,7 +256,7 @@ abbrev pub OpensPass : RuleBytes → List ℕ → ℕ → Terms → Counts → L
 OpensPass rules t n b w t′ x =
     (P : Problem) (B : ℕ) (j₀ j : Journal) (k m : ℕ) (s : State) → let Q = withRules P (take n rules) in s .rules ≡ n → InLimits Q B j₀ → s .rows ≡ length j₀
     → AtPass Q B (target Q B j₀) j₀ w j k → b ≡ termsOf P B k (w .used) m
-    → m ≤ rowCells → Known m (candidatesIn Q (firstRows (w .used) j)) (firstRows (w .used) j) → Covering (firstRows (w .used) j) t → Onward Q B j₀ w (opening s b x) j t′
+    → Known m (candidatesIn Q (firstRows (w .used) j)) (firstRows (w .used) j) → Covering (firstRows (w .used) j) t → Onward Q B j₀ w (opening s b x) j t′
 
 -- closing the pass of s, which is over with the counts w: the invariant holds of r, in the next pass or at the end
 abbrev pub Closes : RuleBytes → List ℕ → State → Counts → List ℕ → State → Type 0

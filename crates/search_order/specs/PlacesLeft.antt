@@ -35,8 +35,8 @@ positionsLeft lists i = positionsFrom listLimit lists i
 
 -- ---- of a pass
 
--- the rules from that of p on, then the left positions after its left, then the right positions after its right: one more of the former counts for
--- more than all of the latter
+-- the rules from that of p on, then the left positions after its left, then the right positions after its right: one of the former counts
+-- for more than all of the latter
 abbrev pub placesLeft : List ℕ → List (List ℕ) → Place → ℕ
 placesLeft lists rules p =
     let f = placeLimit (length rules) in

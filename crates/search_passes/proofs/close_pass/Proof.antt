@@ -2,7 +2,6 @@
 use mathlib.Core.Path.{_≡_, refl, sym, ap, _∙_, subst}
 use Prim.Native.Nat.{_+_, _≤_}
 use native.Mathlib.Nat.{le-refl}
-use native.Mathlib.Omega.{arith}
 use lib.ListN.{length, take}
 use lib.Seq.{length-take-le}
 use borrow.Author.Needs.{needs}
@@ -49,7 +48,7 @@ returns-2 c P B j₀ first j₁ j z rows y h x g =
     (onward-from Q B j₀ st rows n (le-refl (w .joins))
     (c .before .before .before .open-pass .ensures P B j₀ j (y .pass + 1) (first .used) st refl z rows (close-again Q B j₀ st rows n (y .at-pass) (y .before) h gave more)
     (c .before .before .before .before .before .next-pass .ensures ∙ ap (λ (b : Terms). nextPass b (w .used)) (y .terms))
-    (omega (arith, y .at-pass .room, z .limit)) (close-known Q B j₀ st rows n (y .at-pass) (y .before) h gave more (z .limit)) g))
+    (close-known Q B j₀ st rows n (y .at-pass) (y .before) h gave more (z .limit)) g))
 
 pub close-pass-spec : {M : Type 1} → statement M
 close-pass-spec = tie.close (tie.spec (λ c κs. search needs) returns (λ c κs. search needs) asked (λ c κs. search needs) (λ c. search needs) returns-2)

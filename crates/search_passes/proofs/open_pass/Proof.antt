@@ -1,5 +1,6 @@
 -- `search_passes::open_pass` meets its contract: at the first place that needs work, or past the last rule where there is none. Assumes nothing.
 use mathlib.Core.Path.{sym, _∙_, subst}
+use Prim.Native.Nat.{_≤_}
 use lib.ListN.{take}
 use lib.Seq.{length-take-le}
 use borrow.Author.Needs.{needs}
@@ -7,6 +8,7 @@ use Rattle.search_laws.specs.Running.{Onward, PassesOver}
 use Rattle.search_laws.specs.States.{opening}
 use Rattle.search_laws.specs.Problems.{withRules}
 use Rattle.search_laws.specs.RunningLaws.{opens-place, open-reached}
+use Rattle.search_state.specs.Layout.{rowCells}
 use Rattle.search_state.specs.declared.Terms.{Terms}
 use Rattle.search_passes.proofs.open_pass.Statement.{statement}
 use Rattle.search_passes.proofs.open_pass.Tie as tie
@@ -18,7 +20,7 @@ asked c κs =
     record { table = gathered .ensures .size ∙ s .pre .table; count = s .pre .count; old = s .pre .old; places = opens-place (s .pre .links) (s .pre .used) (gathered .ensures) (c .before .first-in .ensures) }
 
 returns : tie.Need-returns
-returns c P B j₀ j k m st count z rows a e fits known g =
+returns c P B j₀ j k m st count z rows a e known g =
     let o = c .pass-over in
     let p = c .before .before .first-in in
     let gathered = c .before .before .before .before .before .before .gather in
@@ -26,7 +28,7 @@ returns c P B j₀ j k m st count z rows a e fits known g =
     let rs = take (s .args .n) (s .args .rules .now) in
     let Q = withRules P rs in
     subst (λ (b : Terms). Onward Q B j₀ (s .args .counts) (opening st b (o .result)) j (gathered .last .0)) (sym e)
-    (open-reached Q B j₀ st rows (count ∙ sym (length-take-le (s .args .n) (s .args .rules .now) (s .pre .count))) z a m fits known g (gathered .ensures) (p .result) (p .ensures)
+    (open-reached Q B j₀ st rows (count ∙ sym (length-take-le (s .args .n) (s .args .rules .now) (s .pre .count))) z a m (subst (λ (b : Terms). b .«rows_at_previous_start» ≤ rowCells) e (s .pre .old)) known g (gathered .ensures) (p .result) (p .ensures)
     (subst (λ (b : Terms). PassesOver rs (gathered .last .0) b (record { counts = s .args .counts; place = p .result }) (o .result)) e (o .ensures)))
 
 pub open-pass-spec : {M : Type 1} → statement M

@@ -29,7 +29,8 @@ use Rattle.search_state.specs.declared.State.{State}
 use Rattle.search_state.specs.declared.Terms.{Terms}
 use Rattle.search_laws.specs.Passes.{pass-first}
 use Rattle.search_laws.specs.Problems.{Letters, RuleBytes, Problem, problemIn}
-use Rattle.search_laws.specs.Running.{SearchAt, Running, MayOpen, OpensPass, Onward}
+use Rattle.search_laws.specs.Steps.{MayOpen}
+use Rattle.search_laws.specs.Running.{SearchAt, Running, OpensPass, Onward}
 use Rattle.search_laws.specs.States.{opening}
 use Rattle.search_laws.specs.declared.Reached.{Reached}
 use Rattle.file_tables.specs.Tables.{letterTable, RuleTable}

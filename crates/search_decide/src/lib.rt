@@ -9,7 +9,7 @@ use search_state::LASTS;
 use search_state::State;
 ghost use mathlib.Core.Path.{_≡_};
 ghost use Rattle.search_laws.specs.Meanings.{bornBy, decidedIn};
-ghost use Rattle.search_laws.specs.Running.{MayRemember, Remembers, MayDecide};
+ghost use Rattle.search_laws.specs.Steps.{MayRemember, Remembers, MayDecide};
 
 // Updates the hints: a covering row found through the links becomes the last-cover hint of its nonterminal and the hint of its relation; a
 // new row becomes the hint of its relation.

@@ -23,6 +23,7 @@ use Rattle.search_rows.specs.declared.Candidate.{Candidate}
 use Rattle.search_state.specs.Layout.{rowCells, tableCells}
 use Rattle.search_order.specs.PlacesLeft.{PassFrom}
 use Rattle.search_links.specs.Covers.{Covering}
+use Rattle.search_links.specs.CoverLaws.{covering-links}
 use Rattle.search_links.specs.RowLaws.{rows-length, among-row}
 use Rattle.search_retire.specs.Clearing.{ClearingEnd as Ending}
 use Rattle.search_cover.specs.SeekLaws.{seek-finds}
@@ -39,7 +40,8 @@ use Rattle.search_laws.specs.Contracts.{Answers, Checked}
 use Rattle.search_laws.specs.Deciding.{answers-dropped, answers-full, answers-new}
 use Rattle.search_laws.specs.Meanings.{firstRows, progressOf, countsIn, withJoin, withRow, bornBy, fullBy, decidedBy, decidedIn, totalsOf, answerTo, codeOf, answerAt, answerIn}
 use Rattle.search_laws.specs.Problems.{Letters, RuleBytes, Problem, composingIn, breakingIn, termsOf}
-use Rattle.search_laws.specs.Running.{problemAt, target, Goes, SearchAt, Running, fateFor, Considered, MayAdvance, Remembers, GoesOn, GoesOnOver, Onward, candidatesLeft}
+use Rattle.search_laws.specs.Steps.{MayAdvance, Remembers}
+use Rattle.search_laws.specs.Running.{problemAt, target, Goes, SearchAt, Running, fateFor, Considered, GoesOn, GoesOnOver, Onward, candidatesLeft}
 use Rattle.search_laws.specs.RunLaws.{started, stands-on, goes-on, sized, used-fits, limit}
 use Rattle.search_laws.specs.RunningLaws.{stops}
 use Rattle.search_laws.specs.States.{stoppedIn}
@@ -269,7 +271,7 @@ module _ {letters : Letters} {rules : RuleBytes} {start : State} {j₀ : Journal
   going-running tn nt {w} e {t′} {r} g =
       let a = decided-right in
       let n : countsIn became .used ≤ rowCells = omega (arith, a .0 .room, limit (x .running) (x .going)) in
-      let cov : Covering (firstRows (countsIn became .used) j) tn = nt .covering (firstRows (countsIn became .used) j) (omega (arith, n, rows-length rowOf (countsIn became .used) j (omega (arith, a .0 .room, x .inserted .size)))) (a .1) in
+      let cov : Covering (firstRows (countsIn became .used) j) tn = covering-links (firstRows (countsIn became .used) j) t tn (omega (arith, n, rows-length rowOf (countsIn became .used) j (omega (arith, a .0 .room, x .inserted .size)))) (nt .size) (nt .links) (a .1) in
       let on : Onward P (start .terms .budget) j₀ w r j t′ =
       subst (λ (k : ℕ). GoesOnOver (take k rules) tn s w t′ r) rules-same g P (start .terms .budget) j₀ (go .first) (go .journal) j (sized (x .running) (x .going)) (stands-on (x .running) (x .going) .rows) (go .here) (go .begun)
       (λ q f. pass-going (go .in-pass) (go .here) formed-there (x .inserted .size) (a .0) (sym e) (nt .lists ∙ x .inserted .lists) cov f)

@@ -3,6 +3,8 @@ pub mod ProblemLaws
 pub mod Meanings
 pub mod States
 pub mod Walks
+pub mod Steps
+pub mod StepLaws
 pub mod Contracts
 pub mod Deciding
 pub mod Remaining
@@ -11,8 +13,7 @@ pub mod Closing
 pub mod Passes
 pub mod OnAutomaton
 pub mod Running
+pub mod PassingOver
 pub mod RunningLaws
 pub mod RunLaws
 pub mod Advancing
-pub mod HintLaws
-pub mod PassingOver

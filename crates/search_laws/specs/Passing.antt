@@ -38,7 +38,8 @@ use Rattle.search_links.specs.RowLaws.{rows-length}
 use Rattle.search_laws.specs.Meanings.{firstRows, progressOf, countsIn, withJoin}
 use Rattle.search_laws.specs.Problems.{RuleBytes, Problem, algebraOf, composingIn, rulesIn, problemIn}
 use Rattle.search_laws.specs.ProblemLaws.{problem-laws}
-use Rattle.search_laws.specs.Walks.{considerIn, walkIn, candidatesIn, candidateIn, passIn, isBefore, repeatsAt, Known}
+use Rattle.search_laws.specs.Steps.{isBefore, repeatsAt}
+use Rattle.search_laws.specs.Walks.{considerIn, walkIn, candidatesIn, candidateIn, passIn, Known}
 use Rattle.search_laws.specs.Contracts.{PassReady, Answers}
 use Rattle.search_laws.specs.Deciding.{answers-dropped}
 use Rattle.search_laws.specs.Remaining.{Remaining, EndsFrom, remaining-start, remaining-going, remaining-stopped, remaining-none}

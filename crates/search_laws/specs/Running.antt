@@ -1,10 +1,10 @@
 -- The invariant of the search between candidates, and what each step keeps of it, for every journal. The letters are those at the head of
 -- src/lib.rt. Definitions only. Assumes nothing.
 use mathlib.Core.Path.{_≡_}
-use mathlib.Core.Bool.{Bool, true, not, _&&_, cond}
+use mathlib.Core.Bool.{Bool, not, cond}
 use mathlib.Core.List.{List}
 use Prim.Native.Nat.{ℕ, suc, _-_, _≤_, _<_}
-use lib.Dec.{T, ltb}
+use lib.Dec.{T}
 use lib.ListN.{length, getD, take}
 use Rattle.spec_file.specs.Limits.{letterWords}
 use Rattle.relation.specs.Relation.{contained}
@@ -14,28 +14,25 @@ use Rattle.search_rows.specs.Forming.{formedIn}
 use Rattle.search_rows.specs.Meanings.{candidateOf}
 use Rattle.search_rows.specs.declared.Candidate.{Candidate}
 use Rattle.search_state.specs.declared.Place.{Place}
-use Rattle.search_state.specs.Layout.{rowCells, heads, headCell, listsFrom, tableCells, listsIn}
+use Rattle.search_state.specs.Layout.{rowCells, listsIn}
 use Rattle.search_order.specs.Places as places
-use Rattle.search_order.specs.PlacesLeft.{placesLeft, PassFrom}
 use Rattle.search_links.specs.Covers.{Covering}
 use Rattle.search_cover.specs.Seeking.{Leads, Finds, Seeking}
 use Rattle.search_cover.specs.declared.CoverCursor.{CoverCursor}
 use Rattle.search_retire.specs.Clearing.{Inserted}
-use Rattle.search_state.specs.Budgets.{isSpent}
-use Rattle.search_state.specs.Fates.{fullIn, fateIn}
-use Rattle.search_state.specs.NextPass.{nextPass}
+use Rattle.search_state.specs.Fates.{fateIn}
 use Rattle.search_state.specs.Positions.{positionRow}
 use Rattle.search_state.specs.declared.Counts.{Counts}
 use Rattle.search_state.specs.declared.Fate.{Fate}
 use Rattle.search_state.specs.declared.State.{State}
 use Rattle.search_state.specs.declared.Terms.{Terms}
 use Rattle.search_laws.specs.Contracts.{Answers, Checked, orderOf}
-use Rattle.search_laws.specs.Meanings.{firstRows, countsIn, decidedIn, answerIn}
+use Rattle.search_laws.specs.Meanings.{firstRows, answerIn}
 use Rattle.search_laws.specs.Passes.{AtPass}
 use Rattle.search_laws.specs.Passing.{InPass}
 use Rattle.search_laws.specs.Problems.{Letters, RuleBytes, Problem, withRules, problemIn, termsOf, breakingIn}
 use Rattle.search_laws.specs.States.{opening}
-use Rattle.search_laws.specs.Walks.{candidatesIn, passIn, repeatsAt, Known}
+use Rattle.search_laws.specs.Walks.{candidatesIn, passIn, Known}
 use Rattle.search_laws.specs.declared.Outcome.the-variants.{Going}
 use Rattle.search_laws.specs.declared.Reached.{Reached}
 
@@ -144,106 +141,15 @@ candidatesLeft s = cond (s .going) (suc (s .terms .budget - s .counts .joins)) 0
 
 -- ---- steps
 
--- storing hints leaves the lists as they were, and the links lead as they did
-pub record Remembers (old new : List ℕ) : Type 0 where
-  pub size : length new ≡ length old
-  pub lists : listsIn new ≡ listsIn old
-  pub covering : (rows : List order.Row) → length rows ≤ rowCells → Covering rows old → Covering rows new
-
--- a slot of the hints is there, and what is stored in it is a row
-pub record MayRemember (s : State) (l : CoverCursor) (t : List ℕ) : Type 0 where
-  pub used : s .counts .used ≤ rowCells
-  pub table : length t ≡ tableCells
-  pub above : headCell heads ≤ l .slot
-  pub below : l .slot < listsFrom
-  pub row : l .covers ≡ true → l .row < s .counts .used
-
--- one join and one row more can be counted
-pub record MayDecide (s : State) : Type 0 where
-  pub used : s .counts .used ≤ rowCells
-  pub joins : s .counts .joins < s .terms .budget
-  pub added : s .counts .added ≤ s .counts .used
-
--- the links of the table lead along some u rows
-pub record LinksAlong (u : ℕ) (t : List ℕ) : Type 0 where
-  pub rows : List order.Row
-  pub size : length rows ≡ u
-  pub covering : Covering rows t
-
--- passing over may begin at the place p, which is one of the pass over the first n rules, under the terms b
-pub record MayPass (rules : RuleBytes) (n : ℕ) (b : Terms) (t : List ℕ) (p : Place) : Type 0 where
-  pub table : length t ≡ tableCells
-  pub count : n ≤ length rules
-  pub old : b .«rows_at_previous_start» ≤ rowCells
-  pub places : PassFrom (listsIn t) (take n rules) p
-
--- a pass over the first n rules may begin, under the terms b
-pub record MayOpen (rules : RuleBytes) (n : ℕ) (b : Terms) (w : Counts) (t : List ℕ) : Type 0 where
-  pub table : length t ≡ tableCells
-  pub count : n ≤ length rules
-  pub old : b .«rows_at_previous_start» ≤ rowCells
-  pub used : w .used ≤ rowCells
-  pub links : LinksAlong (w .used) t
-
--- the pass after that of s may begin
-pub record MayGoOn (rules : RuleBytes) (s : State) (w : Counts) (t : List ℕ) : Type 0 where
-  pub opens : MayOpen rules (s .rules) (nextPass (s .terms) (w .used)) w t
-  pub pass : s .terms .pass ≤ 65535
-
--- what follows a candidate may be done: hints are stored, the candidate is counted, the pass goes on from the place of s, or the next one begins
-pub record MayAdvance (rules : RuleBytes) (s : State) (f : Fate) (l : CoverCursor) (t : List ℕ) : Type 0 where
-  pub full : f .full ≡ fullIn s
-  pub remember : MayRemember s l t
-  pub decide : MayDecide s
-  pub here : s .place .rule < s .rules
-  pub passes : MayPass rules (s .rules) (s .terms) t (s .place)
-  pub links : LinksAlong (countsIn (decidedIn s f) .used) t
-  pub start : s .terms .«rows_at_pass_start» ≤ rowCells
-  pub pass : s .terms .pass ≤ 65535
-  pub room : s .counts .used ≤ s .rows
-  pub limit : s .rows ≤ rowCells
-
 -- what every step between candidates keeps: the invariant `SearchAt`, at least the joins of `w`, the same budget
 pub record Onward (P : Problem) (B : ℕ) (j₀ : Journal) (w : Counts) (r : State) (j : Journal) (t : List ℕ) : Type 0 where
   pub stands : SearchAt P B j₀ r j t
   pub joins : w .joins ≤ r .counts .joins
   pub budget : r .terms .budget ≡ B
 
--- ---- over what the pass before formed
-
 -- the candidate of x is done, with its counts: the invariant of the pass holds at the place after it
 abbrev pub DoneAt : Terms → Problem → Counts → Journal → List ℕ → Journal → Reached → Type 0
 DoneAt b P first j₁ t j x = (q : Place) → places.NextPlace (listsIn t) (P .rules) (x .place) q → InPass b P first j₁ t (x .counts) j q
-
--- the candidate of x may be passed over: its rule is one of the n, the budget leaves a join, and the pass before formed it
-abbrev pub passesAt : Terms → ℕ → Reached → Bool
-passesAt b n x = ltb (x .place .rule) n && (not (isSpent (b .budget) (x .counts .joins)) && repeatsAt (b .«rows_at_previous_start») (x .place))
-
--- from x to r only joins were counted
-pub record JoinsAlone (x r : Reached) : Type 0 where
-  pub joins : x .counts .joins ≤ r .counts .joins
-  pub used : r .counts .used ≡ x .counts .used
-  pub added : r .counts .added ≡ x .counts .added
-
--- q is a place of the pass after p: less of the pass is left
-abbrev pub Later : RuleBytes → List ℕ → Place → Place → Type 0
-Later rules t p q = PassFrom (listsIn t) rules q × (placesLeft (listsIn t) rules q < placesLeft (listsIn t) rules p)
-
--- if the candidate of x has been handled, then so have all up to that of r, which has the same rule and left row; if x is a place of the pass,
--- so is r, and no more of the pass is left from there
-pub record PassesRights (t : List ℕ) (b : Terms) (x r : Reached) : Type 0 where
-  pub counted : JoinsAlone x r
-  pub rule : r .place .rule ≡ x .place .rule
-  pub along : (rules : RuleBytes) → x .place .rule < length rules → PassFrom (listsIn t) rules (x .place)
-      → PassFrom (listsIn t) rules (r .place) × (placesLeft (listsIn t) rules (r .place) ≤ placesLeft (listsIn t) rules (x .place))
-  pub done : (P : Problem) (first : Counts) (j₁ j : Journal) → x .place .rule < length (P .rules) → repeatsAt (b .«rows_at_previous_start») (x .place) ≡ true
-      → DoneAt b P first j₁ t j x → DoneAt b P first j₁ t j r
-
--- if the invariant of the pass holds at x, it holds at r: every candidate between them was passed over
-pub record PassesOver (rules : RuleBytes) (t : List ℕ) (b : Terms) (x r : Reached) : Type 0 where
-  pub counted : JoinsAlone x r
-  pub stands : (P : Problem) (first : Counts) (j₁ j : Journal)
-      → InPass b (withRules P rules) first j₁ t (x .counts) j (x .place) → InPass b (withRules P rules) first j₁ t (r .counts) j (r .place)
 
 -- ---- the steps between candidates
 

@@ -31,7 +31,10 @@ use Rattle.search_laws.specs.Meanings.{firstRows, inNextPass, totalsOf, 
 use Rattle.search_laws.specs.Problems.{RuleBytes, Problem, termsOf}
 use Rattle.search_laws.specs.Passes.{AtPass, pass-done, pass-again, pass-known}
 use Rattle.search_laws.specs.Passing.{InPass, pass-start, pass-end, pass-stopped}
-use Rattle.search_laws.specs.Running.{target, InLimits, PassBegun, LinksAlong, Onward, PassesOver}
+use Rattle.search_laws.specs.Steps.{LinksAlong, PassesOver}
+use Rattle.search_laws.specs.StepLaws.{over-counted}
+use Rattle.search_laws.specs.PassingOver.{over-stands}
+use Rattle.search_laws.specs.Running.{target, InLimits, PassBegun, Onward}
 use Rattle.search_laws.specs.States.{ended, standingBy, standing, finished, openingBy, opening}
 use Rattle.search_laws.specs.Walks.{candidatesIn, candidateIn, passIn, Known}
 use Rattle.search_laws.specs.declared.Answer.the-variants as answer
@@ -150,11 +153,11 @@ module _ (P : Problem) (B : ℕ) (j₀ : Journal) (s : State) (rows : s .rows �
     -- at its first place, and then at one that is reached from there
     module _ (p : Place) (o : places.FirstPlace (listsIn t′) (P .rules) 0 p) {r : Reached} (v : PassesOver (P .rules) t′ (at k n w) (record { counts = w; place = p }) r) where
       reached : InPass (at k n w) P w j t′ (r .counts) j (r .place)
-      reached = v .stands P w j j (pass-start listed ready known o)
+      reached = over-stands v (pass-start listed ready known o)
 
       pub open-reached : Onward P B j₀ w (opening s (at k n w) r) j t′
-      open-reached = onward-from (v .counted .joins) (by (ltb (r .place .rule) (s .rules)) refl)
+      open-reached = onward-from (over-counted (P .rules) t′ (at k n w) v .joins) (by (ltb (r .place .rule) (s .rules)) refl)
         where
           by : (b : Bool) → ltb (r .place .rule) (s .rules) ≡ b → Onward P B j₀ (r .counts) (openingBy b s (at k n w) r) j t′
           by true e = stand-there a n fits known reached (omega (arith, ltb-true (r .place .rule) (s .rules) e, count))
-          by false e = close-last a n refl (pass-end reached (omega (arith, ltb-false (r .place .rule) (s .rules) e, count))) t′ (v .counted .added ∙ a .none-added)
+          by false e = close-last a n refl (pass-end reached (omega (arith, ltb-false (r .place .rule) (s .rules) e, count))) t′ (over-counted (P .rules) t′ (at k n w) v .added ∙ a .none-added)

@@ -1,15 +1,13 @@
 -- One candidate, candidates one after the other, and a pass, under the terms of the pass; and those that the pass before formed too.
 -- Definitions only. Assumes nothing.
 use mathlib.Core.Path.{_≡_}
-use mathlib.Core.Bool.{Bool, true, _&&_, _||_}
+use mathlib.Core.Bool.{true}
 use mathlib.Core.List.{List, []}
 use Prim.Native.Nat.{ℕ, _<_}
-use lib.Dec.{eqb, ltb}
 use lib.ListN.{length}
 use Rattle.spec_basics.specs.Elements.{In}
 use Rattle.relation.specs.Relation.{contained}
 use Rattle.spec_order.specs.Candidates.{passCandidates}
-use Rattle.spec_order.specs.Journal.{absent}
 use Rattle.spec_order.specs.Order.{dropped, consider, walk}
 use Rattle.spec_order.specs.Repeating.{Repeats}
 use Rattle.search_rows.specs.Base.{Row, Candidate, Progress, Outcome}
@@ -39,14 +37,6 @@ abbrev pub passIn : Terms → Problem → Counts → Journal → Outcome
 passIn t P w j = walkIn t (length j) (candidatesIn P (firstRows (w .used) j)) (progressOf w j)
 
 -- ---- what the pass before formed
-
--- no row, or one of the first n
-abbrev pub isBefore : ℕ → ℕ → Bool
-isBefore n i = ltb i n || eqb i absent
-
--- the rows of the place are such rows; where there were none, the first pass may be under way, and nothing was formed before
-abbrev pub repeatsAt : ℕ → Place → Bool
-repeatsAt n p = ltb 0 n && (isBefore n (p .left) && isBefore n (p .right))
 
 -- every candidate of `cs` whose rows are all below n is already covered by a live row of `rows`
 abbrev pub Known : ℕ → List Candidate → List Row → Type 0

@@ -12,7 +12,7 @@ use lib.Seq.{getD-set-same, getD-set-other}
 use borrow.Author.Tests.{ltb-true, ltb-false, eqb-true, eqb-false, eq-eqb}
 use Rattle.spec_basics.specs.Tests.{and-fst}
 use Rattle.spec_order.specs.Journal.{Row, live, liveOf}
-use Rattle.search_state.specs.Layout.{rowCells, heads, headCell, tableCells, end}
+use Rattle.search_state.specs.Layout.{rowCells, heads, headCell, listCells, tableCells, end}
 use Rattle.search_links.specs.Covers.{liveAt, Cell, Reach, Covering}
 use Rattle.search_links.specs.RowLaws.{holds-inside, holds-nowhere, holds-before, is-last}
 
@@ -103,13 +103,10 @@ module _ {E : Type 0} where
       from x cell n (inl z) = omega (arith, z .1)
       from x cell n (inr z) = absurd (false≢true (z .0))
 
-  -- a cell past those of the nonterminals
-  pub covering-hint : (rows : List (Row E)) (covers : List ℕ) (cell v : ℕ) → headCell heads ≤ cell → length rows ≤ rowCells → Covering rows covers → Covering rows (set covers cell v)
-  covering-hint rows covers cell v c h g =
-      record {
-        size = length-set covers cell v ∙ g .size;
-        reach = λ x k n l z. subst (Reach x rows n) (sym (getD-set-other covers cell k v 0 (λ e. omega (arith, e, c, cell-bound x rows k n l h z)))) (g .reach x k n l z);
-      }
+  -- another table with the same links
+  pub covering-links : (rows : List (Row E)) (old new : List ℕ) → length rows ≤ rowCells → length new ≡ length old → ((i : ℕ) → i < listCells → getD new i 0 ≡ getD old i 0) → Covering rows old → Covering rows new
+  covering-links rows old new h n e g =
+      record { size = n ∙ g .size; reach = λ x k m l z. subst (Reach x rows m) (sym (e k (cell-bound x rows k m l h z))) (g .reach x k m l z) }
 
   -- ---- row i retires, and the cell that led to it leads past it
 

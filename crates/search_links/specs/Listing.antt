@@ -14,7 +14,7 @@ use Rattle.spec_order.specs.Journal.{Row, liveOf}
 use Rattle.search_state.specs.Layout.{rowCells, heads, headCell, listCells, listsFrom, tableCells, listsIn, end}
 use Rattle.search_order.specs.Lists.{afterIn, Chain, liveNumbers, Listed}
 use Rattle.search_links.specs.Covers.{liveAt, Reach, Covering}
-use Rattle.search_links.specs.CoverLaws.{live-inside, cell-bound}
+use Rattle.search_links.specs.CoverLaws.{live-inside, covering-links}
 use Rattle.search_links.specs.RowLaws.{there}
 use Rattle.search_links.specs.Rows.{IsAt}
 
@@ -122,8 +122,4 @@ module _ {E : Type 0} (A : List (Row E)) (limit : length A ≤ rowCells) (old ne
       subst (λ (v : ℕ). Rest x 0 v) (sym (h .firsts x hx)) (rest-from x hx (length A) 0 (omega arith) (getD old (headCell x) 0) (g .reach x (headCell x) 0 hx (inl (refl, refl))))
 
   pub gathered-covering : Covering A new
-  gathered-covering =
-      record {
-        size = h .size ∙ g .size;
-        reach = λ x cell n hx z. subst (Reach x A n) (sym (h .links cell (omega (arith, cell-bound x A cell n hx limit z)))) (g .reach x cell n hx z);
-      }
+  gathered-covering = covering-links A old new limit (h .size) (λ i m. h .links i (omega (arith, m))) g

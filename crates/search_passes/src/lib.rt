@@ -8,7 +8,8 @@ use search_state::Fate;
 use search_state::State;
 use search_state::Terms;
 ghost use Prim.Native.Nat.{_<_};
-ghost use Rattle.search_laws.specs.Running.{MayPass, MayOpen, OpensPass, MayGoOn, Closes, GoesFrom, GoesOn, MayAdvance, Advances};
+ghost use Rattle.search_laws.specs.Steps.{MayPass, MayOpen, MayGoOn, MayAdvance};
+ghost use Rattle.search_laws.specs.Running.{OpensPass, Closes, GoesFrom, GoesOn, Advances};
 
 // A pass over n rules begins: the lists first, then its first place that needs work. The state is not here: a call that is handed one, or
 // gives one, made the compiler copy its padding for each candidate.

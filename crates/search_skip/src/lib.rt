@@ -15,8 +15,7 @@ ghost use Rattle.search_state.specs.Layout.{rowCells, tableCells, listsIn, end}
 ghost use Rattle.search_order.specs.Lists.{afterIn};
 ghost use Rattle.search_order.specs.Places as places;
 ghost use Rattle.search_order.specs.PlacesLeft.{ListEnds};
-ghost use Rattle.search_laws.specs.Walks.{isBefore, repeatsAt};
-ghost use Rattle.search_laws.specs.Running.{passesAt, Later, MayPass, PassesRights, PassesOver};
+ghost use Rattle.search_laws.specs.Steps.{isBefore, repeatsAt, passesAt, Later, MayPass, PassesRights, PassesOver};
 
 // ---- the lists of the pass
 

@@ -4,7 +4,7 @@ use native.Mathlib.Omega.{arith}
 use lib.ListN.{length-set}
 use borrow.Author.Needs.{needs}
 use Rattle.spec_basics.specs.Tests.{not-fails}
-use Rattle.search_laws.specs.HintLaws.{remembers-none, remembers-one, remembers-two}
+use Rattle.search_laws.specs.StepLaws.{remembers-none, remembers-one, remembers-two}
 use Rattle.search_decide.proofs.remember_hint.Statement.{statement}
 use Rattle.search_decide.proofs.remember_hint.Tie as tie
 

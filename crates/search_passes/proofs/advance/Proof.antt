@@ -3,9 +3,9 @@ use mathlib.Core.Path.{sym, ap, _∙_, subst}
 use Prim.Native.Nat.{ℕ, _≤_}
 use borrow.Author.Needs.{needs}
 use Rattle.search_laws.specs.Advancing.{Right, decided-so, decided-right, stopped-running, going-running, decided-used}
-use Rattle.search_laws.specs.HintLaws.{remembers-links, remembers-passes}
+use Rattle.search_laws.specs.Steps.{LinksAlong}
+use Rattle.search_laws.specs.StepLaws.{remembers-links, remembers-passes}
 use Rattle.search_laws.specs.Meanings.{countsIn}
-use Rattle.search_laws.specs.Running.{LinksAlong}
 use Rattle.search_laws.specs.declared.Outcome.{Outcome}
 use Rattle.search_state.specs.Layout.{rowCells}
 use Rattle.search_passes.proofs.advance.Statement.{statement}

@@ -7,7 +7,9 @@ use lib.Seq.{length-take-le}
 use borrow.Author.Needs.{needs}
 use Rattle.search_laws.specs.Contracts.{Answers}
 use Rattle.search_laws.specs.Passing.{pass-end}
-use Rattle.search_laws.specs.Running.{LinksAlong}
+use Rattle.search_laws.specs.PassingOver.{over-stands}
+use Rattle.search_laws.specs.StepLaws.{over-counted}
+use Rattle.search_laws.specs.Steps.{LinksAlong}
 use Rattle.search_laws.specs.Walks.{passIn}
 use Rattle.search_laws.specs.declared.Outcome.the-variants.{Going}
 use Rattle.search_laws.specs.Problems.{withRules}
@@ -25,15 +27,15 @@ returns c P B j₀ first j₁ j z rows y g =
     let Q = withRules P rs in
     let n : st .rules ≡ length rs = sym (length-take-le (st .rules) (s .args .rules .now) (s .pre .0 .opens .count)) in
     rw (c .stand-at .ensures)
-    (onward-from Q B j₀ st rows n (o .ensures .counted .joins)
-    (stand-on Q B j₀ st rows n y (o .ensures .stands P first j₁ j g) (omega (arith, c .before .if1 .taken, n))))
+    (onward-from Q B j₀ st rows n (over-counted rs (s .args .table .now) (st .terms) (o .ensures) .joins)
+    (stand-on Q B j₀ st rows n y (over-stands (o .ensures) g) (omega (arith, c .before .if1 .taken, n))))
 
 asked : tie.Need-close-pass-requires
 asked c κs =
     let o = c .before .before .before .before .before .pass-over in
     let s = c .before .before .before .before .before .before .before .before .before in
     let a = s .pre .0 .opens in
-    let same = o .ensures .counted .used in
+    let same = over-counted (take (s .args .state .rules) (s .args .rules .now)) (s .args .table .now) (s .args .state .terms) (o .ensures) .used in
     record { opens = record { table = a .table; count = a .count; old = a .old; used = omega (arith, same, a .used); links = subst (λ (u : ℕ). LinksAlong u (s .args .table .now)) (sym same) (a .links) }; pass = s .pre .0 .pass }
 
 returns-2 : tie.Need-returns-2
@@ -44,8 +46,8 @@ returns-2 c P B j₀ first j₁ j z rows y g =
     let rs = take (st .rules) (s .args .rules .now) in
     let Q = withRules P rs in
     let n : st .rules ≡ length rs = sym (length-take-le (st .rules) (s .args .rules .now) (s .pre .0 .opens .count)) in
-    let r = o .ensures .stands P first j₁ j g in
-    onward-from Q B j₀ st rows n (o .ensures .counted .joins)
+    let r = over-stands {P = Q} (o .ensures) g in
+    onward-from Q B j₀ st rows n (over-counted rs (s .args .table .now) (st .terms) (o .ensures) .joins)
     (c .before .before .close-pass .ensures P B j₀ first j₁ j z rows y (r .left .same)
     (subst (λ (k : ℕ). Answers k (passIn (st .terms) Q first j₁) first j₁ j (Going (o .result .counts))) (ap (λ (b : Terms). b .budget) (y .terms))
     (pass-end r (omega (arith, c .before .before .before .before .if1 .left, n))))

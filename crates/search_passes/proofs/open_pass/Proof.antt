@@ -4,7 +4,8 @@ use Prim.Native.Nat.{_≤_}
 use lib.ListN.{take}
 use lib.Seq.{length-take-le}
 use borrow.Author.Needs.{needs}
-use Rattle.search_laws.specs.Running.{Onward, PassesOver}
+use Rattle.search_laws.specs.Steps.{PassesOver}
+use Rattle.search_laws.specs.Running.{Onward}
 use Rattle.search_laws.specs.States.{opening}
 use Rattle.search_laws.specs.Problems.{withRules}
 use Rattle.search_laws.specs.RunningLaws.{opens-place, open-reached}

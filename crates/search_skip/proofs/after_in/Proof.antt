@@ -4,7 +4,7 @@ use mathlib.Core.List.{List}
 use Prim.Native.Nat.{ℕ}
 use borrow.Author.Needs.{needs}
 use Rattle.search_order.specs.Lists.{afterIn}
-use Rattle.search_laws.specs.HintLaws.{lent-lists}
+use Rattle.search_laws.specs.StepLaws.{lent-lists}
 use Rattle.search_skip.proofs.after_in.Statement.{statement}
 use Rattle.search_skip.proofs.after_in.Tie as tie
 

@@ -6,7 +6,7 @@ use lib.ListN.{take}
 use lib.Seq.{length-take-le}
 use borrow.Author.Needs.{needs}
 use Rattle.search_order.specs.Places.{FirstPlace}
-use Rattle.search_laws.specs.HintLaws.{lent-lists}
+use Rattle.search_laws.specs.StepLaws.{lent-lists}
 use Rattle.search_skip.proofs.first_in.Statement.{statement}
 use Rattle.search_skip.proofs.first_in.Tie as tie
 

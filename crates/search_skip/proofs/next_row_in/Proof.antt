@@ -9,7 +9,7 @@ use borrow.Author.Needs.{needs}
 use Rattle.search_state.specs.Layout.{end}
 use Rattle.search_order.specs.Lists.{afterIn}
 use Rattle.search_order.specs.Places.{NextPlace}
-use Rattle.search_laws.specs.HintLaws.{lent-lists}
+use Rattle.search_laws.specs.StepLaws.{lent-lists}
 use Rattle.search_skip.proofs.next_row_in.Statement.{statement}
 use Rattle.search_skip.proofs.next_row_in.Tie as tie
 

@@ -7,8 +7,8 @@ use lib.ListN.{take}
 use lib.Seq.{length-take-le}
 use borrow.Author.Needs.{needs}
 use Rattle.search_order.specs.PlacesLeftLaws.{rights-end}
-use Rattle.search_laws.specs.PassingOver.{passes-here, passes-paid, over-left, left-less}
-use Rattle.search_laws.specs.Running.{passesAt}
+use Rattle.search_laws.specs.Steps.{passesAt}
+use Rattle.search_laws.specs.StepLaws.{passes-here, passes-paid, over-left, left-less}
 use Rattle.search_skip.proofs.pass_left.Statement.{statement}
 use Rattle.search_skip.proofs.pass_left.Tie as tie
 

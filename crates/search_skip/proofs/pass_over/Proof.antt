@@ -6,8 +6,8 @@ use lib.ListN.{take}
 use borrow.Author.Needs.{needs}
 use Rattle.search_order.specs.PlacesLeft.{placesLeft, PassFrom}
 use Rattle.search_state.specs.Layout.{listsIn}
-use Rattle.search_laws.specs.PassingOver.{over-none, over-more}
-use Rattle.search_laws.specs.Running.{PassesOver}
+use Rattle.search_laws.specs.Steps.{PassesOver}
+use Rattle.search_laws.specs.StepLaws.{over-none, over-more}
 use Rattle.search_skip.proofs.pass_over.Statement.{statement}
 use Rattle.search_skip.proofs.pass_over.Tie as tie
 

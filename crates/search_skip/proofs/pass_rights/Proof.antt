@@ -13,8 +13,8 @@ use Rattle.search_order.specs.PlacesLeft.{ListEnds, positionsLeft}
 use Rattle.search_order.specs.PlacesLeftLaws.{ends-next}
 use Rattle.search_state.specs.Layout.{listsIn}
 use Rattle.search_state.specs.Budgets.{isSpent}
-use Rattle.search_laws.specs.PassingOver.{not-spent, withRight, rights-none, rights-next}
-use Rattle.search_laws.specs.Running.{PassesRights}
+use Rattle.search_laws.specs.Steps.{withRight, PassesRights}
+use Rattle.search_laws.specs.StepLaws.{not-spent, rights-none, rights-next}
 use Rattle.search_skip.proofs.pass_rights.Statement.{statement}
 use Rattle.search_skip.proofs.pass_rights.Tie as tie
 

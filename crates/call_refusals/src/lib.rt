@@ -1,5 +1,4 @@
-// What the two calls on a file and a journal share: what refuses both of them, the file's rules in their table, and steps of their proofs by
-// hand.
+// What the two calls on a file and a journal share: what refuses both of them, and the file's rules in their table.
 use spec_calls::JOURNAL_LIMIT;
 use spec_file::Refusal;
 ghost use mathlib.Core.Path.{_≡_};

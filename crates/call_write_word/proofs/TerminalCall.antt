@@ -33,6 +33,7 @@ use Rattle.spec_calls.specs.declared.Row.{Row}
 use Rattle.call_write_word.specs.declared.Part.{Part}
 use Rattle.call_write_word.specs.Parts.{ownWord, Wrote}
 use Rattle.walk_kit.proofs.LentPart.{slice-at, Lent, Keeps, part-call}
+use Rattle.walk_kit.proofs.Tokens.{tok}
 use Rattle.call_write_word.proofs.Part as P
 use Rattle.call_write_word.proofs.Part.Laws as P′
 use Rattle.call_write_word.proofs.Writers.{Held, Around}
@@ -53,7 +54,7 @@ module _ {M : Type 1} (𝓤 : URA M) (H : Heap 𝓤) (A : Atoms 𝓤) (W : Given
     goes : length (ownWord x) ≤ length ys → (ν : ℕ) (δ : GName)
         → ent 𝓤 (sep 𝓤 (sem 𝓤 H A ftrue) (sep 𝓤 (A .lft (ν ∷ []) fullShare) (sem 𝓤 H A (Lent u8 κ q γ b o ys 0 (named 0) ν δ)))) (Terminal .pre (to-terminal ν δ))
     goes room ν δ =
-        qed W (‵ ftrue ∷ ‵ (flft (ν ∷ []) fullShare) ∷ ‵ (Lent u8 κ q γ b o ys 0 (named 0) ν δ) ∷ []) ∵ says ! room $ move ! (1 ∷ 0 ∷ []) $ join ! $ frame ! $
+        qed W (‵ ftrue ∷ tok ν ∷ ‵ (Lent u8 κ q γ b o ys 0 (named 0) ν δ) ∷ []) ∵ says ! room $ move ! (1 ∷ 0 ∷ []) $ join ! $ frame ! $
         nothing ! $ move ! (1 ∷ 0 ∷ []) $ fjoin ! $ owned ! P.the-row (Is P.the-row) (LL.makes P.the-type P′.the-plain 𝓤 H A) x _ gx $ fjoin ! $ done !
 
     abbrev Says : Val → List ℕ → Type 0
@@ -64,7 +65,7 @@ module _ {M : Type 1} (𝓤 : URA M) (H : Heap 𝓤) (A : Atoms 𝓤) (W : Given
     gives ν δ v =
         let y = to-terminal ν δ .0 in
         qed W (raw (Terminal .post (to-terminal ν δ) v) ∷ []) ∵ updating ! $
-        use1 W (later (some (λ (w : ℕ). ((‵ (flft (ν ∷ []) fullShare) ⊛ ‵ ftrue) ⊛ ‵ (usize .own w (v ∷ []))) ⊛ raw (ensured 𝓤 H A callee.ended (callee.clauses 𝓤 H A mem run) (y .0) (y .3) tt w)))) (id⊢ 𝓤 _) $ await ! tt $ pick ! (λ w.
+        use1 W (later (some (λ (w : ℕ). ((tok ν ⊛ ‵ ftrue) ⊛ ‵ (usize .own w (v ∷ []))) ⊛ raw (ensured 𝓤 H A callee.ended (callee.clauses 𝓤 H A mem run) (y .0) (y .3) tt w)))) (id⊢ 𝓤 _) $ await ! tt $ pick ! (λ w.
         split ! $ move ! (1 ∷ []) $ use1 W (some (λ (ws : Lasts callee.ended (y .0) (y .3)). ‵ (lasts callee.ended (y .0) (y .3) ws) ⊛ raw (fact 𝓤 (Wrote (ownWord x) ys (ws .1 .0) w)))) (id⊢ 𝓤 _) $ pick ! (λ ws.
         split ! $ move ! (1 ∷ []) $ heard ! (Wrote (ownWord x) ys (ws .1 .0) w) (λ wrote. fsplit ! $ drop ! $ fsplit ! $ fsplit ! $
         move ! (3 ∷ []) $ split ! $ move ! (1 ∷ []) $ fsplit ! $ feqL ! (λ is. fltL ! (λ fits. split ! $

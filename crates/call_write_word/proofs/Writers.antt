@@ -42,6 +42,7 @@ use Rattle.spec_calls.proofs.Row as rows
 use Rattle.call_write_word.specs.declared.Part.{Part}
 use Rattle.call_write_word.specs.Parts.{partWord, Ready, Wrote}
 use Rattle.walk_kit.proofs.LentPart.{slice-at, start, Lent, Keeps, part-call}
+use Rattle.walk_kit.proofs.Tokens.{tok}
 
 -- a rule's four numbers
 abbrev pub Rule : RattleType
@@ -98,7 +99,7 @@ module _ {M : Type 1} (𝓤 : URA M) (H : Heap 𝓤) (A : Atoms 𝓤) (W : Given
   goes : ReadyFor j r (to x) (length (rest-of n ys)) → (ν : ℕ) (δ : GName)
       → ent 𝓤 (sep 𝓤 (mean 𝓤 H A Taken) (sep 𝓤 (A .lft (ν ∷ []) fullShare) (sem 𝓤 H A (Lent u8 κ q γ b o ys n (named 2) ν δ)))) (Writer 𝓤 H A X to .pre (to-writer ν δ))
   goes ready ν δ =
-      qed W (Taken ∷ ‵ (flft (ν ∷ []) fullShare) ∷ ‵ (Lent u8 κ q γ b o ys n (named 2) ν δ) ∷ []) ∵ says ! ready $ split ! $ split ! $ move ! (2 ∷ []) $ split ! $
+      qed W (Taken ∷ tok ν ∷ ‵ (Lent u8 κ q γ b o ys n (named 2) ν δ) ∷ []) ∵ says ! ready $ split ! $ split ! $ move ! (2 ∷ []) $ split ! $
       -- [the journal's token; the rules'; the journal; the rules; the buffer's token; the buffer]
       nothing ! $ move ! (5 ∷ 0 ∷ []) $ join ! $ move ! (2 ∷ 0 ∷ []) $ join ! $ move ! (1 ∷ 0 ∷ []) $ join ! $ frame ! $
       nothing ! $ move ! (3 ∷ 0 ∷ []) $ fjoin ! $ owned ! X (Is X) make x us gx $ fjoin ! $ move ! (2 ∷ 0 ∷ []) $ fjoin ! $ move ! (1 ∷ 0 ∷ []) $ fjoin ! $ done !
@@ -112,7 +113,7 @@ module _ {M : Type 1} (𝓤 : URA M) (H : Heap 𝓤) (A : Atoms 𝓤) (W : Given
   gives ν δ v =
       let y = to-writer ν δ .0 in
       qed W (raw (Writer 𝓤 H A X to .post (to-writer ν δ) v) ∷ []) ∵ updating ! $
-      use1 W (later (some (λ (w : ℕ). ((‵ (flft κj qj) ⊛ (‵ (flft κr qr) ⊛ (‵ (flft (ν ∷ []) fullShare) ⊛ ‵ ftrue))) ⊛ ‵ (usize .own w (v ∷ []))) ⊛ raw (ensured 𝓤 H A (writer X) (clauses 𝓤 X to) (y .0) (y .3) tt w)))) (id⊢ 𝓤 _) $ await ! tt $ pick ! (λ w.
+      use1 W (later (some (λ (w : ℕ). ((‵ (flft κj qj) ⊛ (‵ (flft κr qr) ⊛ (tok ν ⊛ ‵ ftrue))) ⊛ ‵ (usize .own w (v ∷ []))) ⊛ raw (ensured 𝓤 H A (writer X) (clauses 𝓤 X to) (y .0) (y .3) tt w)))) (id⊢ 𝓤 _) $ await ! tt $ pick ! (λ w.
       split ! $ move ! (1 ∷ []) $ use1 W (some (λ (ws : Lasts (writer X) (y .0) (y .3)). ‵ (lasts (writer X) (y .0) (y .3) ws) ⊛ raw (fact 𝓤 (Wrote (wordOf j r (to x)) (rest-of n ys) (ws .1 .1 .1 .0) w)))) (id⊢ 𝓤 _) $ pick ! (λ ws.
       split ! $ move ! (1 ∷ []) $ heard ! (Wrote (wordOf j r (to x)) (rest-of n ys) (ws .1 .1 .1 .0) w) (λ wrote. fsplit ! $ drop ! $ fsplit ! $ drop ! $ fsplit ! $ drop ! $ fsplit ! $ fsplit ! $
       move ! (3 ∷ []) $ split ! $ move ! (1 ∷ []) $ fsplit ! $ feqL ! (λ is. fltL ! (λ fits. split ! $ move ! (1 ∷ []) $ split ! $ move ! (1 ∷ []) $ split ! $

@@ -19,7 +19,7 @@ use prog.Wp.{Heap}
 use ghost.Atoms.{Atoms}
 use contract.Monad.{Fun}
 use types.Kit.{Given, Item, ‵, raw, given, _⊛_, ⋆, mean, _$_, _∵_, !, qed, move, keep, drop, split, join, use1, fsplit, fjoin, feqL, check, frame, done}
-use denote.Builtin.{u8, u64, usize}
+use denote.Builtin.{u8, usize}
 use denote.Laws.{Is}
 use denote.Plain.{uint-makes}
 use denote.Ref.{RefT}
@@ -34,6 +34,7 @@ use Rattle.walk_kit.proofs.CallPlain.{asks-plain}
 use Rattle.walk_kit.proofs.CallStep.{Called}
 use Rattle.walk_kit.proofs.LocalArrays.{from-start}
 use Rattle.walk_kit.proofs.PlainData.{Row as RowOf, val, Means, makes}
+use Rattle.walk_kit.proofs.Tokens.{tok}
 use Rattle.spec_calls.specs.declared.Options.{Options}
 use Rattle.spec_calls.specs.declared.Row.{Row}
 use Rattle.spec_calls.specs.Checking.{journalLimit}
@@ -70,9 +71,6 @@ module _ {M : Type 1} (𝓤 : URA M) (H : Heap 𝓤) (A : Atoms 𝓤) (W : Given
 
     pub asks-number : ent 𝓤 (emp 𝓤) (Called 𝓤 H A row-number.ended (row-number.clauses 𝓤 H A mem run) .pre (to-number, tt))
     asks-number = asks-plain 𝓤 H A row-number.ended (row-number.clauses 𝓤 H A mem run) to-number tt (id⊢ 𝓤 _) (id⊢ 𝓤 _) (uint-makes 𝓤 H A W w64, tt) ((refl, gi), tt)
-
-  abbrev tok : ℕ → Item 𝓤
-  tok ν = ‵ (flft (ν ∷ []) fullShare)
 
   -- the file s, lent for κ, whose machine value is v; and n rows from the start of the block l, which are ys and are lent for ν
   module _ (κ : Lft) (q : Share) (s : RefT (List ℕ)) (v : Val) (l n : ℕ) (ys : List Row) (ν : ℕ) (δ : GName) where

@@ -15,8 +15,6 @@ use prog.Wp.{Heap}
 use ghost.Atoms.{Atoms}
 use contract.Monad.{Fun, factI}
 use denote.RattleType.{RattleType}
-use denote.Array.{Array}
-use denote.Builtin.{u8, u64}
 use denote.Plain.{nothing-tells, uint-tells}
 use Rattle.relation.specs.Relation.{contained}
 use Rattle.spec_order.specs.Order.{larger}
@@ -53,9 +51,9 @@ use Rattle.search_passes.proofs.advance as advance
 use Rattle.search_loops.proofs.find as find
 use Rattle.search_loops.proofs.insert as insert
 use Rattle.walk_kit.proofs.Loans.{Loan}
-use Rattle.walk_kit.proofs.PlainData.{Data, Row as RowOf, val, Means, tells, value, number, flag}
+use Rattle.walk_kit.proofs.PlainData.{Row as RowOf, val, Means, tells, value, number, flag}
 use Rattle.walk_kit.proofs.Handing.{Mode, again, seen, copied, Hand, Handing, binds}
-use Rattle.spec_calls.proofs.Types.{row, Entry}
+use Rattle.spec_calls.proofs.Types.{row, Entry, Letter}
 use Rattle.spec_file.specs.Limits.{letterWords}
 use Rattle.search_loops.proofs.Values.{cell, candidate, state, comparison, fate, cover-cursor, retire-cursor, head-fits}
 
@@ -71,7 +69,7 @@ module _ {M : Type 1} (𝓤 : URA M) (H : Heap 𝓤) (A : Atoms 𝓤) (mem : Mem
   -- ---- forming a candidate
   abbrev pub to-form : (Y U : Loan) (letters : List ℕ) (rules : List (List ℕ)) → (letterWords ≤ length letters) × (s .place .rule < length rules) → (left : Row) → Means row left → (right : Row) → Means row right → Handing 𝓤 H A form.ended (form.clauses 𝓤 H A mem run)
   to-form Y U letters rules asks left l-is right r-is =
-      let hs = slice u64 copied Y letters refl ∷ slice Entry copied U rules refl ∷ [] in
+      let hs = slice Letter copied Y letters refl ∷ slice Entry copied U rules refl ∷ [] in
       let vs = value state s s-is ∷ value row left l-is ∷ value row right r-is ∷ [] in
       record {
         slices = hs;

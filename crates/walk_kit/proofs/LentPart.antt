@@ -35,6 +35,7 @@ use denote.Triple.Call.{calls-from}
 use denote.Triple.Statement.{Contract}
 use borrow.Table.Elements.{at, at-byte}
 use borrow.Rule.Slice.PartMut.{startAt, keptM, midOf, putMid, sl-relendᵐ, sl-relent-backᵐ}
+use Rattle.walk_kit.proofs.Tokens.{tok}
 
 -- the reference at (b, o) under the name δ, to the list l
 abbrev pub slice-at : (R : RattleType) → ℕ → ℕ → GName → List (R .Denot) → RefT (List (R .Denot))
@@ -101,7 +102,7 @@ module _ {M : Type 1} {𝓤 : URA M} {H : Heap 𝓤} {A : Atoms 𝓤} {K : Type 
       use2 W (later (some (λ (δ : GName). ‵ (Lent R κ q γ b o ys n ℓ′ ν δ) ⊛ ‵ (Keeps R κ q γ b o ys n (ν ∷ []) δ)))) (lends-part R κ q γ b o ys n 𝓤 H A W ℓ ℓ′ m e ν) $ await t tt $ pick t (λ δ. split t $
       move t (3 ∷ 2 ∷ 0 ∷ []) $ use3 W (raw (c .pre (y ν δ))) (pre ν δ) $
       calls-from t fm (raw (c .pre (y ν δ))) (c .args (y ν δ)) (c .post (y ν δ)) (met ν δ) (os ν δ) (λ r.
-      use1 W (later (some (λ (zs : List (R .Denot)). given (P r zs) (j ⊛ (‵ (flft (ν ∷ []) fullShare) ⊛ ‵ (finally R δ zs)))))) (post ν δ r) $ await t tt $ pick t (λ zs. learn t (λ h. split t $ move t (1 ∷ []) $ split t $ lft-end t tt $
+      use1 W (later (some (λ (zs : List (R .Denot)). given (P r zs) (j ⊛ (tok ν ⊛ ‵ (finally R δ zs)))))) (post ν δ r) $ await t tt $ pick t (λ zs. learn t (λ h. split t $ move t (1 ∷ []) $ split t $ lft-end t tt $
       move t (0 ∷ 3 ∷ 1 ∷ []) $ use3 W (later (given (length zs ≡ length (rest-of n ys)) (‵ (Bare R κ b o γ (take n ys ++ zs)) ⊛ ‵ (flft κ q)))) (part-back R κ q γ b o ys n 𝓤 H A W ℓ ℓ′ m e ν δ zs) $ await t tt $ learn t (λ l. split t $
       fsplit t $ feqI t (List Val) (sliceVal (b, o) m ∷ []) (sliceVal (b, o) (length (take n ys ++ zs)) ∷ []) (ap (λ (z : ℕ). sliceVal (b, o) z ∷ []) (sym (same-length n ys zs l ∙ e))) $ fjoin t $ fjoin t $
       move t (2 ∷ 0 ∷ []) $ k r zs h (same-length n ys zs l ∙ e)))))))

@@ -17,3 +17,5 @@ pub mod Parameters
 pub mod PlainData
 pub mod SharedFront
 pub mod Sharing
+pub mod Tokens
+pub mod ZeroBytes

@@ -44,6 +44,7 @@ use denote.Shadow.{shadow}
 use denote.Slice.{sliceVal, MutSlice, ShrSlice, Room, finally}
 use denote.Steps.{owned}
 use Rattle.walk_kit.proofs.Locals.{sets}
+use Rattle.walk_kit.proofs.Tokens.{tok}
 
 -- ---- one entry of the context
 module _ {M : Type 1} {𝓤 : URA M} {H : Heap 𝓤} {A : Atoms 𝓤} {K : Type 0} {W : Given 𝓤 H A} {Γ : List (Item 𝓤)} {G : Goal 𝓤 H} where
@@ -265,51 +266,51 @@ module _ {M : Type 1} {𝓤 : URA M} {H : Heap 𝓤} {A : Atoms 𝓤} {K : Type 
 
   -- the first elements ys of xs, of which there are m
   pub lends-part : K → Soaks G → (R : RattleType) (xs ys rest : List (R .Denot)) → ys ++ rest ≡ xs → (m : ℕ) → length ys ≡ m → Room R m → (b k : ℕ) → nth 𝓤 H A k Γ ≡ ‵ (Elements R xs b)
-      → ((ν : ℕ) (δ : GName) → Seq K W (‵ (flft (ν ∷ []) fullShare) ∷ ‵ (MutSlice (named 0) (ν ∷ []) R .own (from-start R b δ ys) (sliceVal (b, zero) m ∷ [])) ∷ put 𝓤 H A k (‵ (Lent R ν δ m rest b)) Γ) G) → Seq K W Γ G
+      → ((ν : ℕ) (δ : GName) → Seq K W (tok ν ∷ ‵ (MutSlice (named 0) (ν ∷ []) R .own (from-start R b δ ys) (sliceVal (b, zero) m ∷ [])) ∷ put 𝓤 H A k (‵ (Lent R ν δ m rest b)) Γ) G) → Seq K W Γ G
   lends-part t z R xs ys rest e m l room b k at go = draws t z k (Out 𝓤 H A W R m ys b) (λ x. ‵ (Lent R (x .0) (x .1) m rest b)) (lends-out 𝓤 H A W R xs ys rest e m l room b) at (λ x. split t $ go (x .0) (x .1))
 
   pub shares-part : K → Soaks G → (R : RattleType) (xs ys rest : List (R .Denot)) → ys ++ rest ≡ xs → (m : ℕ) → length ys ≡ m → Room R m → (b k : ℕ) → nth 𝓤 H A k Γ ≡ ‵ (Elements R xs b)
-      → ((ν : ℕ) (δ : GName) → Seq K W (‵ (flft (ν ∷ []) fullShare) ∷ ‵ (ShrSlice (named 0) (ν ∷ []) R .own (from-start R b δ ys) (sliceVal (b, zero) m ∷ [])) ∷ put 𝓤 H A k (‵ (Shared R ν ys rest b)) Γ) G) → Seq K W Γ G
+      → ((ν : ℕ) (δ : GName) → Seq K W (tok ν ∷ ‵ (ShrSlice (named 0) (ν ∷ []) R .own (from-start R b δ ys) (sliceVal (b, zero) m ∷ [])) ∷ put 𝓤 H A k (‵ (Shared R ν ys rest b)) Γ) G) → Seq K W Γ G
   shares-part t z R xs ys rest e m l room b k at go = draws t z k (OutShared 𝓤 H A W R m ys b) (λ x. ‵ (Shared R (x .0) ys rest b)) (shares-out 𝓤 H A W R xs ys rest e m l room b) at (λ x. split t $ go (x .0) (x .1))
 
   -- ---- the rules: of the whole array, which has no elements after what is lent, and of the first m
   pub lends-array : K → Soaks G → (R : RattleType) (xs : List (R .Denot)) (m : ℕ) → length xs ≡ m → Room R m → (b k : ℕ) → nth 𝓤 H A k Γ ≡ ‵ (Elements R xs b)
-      → ((ν : ℕ) (δ : GName) → Seq K W (‵ (flft (ν ∷ []) fullShare) ∷ ‵ (MutSlice (named 0) (ν ∷ []) R .own (from-start R b δ xs) (sliceVal (b, zero) m ∷ [])) ∷ put 𝓤 H A k (‵ (Lent R ν δ m [] b)) Γ) G) → Seq K W Γ G
+      → ((ν : ℕ) (δ : GName) → Seq K W (tok ν ∷ ‵ (MutSlice (named 0) (ν ∷ []) R .own (from-start R b δ xs) (sliceVal (b, zero) m ∷ [])) ∷ put 𝓤 H A k (‵ (Lent R ν δ m [] b)) Γ) G) → Seq K W Γ G
   lends-array t z R xs = lends-part t z R xs xs [] (appended xs)
 
   pub lends-front : K → Soaks G → (R : RattleType) (xs : List (R .Denot)) (m : ℕ) → m ≤ length xs → Room R m → (b k : ℕ) → nth 𝓤 H A k Γ ≡ ‵ (Elements R xs b)
-      → ((ν : ℕ) (δ : GName) → Seq K W (‵ (flft (ν ∷ []) fullShare) ∷ ‵ (MutSlice (named 0) (ν ∷ []) R .own (from-start R b δ (take m xs)) (sliceVal (b, zero) m ∷ [])) ∷ put 𝓤 H A k (‵ (Lent R ν δ m (dropFirst m xs) b)) Γ) G)
+      → ((ν : ℕ) (δ : GName) → Seq K W (tok ν ∷ ‵ (MutSlice (named 0) (ν ∷ []) R .own (from-start R b δ (take m xs)) (sliceVal (b, zero) m ∷ [])) ∷ put 𝓤 H A k (‵ (Lent R ν δ m (dropFirst m xs) b)) Γ) G)
       → Seq K W Γ G
   lends-front t z R xs m le = lends-part t z R xs (take m xs) (dropFirst m xs) (take-append-drop m xs) m (take-all m xs le)
 
   pub array-back : K → Soaks G → (R : RattleType) (ν : ℕ) (δ : GName) (m : ℕ) (zs : List (R .Denot)) (b k : ℕ) → nth 𝓤 H A k Γ ≡ ‵ (Lent R ν δ m [] b)
-      → (length zs ≡ m → Seq K W (put 𝓤 H A k (‵ (Elements R zs b)) Γ) G) → Seq K W (‵ (flft (ν ∷ []) fullShare) ∷ ‵ (finally R δ zs) ∷ Γ) G
+      → (length zs ≡ m → Seq K W (put 𝓤 H A k (‵ (Elements R zs b)) Γ) G) → Seq K W (tok ν ∷ ‵ (finally R δ zs) ∷ Γ) G
   array-back t z R ν δ m zs b k at go = lft-end t z $ join t $ gives t z k (length zs ≡ m) (‵ (Elements R zs b)) (comes-in 𝓤 H A W R ν δ m zs zs [] (appended zs) b) at go
 
   pub front-back : K → Soaks G → (R : RattleType) (ν : ℕ) (δ : GName) (m : ℕ) (zs rest : List (R .Denot)) (b k : ℕ) → nth 𝓤 H A k Γ ≡ ‵ (Lent R ν δ m rest b)
-      → (length zs ≡ m → Seq K W (put 𝓤 H A k (‵ (Elements R (zs ++ rest) b)) Γ) G) → Seq K W (‵ (flft (ν ∷ []) fullShare) ∷ ‵ (finally R δ zs) ∷ Γ) G
+      → (length zs ≡ m → Seq K W (put 𝓤 H A k (‵ (Elements R (zs ++ rest) b)) Γ) G) → Seq K W (tok ν ∷ ‵ (finally R δ zs) ∷ Γ) G
   front-back t z R ν δ m zs rest b k at go = lft-end t z $ join t $ gives t z k (length zs ≡ m) (‵ (Elements R (zs ++ rest) b)) (comes-in 𝓤 H A W R ν δ m (zs ++ rest) zs rest refl b) at go
 
   pub shares-array : K → Soaks G → (R : RattleType) (xs : List (R .Denot)) (m : ℕ) → length xs ≡ m → Room R m → (b k : ℕ) → nth 𝓤 H A k Γ ≡ ‵ (Elements R xs b)
-      → ((ν : ℕ) (δ : GName) → Seq K W (‵ (flft (ν ∷ []) fullShare) ∷ ‵ (ShrSlice (named 0) (ν ∷ []) R .own (from-start R b δ xs) (sliceVal (b, zero) m ∷ [])) ∷ put 𝓤 H A k (‵ (Shared R ν xs [] b)) Γ) G) → Seq K W Γ G
+      → ((ν : ℕ) (δ : GName) → Seq K W (tok ν ∷ ‵ (ShrSlice (named 0) (ν ∷ []) R .own (from-start R b δ xs) (sliceVal (b, zero) m ∷ [])) ∷ put 𝓤 H A k (‵ (Shared R ν xs [] b)) Γ) G) → Seq K W Γ G
   shares-array t z R xs = shares-part t z R xs xs [] (appended xs)
 
   pub shares-front : K → Soaks G → (R : RattleType) (xs : List (R .Denot)) (m : ℕ) → m ≤ length xs → Room R m → (b k : ℕ) → nth 𝓤 H A k Γ ≡ ‵ (Elements R xs b)
-      → ((ν : ℕ) (δ : GName) → Seq K W (‵ (flft (ν ∷ []) fullShare) ∷ ‵ (ShrSlice (named 0) (ν ∷ []) R .own (from-start R b δ (take m xs)) (sliceVal (b, zero) m ∷ [])) ∷ put 𝓤 H A k (‵ (Shared R ν (take m xs) (dropFirst m xs) b)) Γ) G)
+      → ((ν : ℕ) (δ : GName) → Seq K W (tok ν ∷ ‵ (ShrSlice (named 0) (ν ∷ []) R .own (from-start R b δ (take m xs)) (sliceVal (b, zero) m ∷ [])) ∷ put 𝓤 H A k (‵ (Shared R ν (take m xs) (dropFirst m xs) b)) Γ) G)
       → Seq K W Γ G
   shares-front t z R xs m le = shares-part t z R xs (take m xs) (dropFirst m xs) (take-append-drop m xs) m (take-all m xs le)
 
   -- the walk gets back what was shared, as it was
   pub part-unshared : K → Soaks G → (R : RattleType) (ν : ℕ) (xs ys rest : List (R .Denot)) → ys ++ rest ≡ xs → (b k : ℕ) → nth 𝓤 H A k Γ ≡ ‵ (Shared R ν ys rest b)
-      → Step K W (put 𝓤 H A k (‵ (Elements R xs b)) Γ) G (‵ (flft (ν ∷ []) fullShare) ∷ Γ) G
+      → Step K W (put 𝓤 H A k (‵ (Elements R xs b)) Γ) G (tok ν ∷ Γ) G
   part-unshared t z R ν xs ys rest e b k at = step (λ s. lft-end t z $ gives t z k (Unit {0}) (‵ (Elements R xs b)) (via 𝓤 _ (shared-in 𝓤 H A W R ν xs ys rest e b) (W .laws .⇛-mono _ _ (guardI 𝓤 (Unit {0}) _ tt))) at (λ _. s))
 
   pub array-unshared : K → Soaks G → (R : RattleType) (ν : ℕ) (xs : List (R .Denot)) (b k : ℕ) → nth 𝓤 H A k Γ ≡ ‵ (Shared R ν xs [] b)
-      → Step K W (put 𝓤 H A k (‵ (Elements R xs b)) Γ) G (‵ (flft (ν ∷ []) fullShare) ∷ Γ) G
+      → Step K W (put 𝓤 H A k (‵ (Elements R xs b)) Γ) G (tok ν ∷ Γ) G
   array-unshared t z R ν xs = part-unshared t z R ν xs xs [] (appended xs)
 
   pub front-unshared : K → Soaks G → (R : RattleType) (ν m : ℕ) (xs : List (R .Denot)) (b k : ℕ) → nth 𝓤 H A k Γ ≡ ‵ (Shared R ν (take m xs) (dropFirst m xs) b)
-      → Step K W (put 𝓤 H A k (‵ (Elements R xs b)) Γ) G (‵ (flft (ν ∷ []) fullShare) ∷ Γ) G
+      → Step K W (put 𝓤 H A k (‵ (Elements R xs b)) Γ) G (tok ν ∷ Γ) G
   front-unshared t z R ν m xs = part-unshared t z R ν xs (take m xs) (dropFirst m xs) (take-append-drop m xs)
 
 -- ---- all of it, lent as a `&mut [T; n]`
@@ -340,11 +341,11 @@ module _ {M : Type 1} (𝓤 : URA M) (H : Heap 𝓤) (A : Atoms 𝓤) (W : Given
 
 module _ {M : Type 1} {𝓤 : URA M} {H : Heap 𝓤} {A : Atoms 𝓤} {K : Type 0} {W : Given 𝓤 H A} {Γ : List (Item 𝓤)} {G : Goal 𝓤 H} where
   pub lends-whole : K → Soaks G → (R : RattleType) (n : ℕ) (xs : List (R .Denot)) → length xs ≡ n → (b k : ℕ) → nth 𝓤 H A k Γ ≡ ‵ (Elements R xs b)
-      → ((ν : ℕ) (δ : GName) → Seq K W (‵ (flft (ν ∷ []) fullShare) ∷ ‵ (MutRef (named 0) (ν ∷ []) (Array R n) .own (from-start R b δ xs) (vptr b zero ∷ [])) ∷ put 𝓤 H A k (‵ (LentWhole R ν δ n b)) Γ) G) → Seq K W Γ G
+      → ((ν : ℕ) (δ : GName) → Seq K W (tok ν ∷ ‵ (MutRef (named 0) (ν ∷ []) (Array R n) .own (from-start R b δ xs) (vptr b zero ∷ [])) ∷ put 𝓤 H A k (‵ (LentWhole R ν δ n b)) Γ) G) → Seq K W Γ G
   lends-whole t z R n xs l b k at go = draws t z k (OutWhole 𝓤 H A W R n xs b) (λ x. ‵ (LentWhole R (x .0) (x .1) n b)) (whole-out-for 𝓤 H A W R n xs l b) at (λ x. split t $ go (x .0) (x .1))
 
   pub whole-back : K → Soaks G → (R : RattleType) → Single (R .mir) → (ν : ℕ) (δ : GName) (n : ℕ) (zs : List (R .Denot)) (b k : ℕ) → nth 𝓤 H A k Γ ≡ ‵ (LentWhole R ν δ n b)
-      → (length zs ≡ n → Seq K W (put 𝓤 H A k (‵ (Elements R zs b)) Γ) G) → Seq K W (‵ (flft (ν ∷ []) fullShare) ∷ ‵ (fres δ (Array R n .coded .code zs)) ∷ Γ) G
+      → (length zs ≡ n → Seq K W (put 𝓤 H A k (‵ (Elements R zs b)) Γ) G) → Seq K W (tok ν ∷ ‵ (fres δ (Array R n .coded .code zs)) ∷ Γ) G
   whole-back t z R s ν δ n zs b k at go = lft-end t z $ join t $ gives t z k (length zs ≡ n) (‵ (Elements R zs b)) (whole-in-from 𝓤 H A W R n s ν δ zs b) at go
 
 -- ---- an element is read

@@ -9,7 +9,8 @@
 //     Sharing, SharedFront      a `&[T]` that the walk holds, and its first elements
 //     LentPart                  a part of a `&mut [T]`, lent for a call
 //     Elements                  an element of a slice, read or stored
-//     LocalArrays               a local array, lent or shared as a slice
+//     LocalArrays, ZeroBytes    a local array, lent or shared as a slice; one of bytes that are zeros
+//     Tokens                    the token of a lifetime that is made for a loan
 //     Borrowed                  what a `&mut T` points to
 //     PlainData                 structs of plain data
 // The letters of a step, in every file: M, 𝓤, H and A are a model of the logic (its resources, its heap, its atoms), and W what is given of

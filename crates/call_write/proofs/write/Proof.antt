@@ -1,7 +1,7 @@
 -- The public write: the table of rules in a local is lent to `ask`, and its first rows are shared to the test of the rows and to the writer, which
 -- is given the buffer for good.
 -- Assumes nothing.
-use mathlib.Core.Path.{_≡_, refl, sym, _∙_, ap, subst}
+use mathlib.Core.Path.{_≡_, refl, sym, subst}
 use mathlib.Core.List.{List, [], _∷_, map}
 use Prim.Native.Nat.{ℕ, _<_, _≤_, _^_}
 use native.Mathlib.Omega.{arith}
@@ -47,6 +47,8 @@ use Rattle.walk_kit.proofs.Locals.{its, field-of, sets}
 use Rattle.walk_kit.proofs.LocalArrays.{lifts, lays, uses, from-start, array-made, array-gone, lends-whole, whole-back, shares-front, front-unshared}
 use Rattle.walk_kit.proofs.Opening.{Arguments, entering}
 use Rattle.walk_kit.proofs.Parameters.{Param, shared, handed, number, dropped, stays, typed-all}
+use Rattle.walk_kit.proofs.Tokens.{tok}
+use Rattle.walk_kit.proofs.ZeroBytes.{zeros, zeros-is, bytes-lawful, bytes-makes, zeros-typed}
 use Rattle.spec_file.specs.Answers.{refusalOf}
 use Rattle.spec_file.specs.Limits.{ruleLimit}
 use Rattle.spec_file.specs.declared.Refusal.{Refusal}
@@ -79,7 +81,6 @@ use Rattle.call_write.specs.Answers.{writingBy}
 use Rattle.call_write.specs.Asking.{AskedFor, refusalBy, partBy}
 use Rattle.call_write.specs.Contracts.{Writes}
 use Rattle.call_write.proofs.Written.{rows-low, ready-for, writes}
-use Rattle.call_refusals.proofs.Walks.{zeros, zeros-is, tok, entry-lawful, entry-makes, zeros-typed, typed}
 use Rattle.call_write.proofs.Asked as Ask
 use Rattle.call_write.proofs.Asked.Laws as Ask′
 use Rattle.call_write.proofs.Writing as Wr
@@ -297,8 +298,8 @@ module _ {M : Type 1} (𝓤 : URA M) (H : Heap 𝓤) (A : Atoms 𝓤) (W : Given
         entering ! (𝓣 .C) (𝓣 .Λ) code.function _ wt (λ bs.
         let l₆ = bs .1 .1 .1 .1 .1 .1 .0 in
         -- [the locals, from _18 down; the file's token; the file; the journal with its token; the buffer with its token]
-        sets ! (rep ! 4 (lit ! tt)) (init ! 10 refl (zeros-typed 𝓤 H A W)) $
-        array-made ! Entry tt (entry-lawful 𝓤 H A W) (entry-makes 𝓤 H A W) (replicate 4 0) zeros zeros-is 24 (its ! 10 refl) (from ! (stop !)) refl (λ xs e₀ n₀.
+        sets ! (rep ! 4 (lit ! tt)) (init ! 10 refl (zeros-typed 4 𝓤 H A W)) $
+        array-made ! Entry tt (bytes-lawful 4 𝓤 H A W) (bytes-makes 4 𝓤 H A W) (replicate 4 0) (zeros 4) (zeros-is 4) 24 (its ! 10 refl) (from ! (stop !)) refl (λ xs e₀ n₀.
         sets ! (addr ! (from ! (stop !))) (init ! 8 refl (tt, tt)) $
         sets ! (of-opd ! (field-of ! 32 refl refl refl)) (init ! 6 refl (tt, record { fits = gj .0 })) $
         -- what is asked
@@ -307,22 +308,22 @@ module _ {M : Type 1} (𝓤 : URA M) (H : Heap 𝓤) (A : Atoms 𝓤) (W : Given
         (past-head ! (and-then ! (its ! 34 refl) (and-then ! (its ! 8 refl) (and-then ! (its ! 6 refl) (and-then ! (its ! 30 refl) (and-then ! (its ! 28 refl) (no-more !))))))) (λ r ws h r-is.
         let zs = ws .1 .0 in
         drop ! $ use2 W (From-ask l₆ xs ν δ zs) (from-ask l₆ xs ν δ zs) $ split ! $ lays ! 39 $ split ! $ whole-back ! tt Entry tt ν δ ruleLimit zs l₆ 24 refl (λ n₁.
-        land ! (from ! (stop !)) (init ! 22 refl (typed 𝓤 H A W Ask.the-type Ask′.the-laws r r-is .0)) $
+        land ! (from ! (stop !)) (init ! 22 refl (LL.lawful Ask.the-type Ask′.the-laws 𝓤 H A W .typed r _ r-is .0)) $
         sets ! (addr ! (from ! (stop !))) (init ! 4 refl (tt, tt)) $
-        sets ! (agg ! (and-then ! (its ! 4 refl) (and-then ! (field-of ! 22 refl refl refl) (no-more !)))) (init ! 20 refl (tt, (tt, (typed 𝓤 H A W Ask.the-type Ask′.the-laws r r-is .0 .1 .1 .0, tt)))) $
+        sets ! (agg ! (and-then ! (its ! 4 refl) (and-then ! (field-of ! 22 refl refl refl) (no-more !)))) (init ! 20 refl (tt, (tt, (LL.lawful Ask.the-type Ask′.the-laws 𝓤 H A W .typed r _ r-is .0 .1 .1 .0, tt)))) $
         -- whether the rows fit
         shares-front ! tt Entry zs (r .rules) (h .rules) (rules-room zs r h n₁) l₆ 24 refl (λ μ ε. join ! $ lifts ! 41 refl $ join ! $ lays ! 40 $
-        lifts ! 40 refl $ use1 W (raw (Fits .pre (to-fits l₆ (r .rules) zs μ ε (r .rows))) ⊛ (Journal ⊛ Rules l₆ (r .rules) zs μ ε)) (asks-fits l₆ (r .rules) zs μ ε (r .rows) (typed 𝓤 H A W Ask.the-type Ask′.the-laws r r-is .0 .1 .1 .1 .0 .fits) (low zs r h)) $ split ! $
+        lifts ! 40 refl $ use1 W (raw (Fits .pre (to-fits l₆ (r .rules) zs μ ε (r .rows))) ⊛ (Journal ⊛ Rules l₆ (r .rules) zs μ ε)) (asks-fits l₆ (r .rules) zs μ ε (r .rows) (LL.lawful Ask.the-type Ask′.the-laws 𝓤 H A W .typed r _ r-is .0 .1 .1 .1 .0 .fits) (low zs r h)) $ split ! $
         calls-for rows-fit.ended (rows-fit.clauses 𝓤 H A mem run) (to-fits l₆ (r .rules) zs μ ε (r .rows) .0) tt (λ g. (g .fits ≡ rowsFit noForms rows (map entryOf (take (r .rules) zs)) (r .rows)) × (g .len ≡ lastLen rows (r .rows))) (λ g us. id⊢ 𝓤 _)
         Ft′.lowered (Ft′.lowers .val-is) ! fm (known .1 .0) (past-head ! (past-head ! (and-then ! (its ! 32 refl) (and-then ! (its ! 20 refl) (and-then ! (field-of ! 22 refl refl refl) (no-more !)))))) (λ g eg g-is.
         drop ! $ use2 W (Shares l₆ (r .rules) zs μ ε) (from-fits l₆ (r .rules) zs μ ε (r .rows)) $ lays ! 40 $
-        land ! (from ! (stop !)) (init ! 18 refl (typed 𝓤 H A W Ft.the-type Ft′.the-laws g g-is .0)) $
+        land ! (from ! (stop !)) (init ! 18 refl (LL.lawful Ft.the-type Ft′.the-laws 𝓤 H A W .typed g _ g-is .0)) $
         -- what is refused, and what is written
         sets ! (of-opd ! (field-of ! 26 refl refl refl)) (store ! 6 refl (tt, record { fits = gd .0 })) $
         calls-plain refusing.ended (refusing.clauses 𝓤 H A mem run) (to-refusing r g r-is g-is) tt (asks-refusing r g r-is g-is) (λ t. refusalOf t ≡ refusalBy r g (length (now d))) (λ t us. id⊢ 𝓤 _) F′.lowered (F′.lowers .val-is) ! fm (known .1 .1 .0)
-        (and-then ! (its ! 22 refl) (and-then ! (its ! 18 refl) (and-then ! (its ! 6 refl) (no-more !)))) (λ t et t-is. land ! (from ! (stop !)) (init ! 16 refl (typed 𝓤 H A W F.the-type F′.the-laws t t-is .0)) $
+        (and-then ! (its ! 22 refl) (and-then ! (its ! 18 refl) (and-then ! (its ! 6 refl) (no-more !)))) (λ t et t-is. land ! (from ! (stop !)) (init ! 16 refl (LL.lawful F.the-type F′.the-laws 𝓤 H A W .typed t _ t-is .0)) $
         calls-plain parting.ended (parting.clauses 𝓤 H A mem run) (to-parting t t-is i gi) tt (asks-parting t t-is i gi) (λ x. x ≡ partBy t i) (λ x us. id⊢ 𝓤 _) Pt′.lowered (Pt′.lowers .val-is) ! fm (known .1 .1 .1 .0)
-        (and-then ! (its ! 16 refl) (and-then ! (its ! 28 refl) (no-more !))) (λ x ex x-is. land ! (from ! (stop !)) (init ! 14 refl (typed 𝓤 H A W Pt.the-type Pt′.the-laws x x-is .0)) $
+        (and-then ! (its ! 16 refl) (and-then ! (its ! 28 refl) (no-more !))) (λ x ex x-is. land ! (from ! (stop !)) (init ! 14 refl (LL.lawful Pt.the-type Pt′.the-laws 𝓤 H A W .typed x _ x-is .0)) $
         sets ! (addr ! (from ! (fld ! refl (hop ! (look-in ! 26 (sub ! 0 refl (whole !))) (stop !))))) (init ! 2 refl (tt, tt)) $
         sets ! (agg ! (and-then ! (its ! 2 refl) (and-then ! (field-of ! 26 refl refl refl) (no-more !)))) (init ! 0 refl (tt, (tt, (record { fits = gd .0 }, tt)))) $
         lifts ! 40 refl $ lifts ! 42 refl $ uses ! (For-writer l₆ (r .rules) zs μ ε x x-is) (raw (Writer .pre (to-writer l₆ (r .rules) zs μ ε x x-is))) (asks-writer l₆ (r .rules) zs μ ε x x-is (ready zs r h g eg t et x ex)) $

@@ -16,7 +16,7 @@ use Rattle.spec_order.specs.Order.{Answer, Verdict, holds, broken, full, spent}
 use Rattle.spec_calls.specs.Checking.{Settings, journalLimit, journalFault, orderOn, checkOf, keptBy, journalAfter, shown}
 use Rattle.spec_calls.specs.Promising.{promises, broken-word, broken-writes}
 use Rattle.spec_calls.specs.Replies.{Reply, refused, answered, unless}
-use Rattle.spec_calls.specs.Writing.{roomFault, writeOf, writtenBy, bufferAfter}
+use Rattle.spec_calls.specs.Writing.{roomFault, writtenBy, bufferAfter}
 use Rattle.spec_calls.specs.Codes.{firstAnswerCode, holdsCode, brokenCode, fullCode, verdictCode, codeBy}
 use Rattle.host_check.specs.Details.{zeroRow, answerCode, rowAfter, lastThree, detailsOf, shownBy, shownOf}
 use Rattle.bolfrega.specs.BrokenLaws.{if-broken-same}
@@ -66,9 +66,6 @@ module _ (bs old : List ℕ) (a : Answer ℕ) where
 module _ (bs old : List ℕ) (g : Settings) (rows : List (Row ℕ)) (size : length rows ≡ g .rows) (a : Answer ℕ) (e : checkOf bs g ≡ answered a) where
   abbrev after : List (Row ℕ)
   after = journalAfter bs g rows
-
-  abbrev wrote : Reply ℕ
-  wrote = writeOf bs after (a .used) (a .row) (length old)
 
   row-same : a .verdict ≡ broken → rowAfter after (a .row) ≡ brokenRow a
   unfolding journalAfter

@@ -13,7 +13,7 @@ use Rattle.spec_basics.specs.Tests.{iff-equal}
 use Rattle.relation.specs.Digits.{bit}
 use Rattle.relation.specs.DigitLaws.{ext}
 use Rattle.spec_language.specs.Grammar.{Production}
-use Rattle.spec_calls.specs.Recognizing.{runLimit, rowStart, cell, stretchCells, TableShows}
+use Rattle.spec_calls.specs.Recognizing.{runLimit, rowStart, cell, TableShows}
 use Rattle.member_laws.specs.CellLaws.{row-last}
 
 -- every cell is one of a stretch

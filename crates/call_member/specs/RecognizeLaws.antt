@@ -1,5 +1,5 @@
 -- What a file, a run and a table that are not refused have; and the answers of the call. Assumes nothing.
-use mathlib.Core.Path.{_≡_, refl, sym, ap, _∙_, subst}
+use mathlib.Core.Path.{_≡_, sym, ap, _∙_, subst}
 use mathlib.Core.Bool.{Bool, true, false, not, cond}
 use mathlib.Core.List.{List, [], _∷_}
 use Prim.Native.Nat.{ℕ, zero, suc, _+_, _-_, _≤_, _<_}
@@ -22,7 +22,7 @@ use Rattle.spec_file.specs.RefusalLaws.{number-some, number-none, not-held, non
 use Rattle.spec_file.specs.Views.{rulesOf, productionsOf}
 use Rattle.spec_file.specs.EntryLaws.{rules-length, rule-read}
 use Rattle.spec_file.specs.Ranges.{rule-in-range}
-use Rattle.spec_calls.specs.Replies.{Reply, refused, answered, unless}
+use Rattle.spec_calls.specs.Replies.{refused, answered, unless}
 use Rattle.spec_calls.specs.ReplyLaws.{reply-first}
 use Rattle.spec_calls.specs.Judging.{wordFault}
 use Rattle.spec_calls.specs.Recognizing.{runLimit, rowStart, cell, stretchCells, TableShows, runFault, tableFault, recognizeRefusals, recognizeOf, RecognizeMeans}

@@ -8,8 +8,8 @@ use native.Mathlib.Omega.{arith}
 use lib.Dec.{eqb, leb, ltb}
 use lib.ListN.{length, replicate}
 use lib.Pow.{pow-pos}
-use borrow.Author.Tests.{eq-eqb, ne-eqb, leb-true, leb-false, le-leb, lt-leb, lt-ltb, le-ltb, ltb-true, ltb-false}
-use Rattle.spec_basics.specs.Tests.{eqb-comm, and-fst, and-snd, iff-equal}
+use borrow.Author.Tests.{eq-eqb, ne-eqb, leb-true, leb-false, le-leb, lt-leb, lt-ltb, le-ltb, ltb-true}
+use Rattle.spec_basics.specs.Tests.{eqb-comm, iff-equal}
 use Rattle.spec_basics.specs.Lists.{any-append}
 use Rattle.relation.specs.Relation.{states, has, identity, insert}
 use Rattle.relation.specs.RelationLaws.{has-table, ext-has, has-empty, insert-lt, has-insert}

@@ -2,8 +2,8 @@
 use mathlib.Core.Path.{_≡_, refl, sym, ap, _∙_, subst}
 use mathlib.Core.Logic.{_⊎_, inl, inr}
 use mathlib.Core.Bool.{Bool, true, false, _&&_, cond, false≢true}
-use mathlib.Core.List.{List, [], _∷_, map}
-use Prim.Native.Nat.{ℕ, zero, suc, _+_, _-_, _*_, _^_, _≤_, _<_, zero-le}
+use mathlib.Core.List.{List, [], map}
+use Prim.Native.Nat.{ℕ, zero, suc, _+_, _-_, _^_, _≤_, _<_, zero-le}
 use native.Mathlib.Nat.{eq-or-lt-of-le}
 use native.Mathlib.Omega.{arith}
 use lib.Dec.{eqb, leb, ltb}
@@ -28,7 +28,7 @@ use Rattle.member_laws.specs.SliceLaws.{slice-letter, slice-one}
 use Rattle.member_laws.specs.SetLaws.{null-complete, cell-complete}
 use Rattle.member_laws.specs.RoundLaws.{in-row}
 use Rattle.member_laws.specs.CellLaws.{cell-low, cell-own}
-use Rattle.member_laws.specs.Spans.{endCells, spanCells, Derived, RightEnds, RightStarts, Marks, endsOf, startsOf, meets, splits, SplitHeads, Exact}
+use Rattle.member_laws.specs.Spans.{endCells, spanCells, Derived, RightStarts, Marks, endsOf, startsOf, meets, SplitHeads, Exact}
 use Rattle.member_laws.specs.Filling.{Prepared, BaseOf, Done, DoneFrom, RowKnown, FullStarts, Filled}
 
 -- a nonterminal that derives something is the head of a rule

@@ -14,7 +14,6 @@ use Rattle.spec_language.specs.Grammar.{Symbol, terminal, nonterminal, Rule}
 use Rattle.spec_file.specs.Limits.{nonterminals}
 use Rattle.spec_file.specs.Views.{symbolOf}
 use Rattle.spec_file.specs.Entries.{entryOf}
-use Rattle.spec_calls.specs.Recognizing.{runLimit}
 use Rattle.member_laws.specs.Sets.{DerivesBy, AllDerive}
 
 -- ---- the cells

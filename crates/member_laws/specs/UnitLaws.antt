@@ -3,18 +3,15 @@ use mathlib.Core.Path.{_≡_, refl, sym, ap, _∙_, subst}
 use mathlib.Core.Logic.{_⊎_, inl, inr}
 use mathlib.Core.Bool.{Bool, true, false, _||_, false≢true}
 use mathlib.Core.List.{List}
-use Prim.Native.Nat.{ℕ, _+_, _^_, _≤_, _<_}
-use native.Mathlib.Nat.{eq-or-lt-of-le, lt-of-lt-of-le}
+use Prim.Native.Nat.{ℕ, _+_, _≤_, _<_}
+use native.Mathlib.Nat.{eq-or-lt-of-le}
 use native.Mathlib.Omega.{arith}
 use lib.Bits.{bitOr, or-add-and, and-le-r}
-use lib.Dec.{ltb}
 use lib.ListN.{length, getD, set}
-use lib.Pow.{pow-mono}
 use lib.Seq.{getD-set-same, getD-set-other}
-use borrow.Author.Tests.{ltb-true, ltb-false}
 use Rattle.spec_basics.specs.Tests.{or-left, or-right}
 use Rattle.relation.specs.Digits.{bit}
-use Rattle.relation.specs.DigitLaws.{bit-or, bit-zero, bit-beyond}
+use Rattle.relation.specs.DigitLaws.{bit-or, bit-zero}
 use Rattle.spec_file.specs.Limits.{nonterminals}
 use Rattle.member_laws.specs.Sets.{with, Reaches, start, onward, ClosureOf, UnionOf}
 use Rattle.member_laws.specs.RoundLaws.{with-own, with-only}

@@ -7,7 +7,6 @@ use spec_file::NONTERMINALS;
 use spec_file::SYMBOL_BYTES;
 use spec_file::TERMINALS;
 ghost use mathlib.Core.Path.{_≡_};
-ghost use mathlib.Core.Bool.{cond};
 ghost use mathlib.Core.List.{map};
 ghost use Prim.Native.Nat.{_+_, _≤_, _<_};
 ghost use lib.ListN.{length, getD, set as put};

@@ -8,18 +8,13 @@ use native.Mathlib.Nat.{mul-one}
 use native.Mathlib.Omega.{arith}
 use lib.Dec.{eqb}
 use lib.ListN.{length, getD, set, replicate, length-set, List·getD-eq-default}
-use lib.Seq.{ext-getD, getD-set-same, getD-set-other, set-out}
+use lib.Seq.{ext-getD, getD-set-same, getD-set-other}
 use borrow.Author.Tests.{eqb-true, eqb-false}
 use Rattle.spec_basics.specs.Elements.{every}
 use Rattle.spec_basics.specs.Lists.{length-every, getD-every, every-one, every-same}
 use Rattle.relation.specs.Relation.{states}
 use Rattle.relation.specs.Representation.{value}
 use Rattle.relation.specs.Stored.{relationWords, relationIn, withRelation, relationsOf}
-
--- nothing is stored past the table's end
-pub with-past : (table : List ℕ) (i x : ℕ) → length table ≤ i * relationWords → withRelation table i x ≡ table
-unfolding withRelation
-with-past table i x h = set-out table i x (omega arith)
 
 module _ (f : ℕ → ℕ) (k : ℕ) where
   pub relations-length : length (relationsOf f k) ≡ k * relationWords

@@ -1,16 +1,15 @@
 -- The walk over a file goes by steps with running counts: the laws behind the record step and the refusal of a file. Assumes nothing.
 use mathlib.Core.Path.{_≡_, refl, sym, ap, ap₂, _∙_}
-use mathlib.Core.Bool.{Bool, true, false, not, cond}
+use mathlib.Core.Bool.{Bool, true, false, cond}
 use mathlib.Core.List.{List}
-use Prim.Native.Nat.{ℕ, zero, suc, _+_, _-_, _*_, _%_, _≤_, _<_}
+use Prim.Native.Nat.{ℕ, zero, suc, _+_, _-_, _*_, _≤_, _<_}
 use native.Mathlib.Nat.{sub-zero, add-zero}
 use native.Mathlib.Numerals.{add-one}
 use native.Mathlib.Omega.{arith}
-use lib.Dec.{eqb, leb, ltb}
-use lib.ListN.{length, take, length-take}
+use lib.Dec.{eqb, leb}
+use lib.ListN.{take, length-take}
 use lib.Seq.{getD-take}
 use borrow.Author.Tests.{leb-true, leb-false, eqb-true, eq-eqb, ne-eqb, le-leb}
-use Rattle.spec_file.specs.Limits.{recordLimit}
 use Rattle.spec_file.specs.Records.{recordCount, recordAt, kindAt, ruleKind, transitionKind, countOf, countIn, Record, ruleRecord, transitionRecord, finalRecord, recordBy, recordOf}
 use Rattle.spec_file.specs.Refusals.{Refusal, refuse, lengthFault, faultBy, faultAt, faultAtIn, orNext, faultFrom, faultFromIn, fault, faultIn}
 use Rattle.spec_file.specs.Reading.{ReaderStep, gives, refuses, ended, unlessRefused, stepFrom}

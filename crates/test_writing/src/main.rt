@@ -2,6 +2,7 @@
 // The stored output is what document 01 asks for (numbers 8, 9 and 10, "a row fits if", "Writing a run").
 use call_write::Writing;
 use relation::Relation;
+use spec_calls::ABSENT;
 use spec_calls::Options;
 use spec_calls::Row;
 use test_damaged::write_damaged;
@@ -22,9 +23,6 @@ const BUDGET: u64 = 1000000;
 const BUFFER: usize = 65536;
 
 const MARK: u8 = 200;
-
-// A row number that names no row.
-const ABSENT: u64 = 65535;
 
 // What is asked of writing: rows lent and used, the row named, and the bytes of the buffer lent.
 struct Asked {

@@ -1,6 +1,5 @@
 -- By the record's kind and its letter; below the remarks a pair is inserted into the letter's relation. Assumes nothing.
 use mathlib.Core.Path.{sym, ap, _∙_}
-use native.Mathlib.Omega.{arith}
 use borrow.Author.Needs.{needs}
 use borrow.Author.Tests.{not-true, not-false}
 use Rattle.relation.specs.declared.Relation.{Relation}

@@ -1,60 +1,64 @@
 -- The number of the answer picks the same lines in code and definition. Assumes nothing.
-use mathlib.Core.Path.{ap, _∙_}
+use mathlib.Core.Path.{_≡_, ap, _∙_}
 use mathlib.Core.List.{List}
-use Prim.Native.Nat.{ℕ}
+use Prim.Native.Nat.{ℕ, _+_, _*_, _≤_}
 use native.Mathlib.Omega.{arith}
-use Rattle.host_page.specs.Page.{page, puts}
+use lib.ListN.{length}
+use Rattle.host_page.specs.Page.{Page, page, puts}
+use Rattle.host_result.specs.declared.CheckResult.{CheckResult}
+use Rattle.host_lines.specs.Lines.{toldText}
 use Rattle.host_lines.specs.LengthLaws.{Machine, told-long}
 use Rattle.host_lines.specs.LineLaws.{told-holds, told-full, told-spent, told-broken, told-refused}
 use borrow.Author.Needs.{needs}
 use Rattle.host_lines.proofs.put_told.Statement.{statement}
 use Rattle.host_lines.proofs.put_told.Tie as tie
 
-machine : (c : tie.After-struct-known) → Machine (c .before .before .before .args .told) (c .before .before .before .args .buffer .now)
-machine c =
-    record {
-      code = search needs;
-      joins = search needs;
-      used = search needs;
-      pass = search needs;
-      row = search needs;
-      pairs = search needs;
-      length = search needs;
-      refused = search needs;
-      steps = λ i. omega (arith, c .before .shared-slice-known .given i);
-    }
+module _ (known : tie.After-struct-known) where
+  abbrev told : CheckResult
+  told = known .before .before .before .args .told
+
+  abbrev buffer : List ℕ
+  buffer = known .before .before .before .args .buffer .now
+
+  machine : Machine told buffer
+  machine =
+      record {
+        code = search needs;
+        joins = search needs;
+        used = search needs;
+        pass = search needs;
+        row = search needs;
+        pairs = search needs;
+        length = search needs;
+        refused = search needs;
+        steps = λ i. omega (arith, known .before .shared-slice-known .given i);
+      }
+
+  -- on the page as it was
+  abbrev start : Page
+  start = page 0 (known .before .before .before .args .text .now)
+
+  -- the lines that were put are those of the answer
+  answers : {lines : List ℕ} {p : Page} → p ≡ puts lines start → lines ≡ toldText told buffer → (p ≡ puts (toldText told buffer) start) × (length (toldText told buffer) ≤ 163 + length buffer * 4)
+  answers put same = (put ∙ ap (λ (xs : List ℕ). puts xs start) same, told-long told buffer machine)
 
 returns : tie.Need-returns
 returns c =
     let first = c .before .before .before .before .before in
-    let known = first .before in
-    let a = known .before .before .before .args in (
-      c .before .before .put-totals .ensures ∙ ap (λ (xs : List ℕ). puts xs (page 0 (a .text .now))) (told-holds (a .told) (a .buffer .now) (first .if1 .taken)),
-      told-long (a .told) (a .buffer .now) (machine known),
-    )
+    answers (first .before) (c .before .before .put-totals .ensures) (told-holds _ _ (first .if1 .taken))
 
 returns-2 : tie.Need-returns-2
 returns-2 c =
     let second = c .before .before .before .before .before in
     let first = second .before .before in
-    let known = first .before in
-    let a = known .before .before .before .args in (
-      c .before .before .put-totals2 .ensures
-          ∙ ap (λ (xs : List ℕ). puts xs (page 0 (a .text .now))) (told-full (a .told) (a .buffer .now) (first .if1 .left) (second .if2 .taken)),
-      told-long (a .told) (a .buffer .now) (machine known),
-    )
+    answers (first .before) (c .before .before .put-totals2 .ensures) (told-full _ _ (first .if1 .left) (second .if2 .taken))
 
 returns-3 : tie.Need-returns-3
 returns-3 c =
     let third = c .before .before .before .before .before in
     let second = third .before .before in
     let first = second .before .before in
-    let known = first .before in
-    let a = known .before .before .before .args in (
-      c .before .before .put-totals3 .ensures
-          ∙ ap (λ (xs : List ℕ). puts xs (page 0 (a .text .now))) (told-spent (a .told) (a .buffer .now) (first .if1 .left) (second .if2 .left) (third .if3 .taken)),
-      told-long (a .told) (a .buffer .now) (machine known),
-    )
+    answers (first .before) (c .before .before .put-totals3 .ensures) (told-spent _ _ (first .if1 .left) (second .if2 .left) (third .if3 .taken))
 
 returns-4 : tie.Need-returns-4
 returns-4 c =
@@ -62,13 +66,7 @@ returns-4 c =
     let third = fourth .before .before in
     let second = third .before .before in
     let first = second .before .before in
-    let known = first .before in
-    let a = known .before .before .before .args in (
-      c .before .before .put-broken .ensures
-          ∙ ap (λ (xs : List ℕ). puts xs (page 0 (a .text .now)))
-          (told-broken (a .told) (a .buffer .now) (first .if1 .left) (second .if2 .left) (third .if3 .left) (fourth .if4 .taken)),
-      told-long (a .told) (a .buffer .now) (machine known),
-    )
+    answers (first .before) (c .before .before .put-broken .ensures) (told-broken _ _ (first .if1 .left) (second .if2 .left) (third .if3 .left) (fourth .if4 .taken))
 
 returns-5 : tie.Need-returns-5
 returns-5 c =
@@ -76,13 +74,7 @@ returns-5 c =
     let third = fourth .before .before in
     let second = third .before .before in
     let first = second .before .before in
-    let known = first .before in
-    let a = known .before .before .before .args in (
-      c .before .before .put-refused .ensures
-          ∙ ap (λ (xs : List ℕ). puts xs (page 0 (a .text .now)))
-          (told-refused (a .told) (a .buffer .now) (first .if1 .left) (second .if2 .left) (third .if3 .left) (fourth .if4 .left)),
-      told-long (a .told) (a .buffer .now) (machine known),
-    )
+    answers (first .before) (c .before .before .put-refused .ensures) (told-refused _ _ (first .if1 .left) (second .if2 .left) (third .if3 .left) (fourth .if4 .left))
 
 pub put-told-spec : {M : Type 1} → statement M
 put-told-spec =

@@ -19,7 +19,7 @@ use types.Kit.{Given, Item, ‵, raw, _⊛_, ⋆, _$_, _∵_, !, qed, by, move, 
 use types.Part.{whole, sub, look-in, agg}
 use types.Run.{look, init, store-raw, stop, hop, fld, from, lit, addr, bin, and-then, no-more, land}
 use sound.WpLaws.{fmOf}
-use denote.Builtin.{u8, u64, usize}
+use denote.Builtin.{u8, usize}
 use denote.Enum.Laws as EL
 use denote.Laws.{Is}
 use denote.Plain.{uint-tells}

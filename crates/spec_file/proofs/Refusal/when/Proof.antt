@@ -1,5 +1,4 @@
 -- By the test. Assumes nothing.
-use mathlib.Core.Path.{_∙_}
 use borrow.Author.Needs.{needs}
 use Rattle.spec_file.proofs.Refusal.when.Statement.{statement}
 use Rattle.spec_file.proofs.Refusal.when.Tie as tie

@@ -3,7 +3,7 @@
 //! Many rest on groups of mappings of the eight stages: no mapping contains another, so that a group of n gives n live rows, and the
 //! number of joins can be told beforehand.
 
-use plain::making::{procedure, Making, Numbers};
+use plain::making::{plan_a, plan_b, procedure, Making, Numbers};
 use plain::FIRST_REMARK;
 
 /// A file and what it is checked with.
@@ -55,8 +55,8 @@ const FIRST_DOUBLE: u8 = FIRST_REMARK - 8;
 /// All files of the table.
 pub fn all() -> Vec<Case> {
     vec![
-        plan_a(),
-        plan_b(),
+        Case::new("plan-a", &plan_a()),
+        Case::new("plan-b", &plan_b()),
         nothing_but_codes(),
         chain(),
         Case::new("ring-64", &ring(256)),
@@ -104,27 +104,6 @@ pub fn by_moves() -> Vec<Case> {
         Case::new(&format!("{} moves", making.count(2)), &making)
     };
     [3, 32, 64, FIRST_REMARK].map(with).into()
-}
-
-/// Plan A of document 01 with its sheet S.
-fn plan_a() -> Case {
-    Case::new("plan-a", &sheet_and_plan_a())
-}
-
-/// Plan B of document 01 with its sheet S.
-fn plan_b() -> Case {
-    Case::new("plan-b", sheet_and_plan_a().rule(2, &[procedure(1)]))
-}
-
-fn sheet_and_plan_a() -> Making {
-    let mut making = Making::new();
-    making.step(0, 1, 1).step(0, 3, 2).step(1, 2, 0).finishing(2);
-    making
-        .rule(0, &[procedure(1), 3])
-        .rule(1, &[])
-        .rule(1, &[1, procedure(2)])
-        .rule(2, &[2, procedure(1)]);
-    making
 }
 
 /// 128 codes, remarks among them, each in two rules of its own: two passes, and two or three live rows for each of 64 procedures.

@@ -4,37 +4,12 @@ mod common;
 
 use bolfrega::{check, judge, refusal, Judgement, Refusal, Verdict};
 use common::{checking, judging, reading};
-use plain::making::{procedure, Making};
+use plain::making::{plan_a, plan_b, procedure, sheet_s, Making};
 use plain::FIRST_REMARK;
 
 const PLAN_A: &[u8] = include_bytes!("../../samples/plan-a.plan");
 const PLAN_B: &[u8] = include_bytes!("../../samples/plan-b.plan");
 const REMARKS: &[u8] = include_bytes!("../../samples/remarks.plan");
-
-/// Sheet S: code 1 writes a tile row, 2 an index row, 3 closes.
-fn sheet_s() -> Making {
-    let mut making = Making::new();
-    making.step(0, 1, 1).step(0, 3, 2).step(1, 2, 0).finishing(2);
-    making
-}
-
-/// Plan A with sheet S.
-fn plan_a() -> Making {
-    let mut making = sheet_s();
-    making
-        .rule(0, &[procedure(1), 3])
-        .rule(1, &[])
-        .rule(1, &[1, procedure(2)])
-        .rule(2, &[2, procedure(1)]);
-    making
-}
-
-/// Plan B with sheet S.
-fn plan_b() -> Making {
-    let mut making = plan_a();
-    making.rule(2, &[procedure(1)]);
-    making
-}
 
 /// Plan A with sheet S, and a remark before each index row: 2 gives a remark and 3, and 3 gives what 2 gave.
 fn plan_a_with_a_remark() -> Making {

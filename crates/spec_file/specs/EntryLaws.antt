@@ -28,13 +28,14 @@ module _ (bs : List ℕ) (v : fault bs .number ≡ 0) where
   pub transitions-read : transitionsOf bs ≡ every (λ i. automatonTransition (transitionAt bs i)) (transitionCount bs) (ruleCount bs)
   transitions-read = transitions-listed bs v ∙ read transitionOf (transitionCount bs) (ruleCount bs) (omega (arith, counts-le bs (recordCount bs)))
 
+  -- a theorem for a caller of the views, which nothing here cites
   pub finals-read : finalsOf bs ≡ every (finalAt bs) (finalCount bs) (ruleCount bs + transitionCount bs)
   finals-read = finals-listed bs v ∙ read finalOf (finalCount bs) (ruleCount bs + transitionCount bs) (omega (arith, counts-le bs (recordCount bs)))
 
   pub rules-length : length (rulesOf bs) ≡ ruleCount bs
   rules-length = ap length rules-read ∙ length-every (λ i. grammarRule (ruleAt bs i)) (ruleCount bs) 0
 
-  -- rule i of the grammar is record i of the file; like `finals-read` a theorem for a caller of the views, which nothing here cites
+  -- rule i of the grammar is record i of the file
   pub rule-read : (i : ℕ) → i < ruleCount bs → getD (rulesOf bs) i noRule ≡ grammarRule (ruleAt bs i)
   rule-read i h =
       let z : 0 + i ≡ i = omega arith in

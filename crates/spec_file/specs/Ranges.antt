@@ -1,5 +1,5 @@
 -- The bytes that the records of a file that is not refused use are in their ranges (document 01, number 4). Theorems for a caller of the views;
--- nothing here cites the last three. Assumes nothing.
+-- nothing here cites the last two. Assumes nothing.
 use mathlib.Core.Path.{_≡_, sym, ap, _∙_, subst}
 use mathlib.Core.Bool.{Bool, true, false, _&&_, _||_}
 use mathlib.Core.List.{List}

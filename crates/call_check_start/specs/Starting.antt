@@ -26,7 +26,7 @@ waiting g n finals =
       going = false;
       «left_row» = 0;
       «right_row» = 0;
-      terms = record { budget = g .budget; finals = finals; pass = 1; «rows_at_pass_start» = 0; «rows_at_previous_start» = 0 };
+      terms = record { budget = g .budget; finals = finals; pass = 1; present = 0; old = 0 };
       counts = record { used = 0; joins = 0; added = 0 };
       place = record { rule = 0; left = 0; right = 0 };
       rows = g .rows;

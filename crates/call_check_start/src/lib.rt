@@ -32,8 +32,8 @@ fn wait(rows: usize, rules: usize, options: Options, finals: StateSet) -> State
             budget: options.budget,
             finals,
             pass: 1,
-            rows_at_pass_start: 0,
-            rows_at_previous_start: 0,
+            present: 0,
+            old: 0,
         },
         counts: Counts {
             used: 0,

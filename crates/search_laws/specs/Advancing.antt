@@ -175,7 +175,7 @@ module _ {letters : Letters} {rules : RuleBytes} {start : State} {j₀ : Journal
         passes = record {
           table = cells;
           count = omega (arith, at .count, length-take (start .rules) rules);
-          old = omega (arith, ap (λ (b : Terms). b .«rows_at_previous_start») (go .begun .terms), go .begun .fits);
+          old = omega (arith, ap (λ (b : Terms). b .old) (go .begun .terms), go .begun .fits);
           places = subst₂ (λ (lists : List ℕ) (k : ℕ). PassFrom lists (take k rules) (s .place)) (sym (x .inserted .lists)) (sym rules-same) (go .in-pass .places);
         };
         links = record {
@@ -183,7 +183,7 @@ module _ {letters : Letters} {rules : RuleBytes} {start : State} {j₀ : Journal
           size = rows-length rowOf (countsIn became .used) j (omega (arith, used, x .inserted .size)) ∙ ap (λ (o : Outcome). countsIn o .used) (sym decided-so);
           covering = decided-right .1;
         };
-        start = omega (arith, ap (λ (b : Terms). b .«rows_at_pass_start») (go .begun .terms), go .in-pass .left .grows, room, few);
+        start = omega (arith, ap (λ (b : Terms). b .present) (go .begun .terms), go .in-pass .left .grows, room, few);
         pass = omega (arith, ap (λ (b : _). b .pass) (go .begun .terms), go .begun .at-pass .count, go .begun .at-pass .room, sized (x .running) (x .going) .limit);
         room = omega (arith, room, at .rows, at .size);
         limit = omega (arith, at .rows, sized (x .running) (x .going) .limit);

@@ -142,13 +142,13 @@ pub record InPass (b : Terms) (P : Problem) (first : Counts) (j₁ : Journal) (t
   pub candidates : List order.Candidate
   pub stands : LeftFrom (composingIn P) (rowOf blank) rows (P .rules) (listsIn t) p candidates
   pub points : (c : order.Candidate) → In c candidates → Repeats (length rows) c
-  pub known : Known (b .«rows_at_previous_start») candidates (firstRows (w .used) j)
+  pub known : Known (b .old) candidates (firstRows (w .used) j)
   pub left : Remaining (b .budget) (passIn b P first j₁) (walkIn b (length j₁) candidates (progressOf w j)) first j₁ w j
   pub limit : length j₁ ≤ journalLimit
   pub covering : Covering (firstRows (w .used) j) t
 
 pub pass-start : {b : Terms} {P : Problem} {first : Counts} {j₁ : Journal} {t : List ℕ} {p : Place} → Listed (firstRows (first .used) j₁) (listsIn t) → PassReady b first j₁ t
-    → Known (b .«rows_at_previous_start») (candidatesIn P (firstRows (first .used) j₁)) (firstRows (first .used) j₁) → FirstPlace (listsIn t) (P .rules) 0 p → InPass b P first j₁ t first j₁ p
+    → Known (b .old) (candidatesIn P (firstRows (first .used) j₁)) (firstRows (first .used) j₁) → FirstPlace (listsIn t) (P .rules) 0 p → InPass b P first j₁ t first j₁ p
 pass-start {b} {P} {first} {j₁} {t} {p} l r k o =
     let A = firstRows (first .used) j₁ in
     record {
@@ -184,7 +184,7 @@ module _ {b : Terms} {P : Problem} {first : Counts} {j₁ : Journal} {t : List �
     abbrev Next : order.Candidate → List order.Candidate → Type 0
     Next d ds = (d ≡ c) × ((q : Place) → NextPlace (listsIn t) (P .rules) p q → LeftFrom (composingIn P) (rowOf blank) (g .rows) (P .rules) (listsIn t) q ds)
         × Rest (d ∷ ds)
-        × Known (b .«rows_at_previous_start») (d ∷ ds) (firstRows (w .used) j)
+        × Known (b .old) (d ∷ ds) (firstRows (w .used) j)
         × ((f : order.Candidate) → In f (d ∷ ds) → Repeats (length (g .rows)) f)
 
     few : w .used ≤ absent
@@ -193,7 +193,7 @@ module _ {b : Terms} {P : Problem} {first : Counts} {j₁ : Journal} {t : List �
     next : (d : order.Candidate) × (ds : List order.Candidate) × Next d ds
     next = by (g .candidates) (g .stands) (g .left) (g .known) (g .points)
       where
-        by : (cs : List order.Candidate) → LeftFrom (composingIn P) (rowOf blank) (g .rows) (P .rules) (listsIn t) p cs → Rest cs → Known (b .«rows_at_previous_start») cs (firstRows (w .used) j) → ((f : order.Candidate) → In f cs → Repeats (length (g .rows)) f) → (d : order.Candidate) × (ds : List order.Candidate) × Next d ds
+        by : (cs : List order.Candidate) → LeftFrom (composingIn P) (rowOf blank) (g .rows) (P .rules) (listsIn t) p cs → Rest cs → Known (b .old) cs (firstRows (w .used) j) → ((f : order.Candidate) → In f cs → Repeats (length (g .rows)) f) → (d : order.Candidate) × (ds : List order.Candidate) × Next d ds
         by [] z l k m = absurd (z h)
         by (d ∷ ds) z l k m = (
           d,
@@ -210,10 +210,10 @@ module _ {b : Terms} {P : Problem} {first : Counts} {j₁ : Journal} {t : List �
         )
 
     -- it would be dropped, if the pass before formed it
-    there : 0 < b .«rows_at_previous_start» → Repeats (b .«rows_at_previous_start») c → dropped contained c (firstRows (w .used) j) ≡ true
-    there z y = subst (λ (d : order.Candidate). dropped contained d (firstRows (w .used) j) ≡ true) (next .2 .0) (next .2 .3 z (next .0) (inl refl) (subst (Repeats (b .«rows_at_previous_start»)) (sym (next .2 .0)) y))
+    there : 0 < b .old → Repeats (b .old) c → dropped contained c (firstRows (w .used) j) ≡ true
+    there z y = subst (λ (d : order.Candidate). dropped contained d (firstRows (w .used) j) ≡ true) (next .2 .0) (next .2 .3 z (next .0) (inl refl) (subst (Repeats (b .old)) (sym (next .2 .0)) y))
 
-    others : Known (b .«rows_at_previous_start») (next .1) (firstRows (w .used) j)
+    others : Known (b .old) (next .1) (firstRows (w .used) j)
     others z d m e = next .2 .3 z d (inr m) e
 
     module _ {j′ : Journal} (s : length j′ ≡ length j) {r : Outcome} (a : Answers (b .budget) (considerIn b (length j) c (progressOf w j)) w j j′ r) where
@@ -240,17 +240,17 @@ module _ {b : Terms} {P : Problem} {first : Counts} {j₁ : Journal} {t : List �
             candidates = next .1;
             stands = subst (λ (lists : List ℕ). LeftFrom (composingIn P) (rowOf blank) (g .rows) (P .rules) lists q (next .1)) (sym u) (next .2 .1 q (subst (λ (lists : List ℕ). NextPlace lists (P .rules) p q) u f));
             points = λ d m. next .2 .4 d (inr m);
-            known = consider-goes b (length j) (λ y. Known (b .«rows_at_previous_start») (next .1) (y .rows)) c (progressOf w j) (progressOf w′ j′) (x .answer) others (λ z d m e. dropped-added (algebraOf P) (problem-laws P) (b .pass) c d (firstRows (w .used) j) (others z d m e));
+            known = consider-goes b (length j) (λ y. Known (b .old) (next .1) (y .rows)) c (progressOf w j) (progressOf w′ j′) (x .answer) others (λ z d m e. dropped-added (algebraOf P) (problem-laws P) (b .pass) c d (firstRows (w .used) j) (others z d m e));
             left = remaining-going (next .2 .2) (considerIn b (length j) c (progressOf w j)) (walkIn b (length j₁) (next .1)) split j′ s w′ x;
             limit = g .limit;
             covering = subst (λ (o : Outcome). Covering (firstRows (countsIn o .used) j′) t′) z v;
           }
 
   -- a candidate that the pass before formed is one join, and nothing else
-  pub pass-over : p .rule < length (P .rules) → w .joins < b .budget → repeatsAt (b .«rows_at_previous_start») p ≡ true → {q : Place} → NextPlace (listsIn t) (P .rules) p q
+  pub pass-over : p .rule < length (P .rules) → w .joins < b .budget → repeatsAt (b .old) p ≡ true → {q : Place} → NextPlace (listsIn t) (P .rules) p q
       → InPass b P first j₁ t (withJoin w) j q
   pass-over h paid e {q} f =
       let c : order.Candidate = candidateIn P (firstRows (w .used) j) p in
       let room : w .used ≤ length j = omega (arith, g .left .room, g .left .same) in
-      let z = formed-repeats (b .«rows_at_previous_start») (composingIn P) (firstRows (w .used) j) (P .rules) p e in
+      let z = formed-repeats (b .old) (composingIn P) (firstRows (w .used) j) (P .rules) p e in
       pass-going h {c = c} refl refl (answers-dropped b c w j room (g .left .paid) (λ y. omega (arith, y, paid)) (there h {c = c} refl (z .0) (z .1))) refl refl (g .covering) f

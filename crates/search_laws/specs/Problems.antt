@@ -48,7 +48,7 @@ problemIn b letters rules = record { letters = letters; rules = rules; finals = 
 
 -- and its terms in pass k, which began with u rows, after one that began with n, where B joins may be made
 abbrev pub termsOf : Problem → ℕ → ℕ → ℕ → ℕ → Terms
-termsOf P B k u n = record { budget = B; finals = P .finals; pass = k; «rows_at_pass_start» = u; «rows_at_previous_start» = n }
+termsOf P B k u n = record { budget = B; finals = P .finals; pass = k; present = u; old = n }
 
 -- as a new row the candidate breaks the check, under the terms b
 abbrev pub breakingIn : Terms → Candidate → Bool

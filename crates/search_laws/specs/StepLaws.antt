@@ -80,22 +80,22 @@ pub not-spent : (B n : ℕ) → not (isSpent B n) ≡ true → n < B
 not-spent B n e = leb-false B n (fails (leb B n) (not-excludes (leb B n) e))
 
 module _ (b : Terms) (n : ℕ) (x : Reached) (e : passesAt b n x ≡ true) where
-  rest-passes : (not (isSpent (b .budget) (x .counts .joins)) && repeatsAt (b .«rows_at_previous_start») (x .place)) ≡ true
-  rest-passes = and-snd (ltb (x .place .rule) n) (not (isSpent (b .budget) (x .counts .joins)) && repeatsAt (b .«rows_at_previous_start») (x .place)) e
+  rest-passes : (not (isSpent (b .budget) (x .counts .joins)) && repeatsAt (b .old) (x .place)) ≡ true
+  rest-passes = and-snd (ltb (x .place .rule) n) (not (isSpent (b .budget) (x .counts .joins)) && repeatsAt (b .old) (x .place)) e
 
   pub passes-here : x .place .rule < n
-  passes-here = ltb-true (x .place .rule) n (and-fst (ltb (x .place .rule) n) (not (isSpent (b .budget) (x .counts .joins)) && repeatsAt (b .«rows_at_previous_start») (x .place)) e)
+  passes-here = ltb-true (x .place .rule) n (and-fst (ltb (x .place .rule) n) (not (isSpent (b .budget) (x .counts .joins)) && repeatsAt (b .old) (x .place)) e)
 
   pub passes-paid : x .counts .joins < b .budget
-  passes-paid = not-spent (b .budget) (x .counts .joins) (and-fst (not (isSpent (b .budget) (x .counts .joins))) (repeatsAt (b .«rows_at_previous_start») (x .place)) rest-passes)
+  passes-paid = not-spent (b .budget) (x .counts .joins) (and-fst (not (isSpent (b .budget) (x .counts .joins))) (repeatsAt (b .old) (x .place)) rest-passes)
 
-  pub passes-again : repeatsAt (b .«rows_at_previous_start») (x .place) ≡ true
-  passes-again = and-snd (not (isSpent (b .budget) (x .counts .joins))) (repeatsAt (b .«rows_at_previous_start») (x .place)) rest-passes
+  pub passes-again : repeatsAt (b .old) (x .place) ≡ true
+  passes-again = and-snd (not (isSpent (b .budget) (x .counts .joins))) (repeatsAt (b .old) (x .place)) rest-passes
 
   -- so may that of another right which was there when the pass before began, if a join is left
-  passes-right : (m : ℕ) → m < b .«rows_at_previous_start» → x .counts .joins + 1 < b .budget → passesAt b n (withRight x (x .counts .joins + 1) m) ≡ true
+  passes-right : (m : ℕ) → m < b .old → x .counts .joins + 1 < b .budget → passesAt b n (withRight x (x .counts .joins + 1) m) ≡ true
   passes-right m hm hj =
-      let u = b .«rows_at_previous_start» in
+      let u = b .old in
       let left = isBefore u (x .place .left) in
       let both = left && isBefore u (x .place .right) in
       and-intro (ltb (x .place .rule) n) (not (isSpent (b .budget) (x .counts .joins + 1)) && (ltb 0 u && (left && isBefore u m))) (lt-ltb (x .place .rule) n passes-here)
@@ -109,7 +109,7 @@ module _ (t : List ℕ) (b : Terms) (x : Reached) where
   pub rights-none : PassesRights t b x x
   rights-none = moves-none x
 
-  pub rights-next : (n i m : ℕ) → b .«rows_at_previous_start» ≤ rowCells → PassesRights t b x (withRight x n i) → m ≡ afterIn (listsIn t) i → m < b .«rows_at_previous_start» → n < b .budget → PassesRights t b x (withRight x (n + 1) m)
+  pub rights-next : (n i m : ℕ) → b .old ≤ rowCells → PassesRights t b x (withRight x n i) → m ≡ afterIn (listsIn t) i → m < b .old → n < b .budget → PassesRights t b x (withRight x (n + 1) m)
   rights-next n i m l v em hm hn = moves-next v (m, em, λ z. omega (arith, z, hm, l), hm, hn, refl)
 
   -- r has the rule of x, and if x is a place of the pass, so is r, and no more of the pass is left from there

@@ -60,7 +60,7 @@ repeatsAt n p = ltb 0 n && (isBefore n (p .left) && isBefore n (p .right))
 
 -- the candidate of x may be passed over: its rule is one of the n, the budget leaves a join, and the pass before formed it
 abbrev pub passesAt : Terms → ℕ → Reached → Bool
-passesAt b n x = ltb (x .place .rule) n && (not (isSpent (b .budget) (x .counts .joins)) && repeatsAt (b .«rows_at_previous_start») (x .place))
+passesAt b n x = ltb (x .place .rule) n && (not (isSpent (b .budget) (x .counts .joins)) && repeatsAt (b .old) (x .place))
 
 -- k steps lead from x to r
 abbrev pub StepsTo : (Reached → Reached → Type 0) → ℕ → Reached → Reached → Type 0
@@ -77,7 +77,7 @@ withRight x n i = record { counts = record { used = x .counts .used; joins = n; 
 
 -- the next right is m, which is one of the rows that were there when the pass before began: its candidate is one join more
 abbrev pub RightStep : List ℕ → Terms → Reached → Reached → Type 0
-RightStep t b x r = (m : ℕ) × (m ≡ afterIn (listsIn t) (x .place .right)) × (m ≡ end → ⊥) × (m < b .«rows_at_previous_start») × (x .counts .joins < b .budget) × (r ≡ withRight x (x .counts .joins + 1) m)
+RightStep t b x r = (m : ℕ) × (m ≡ afterIn (listsIn t) (x .place .right)) × (m ≡ end → ⊥) × (m < b .old) × (x .counts .joins < b .budget) × (r ≡ withRight x (x .counts .joins + 1) m)
 
 -- the candidate of x is passed over, and r is at the place after it
 pub record OverStep (rules : RuleBytes) (t : List ℕ) (b : Terms) (x r : Reached) : Type 0 where
@@ -115,14 +115,14 @@ pub record LinksAlong (u : ℕ) (t : List ℕ) : Type 0 where
 pub record MayPass (rules : RuleBytes) (n : ℕ) (b : Terms) (t : List ℕ) (p : Place) : Type 0 where
   pub table : length t ≡ tableCells
   pub count : n ≤ length rules
-  pub old : b .«rows_at_previous_start» ≤ rowCells
+  pub old : b .old ≤ rowCells
   pub places : PassFrom (listsIn t) (take n rules) p
 
 -- a pass over the first n rules may begin, under the terms b
 pub record MayOpen (rules : RuleBytes) (n : ℕ) (b : Terms) (w : Counts) (t : List ℕ) : Type 0 where
   pub table : length t ≡ tableCells
   pub count : n ≤ length rules
-  pub old : b .«rows_at_previous_start» ≤ rowCells
+  pub old : b .old ≤ rowCells
   pub used : w .used ≤ rowCells
   pub links : LinksAlong (w .used) t
 
@@ -139,7 +139,7 @@ pub record MayAdvance (rules : RuleBytes) (s : State) (f : Fate) (l : CoverCurso
   pub here : s .place .rule < s .rules
   pub passes : MayPass rules (s .rules) (s .terms) t (s .place)
   pub links : LinksAlong (countsIn (decidedIn s f) .used) t
-  pub start : s .terms .«rows_at_pass_start» ≤ rowCells
+  pub start : s .terms .present ≤ rowCells
   pub pass : s .terms .pass ≤ 65535
   pub room : s .counts .used ≤ s .rows
   pub limit : s .rows ≤ rowCells

@@ -77,12 +77,12 @@ fn may_pass(terms: Terms, n: usize, at: Reached) -> bool
 {
     let counts = at.counts;
     let place = at.place;
-    (place.rule < n) & (!terms.spent(counts.joins) & repeats(terms.rows_at_previous_start, place))
+    (place.rule < n) & (!terms.spent(counts.joins) & repeats(terms.old, place))
 }
 
 // From a place whose candidate is done over the rights after it that are rows of the pass before; its left is one.
 fn pass_rights(table: &[u32], terms: Terms, done: Reached) -> Reached
-    requires { ⌜ (length (now table) ≡ tableCells) × (terms .«rows_at_previous_start» ≤ rowCells) × ListEnds (listsIn (now table)) (afterIn (listsIn (now table)) (done .place .right)) ⌝ }
+    requires { ⌜ (length (now table) ≡ tableCells) × (terms .old ≤ rowCells) × ListEnds (listsIn (now table)) (afterIn (listsIn (now table)) (done .place .right)) ⌝ }
     ensures { λ r. ⌜ PassesRights (now (table .entry)) terms done r ⌝ }
 {
     let counts = done.counts;
@@ -90,7 +90,7 @@ fn pass_rights(table: &[u32], terms: Terms, done: Reached) -> Reached
     let mut joins = counts.joins;
     let mut right = place.right;
     let mut next = after_in(table, right);
-    while (next < terms.rows_at_previous_start) & !terms.spent(joins) {
+    while (next < terms.old) & !terms.spent(joins) {
         joins += 1;
         right = next;
         next = after_in(table, right);

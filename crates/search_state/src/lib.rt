@@ -82,14 +82,14 @@ pub struct Counts {
     pub added: usize,
 }
 
-// What does not change in a pass: the joins that may be made, the final states, the number of the pass, and the rows used when it began and
-// when the pass before began.
+// What does not change in a pass: the joins that may be made, the final states, the number of the pass, and the rows used when it began
+// (`present`) and when the pass before began (`old`). What is formed of old rows alone was formed in the pass before.
 pub struct Terms {
     pub budget: u64,
     pub finals: StateSet,
     pub pass: u64,
-    pub rows_at_pass_start: usize,
-    pub rows_at_previous_start: usize,
+    pub present: usize,
+    pub old: usize,
 }
 
 impl Terms {
@@ -110,8 +110,8 @@ impl Terms {
             budget: self.budget,
             finals: self.finals,
             pass: self.pass + 1,
-            rows_at_pass_start: used,
-            rows_at_previous_start: self.rows_at_pass_start,
+            present: used,
+            old: self.present,
         }
     }
 }

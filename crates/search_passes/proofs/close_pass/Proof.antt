@@ -32,7 +32,7 @@ returns c P B j₀ first j₁ j z rows y h x g =
 asked : tie.Need-open-pass-requires
 asked c κs =
     let a = c .before .before .before .before .before .before .pre .opens in
-    record { table = a .table; count = a .count; old = subst (λ (b : Terms). b .«rows_at_previous_start» ≤ rowCells) (sym (c .before .next-pass .ensures)) (a .old); used = a .used; links = a .links }
+    record { table = a .table; count = a .count; old = subst (λ (b : Terms). b .old ≤ rowCells) (sym (c .before .next-pass .ensures)) (a .old); used = a .used; links = a .links }
 
 returns-2 : tie.Need-returns-2
 returns-2 c P B j₀ first j₁ j z rows y h x g =

@@ -40,13 +40,13 @@ add-joins : tie.Need-add-joins Inv-loop μ-loop
 add-joins c =
     let b = c .before .before .before .before .before .before .before .before .args .terms in
     let l = c .before .before .before .loop in
-    omega (arith, tested (l .next) (b .«rows_at_previous_start») (l .joins) (b .budget) _ (c .before .spent .ensures) (c .if1 .taken) .1, c .before .before .struct-known)
+    omega (arith, tested (l .next) (b .old) (l .joins) (b .budget) _ (c .before .spent .ensures) (c .if1 .taken) .1, c .before .before .struct-known)
 
 loop-less : tie.Need-loop-less Inv-loop μ-loop
 loop-less c =
     let s = c .before .before .before .before .before .before .before .before .before in
     let l = c .before .before .before .before .loop in
-    let t = tested (l .next) (s .args .terms .«rows_at_previous_start») (l .joins) (s .args .terms .budget) _ (c .before .before .spent .ensures) (c .before .if1 .taken) in
+    let t = tested (l .next) (s .args .terms .old) (l .joins) (s .args .terms .budget) _ (c .before .before .spent .ensures) (c .before .if1 .taken) in
     rw (c .after-in2 .ensures) (ends-next (l .inv .1) (λ z. omega (arith, z, t .0, s .pre .1)) .1)
 
 loop-again : tie.Need-loop-again Inv-loop μ-loop
@@ -54,7 +54,7 @@ loop-again c =
     let s = c .before .before .before .before .before .before .before .before .before in
     let a = s .args in
     let l = c .before .before .before .before .loop in
-    let t = tested (l .next) (a .terms .«rows_at_previous_start») (l .joins) (a .terms .budget) _ (c .before .before .spent .ensures) (c .before .if1 .taken) in
+    let t = tested (l .next) (a .terms .old) (l .joins) (a .terms .budget) _ (c .before .before .spent .ensures) (c .before .if1 .taken) in
     (c .after-in2 .ensures, subst (ListEnds (listsIn (a .table .now))) (sym (c .after-in2 .ensures)) (ends-next (l .inv .1) (λ z. omega (arith, z, t .0, s .pre .1)) .0), rights-next (a .table .now) (a .terms) (a .done) (l .joins) (l .right) (l .next) (s .pre .1) (l .inv .2) (l .inv .0) (t .0) (t .1))
 
 returns : tie.Need-returns Inv-loop μ-loop

@@ -60,7 +60,7 @@ module _ (bs : List ℕ) (g : Settings) where
   starts-refused letters rules t r e z s w = record { refusal = e; refused = λ _. ap (λ (x : State). x .going) w; begins = λ q. absurd (z q) }
 
   -- a table without a row
-  no-links : (t : List ℕ) → t ≡ replicate tableCells end → Covering {E = ℕ} [] t
+  no-links : {E : Type 0} (t : List ℕ) → t ≡ replicate tableCells end → Covering {E = E} [] t
   no-links t et = subst (Covering []) (sym et) covering-none
 
   pub may-open : (finals : ℕ) (before rules : RuleBytes) (n : ℕ) → RuleTable bs before rules n → (t : List ℕ) → t ≡ replicate tableCells end → (w : State) → w ≡ waiting g n finals → MayOpen rules n (w .terms) (w .counts) t

@@ -1,13 +1,13 @@
 -- One candidate: what became of it is what the working order makes of it, and the invariant of the search holds after it. Assumes nothing.
 use mathlib.Core.Path.{_≡_, refl, sym, ap, ap₂, _∙_, subst, subst₂}
 use mathlib.Core.Bool.{Bool, true, false, true≢false, not, cond}
-use mathlib.Core.List.{List, []}
+use mathlib.Core.List.{List, [], map}
 use mathlib.Core.Logic.{_⊎_, inl, inr}
 use Prim.Native.Nat.{ℕ, suc, _+_, _-_, _≤_, _<_}
 use native.Mathlib.Omega.{arith}
 use lib.Arith.{lt-of-le-ne}
 use lib.Dec.{T, eqb}
-use lib.ListN.{length, getD, take, length-take}
+use lib.ListN.{length, getD, take, length-map, length-take}
 use lib.Seq.{getD-take, length-take-le}
 use borrow.Author.Tests.{eqb-true, eqb-false}
 use Rattle.relation.specs.Relation.{contained}
@@ -22,8 +22,8 @@ use Rattle.search_rows.specs.Meanings.{candidateOf}
 use Rattle.search_rows.specs.declared.Candidate.{Candidate}
 use Rattle.search_state.specs.Layout.{rowCells, tableCells}
 use Rattle.search_order.specs.PlacesLeft.{PassFrom}
-use Rattle.search_links.specs.Covers.{Covering}
-use Rattle.search_links.specs.CoverLaws.{covering-links}
+use Rattle.search_links.specs.Covers.{Covering, withoutEffect}
+use Rattle.search_links.specs.CoverLaws.{covering-links, covering-without}
 use Rattle.search_links.specs.RowLaws.{rows-length, among-row}
 use Rattle.search_retire.specs.Clearing.{ClearingEnd as Ending}
 use Rattle.search_cover.specs.SeekLaws.{seek-finds}
@@ -179,9 +179,9 @@ module _ {letters : Letters} {rules : RuleBytes} {start : State} {j₀ : Journal
           places = subst₂ (λ (lists : List ℕ) (k : ℕ). PassFrom lists (take k rules) (s .place)) (sym (x .inserted .lists)) (sym rules-same) (go .in-pass .places);
         };
         links = record {
-          rows = firstRows (countsIn became .used) j;
-          size = rows-length rowOf (countsIn became .used) j (omega (arith, used, x .inserted .size)) ∙ ap (λ (o : Outcome). countsIn o .used) (sym decided-so);
-          covering = decided-right .1;
+          rows = map withoutEffect (firstRows (countsIn became .used) j);
+          size = length-map (firstRows (countsIn became .used) j) withoutEffect ∙ rows-length rowOf (countsIn became .used) j (omega (arith, used, x .inserted .size)) ∙ ap (λ (o : Outcome). countsIn o .used) (sym decided-so);
+          covering = covering-without (firstRows (countsIn became .used) j) t (decided-right .1);
         };
         start = omega (arith, ap (λ (b : Terms). b .present) (go .begun .terms), go .in-pass .left .grows, room, few);
         pass = omega (arith, ap (λ (b : _). b .pass) (go .begun .terms), go .begun .at-pass .count, go .begun .at-pass .room, sized (x .running) (x .going) .limit);

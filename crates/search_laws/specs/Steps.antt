@@ -107,7 +107,7 @@ pub record JoinsAlone (x r : Reached) : Type 0 where
 
 -- the links of the table lead along some u rows
 pub record LinksAlong (u : ℕ) (t : List ℕ) : Type 0 where
-  pub rows : List (Row ℕ)
+  pub rows : List (Row Unit)
   pub size : length rows ≡ u
   pub covering : Covering rows t
 

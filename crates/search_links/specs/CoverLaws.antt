@@ -1,7 +1,7 @@
 -- The table of covers stays one: when hints change, when a row retires and is linked no more, and when a row is added. Assumes nothing.
 use mathlib.Core.Path.{_≡_, refl, sym, ap, _∙_, subst}
 use mathlib.Core.Bool.{Bool, true, false, _&&_, false≢true}
-use mathlib.Core.List.{List, [], _∷_, _++_}
+use mathlib.Core.List.{List, [], _∷_, _++_, map}
 use mathlib.Core.Logic.{_⊎_, inl, inr}
 use Prim.Native.Nat.{ℕ, zero, suc, _+_, _≤_, _<_}
 use native.Mathlib.Omega.{arith}
@@ -13,7 +13,7 @@ use borrow.Author.Tests.{ltb-true, ltb-false, eqb-true, eqb-false, eq-eqb}
 use Rattle.spec_basics.specs.Tests.{and-fst}
 use Rattle.spec_order.specs.Journal.{Row, live, liveOf}
 use Rattle.search_state.specs.Layout.{rowCells, heads, headCell, listCells, tableCells, end}
-use Rattle.search_links.specs.Covers.{liveAt, Cell, Reach, Covering}
+use Rattle.search_links.specs.Covers.{liveAt, Cell, Reach, Covering, withoutEffect}
 use Rattle.search_links.specs.RowLaws.{holds-inside, holds-nowhere, holds-before, is-last}
 
 pub below-or-last : (k i : ℕ) → k < suc i → (k < i) ⊎ (k ≡ i)
@@ -107,6 +107,27 @@ module _ {E : Type 0} where
   pub covering-links : (rows : List (Row E)) (old new : List ℕ) → length rows ≤ rowCells → length new ≡ length old → ((i : ℕ) → i < listCells → getD new i 0 ≡ getD old i 0) → Covering rows old → Covering rows new
   covering-links rows old new h n e g =
       record { size = n ∙ g .size; reach = λ x k m l z. subst (Reach x rows m) (sym (e k (cell-bound x rows k m l h z))) (g .reach x k m l z) }
+
+  -- and of the rows without their effects
+  live-without : (x : ℕ) (rows : List (Row E)) (i : ℕ) → liveAt x (map withoutEffect rows) i ≡ liveAt x rows i
+  unfolding liveOf live
+  live-without x [] i = refl
+  live-without x (r ∷ rows) zero = refl
+  live-without x (r ∷ rows) (suc i) = live-without x rows i
+
+  pub covering-without : (rows : List (Row E)) (covers : List ℕ) → Covering rows covers → Covering (map withoutEffect rows) covers
+  covering-without rows covers g = record { size = g .size; reach = λ x k n h z. reach x n (getD covers k 0) (g .reach x k n h (cell x k n z)) }
+    where
+      cell : (x k n : ℕ) → Cell x (map withoutEffect rows) k n → Cell x rows k n
+      cell x k n (inl z) = inl z
+      cell x k n (inr z) = inr (sym (live-without x rows k) ∙ z .0, z .1)
+
+      stop : (x v : ℕ) → (v ≡ end) ⊎ (liveAt x rows v ≡ true) → (v ≡ end) ⊎ (liveAt x (map withoutEffect rows) v ≡ true)
+      stop x v (inl z) = inl z
+      stop x v (inr z) = inr (live-without x rows v ∙ z)
+
+      reach : (x n v : ℕ) → Reach x rows n v → Reach x (map withoutEffect rows) n v
+      reach x n v r = record { within = r .within; gap = λ i a b. live-without x rows i ∙ r .gap i a b; stop = stop x v (r .stop) }
 
   -- ---- row i retires, and the cell that led to it leads past it
 

@@ -35,6 +35,10 @@ module _ {E : Type 0} where
     pub size : length covers ≡ tableCells
     pub reach : (x cell n : ℕ) → x < heads → Cell x rows cell n → Reach x rows n (getD covers cell 0)
 
+  -- a row without its effect, of which the links tell the same
+  abbrev pub withoutEffect : Row E → Row Unit
+  withoutEffect r = record { head = r .head; rule = r .rule; effect = tt; left = r .left; right = r .right; len = r .len; birth = r .birth; retired = r .retired }
+
   -- a cell of x that leads to no row
   pub record LastCell (x : ℕ) (rows : List (Row E)) (covers : List ℕ) (cell : ℕ) : Type 0 where
     pub from : ℕ

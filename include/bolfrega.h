@@ -17,7 +17,7 @@
  *
  * Numbers that a call refuses with:
  *    1  The file's length is no multiple of 8.
- *    2  The file has more than 1,288 records.
+ *    2  The file has more than 1,296 records.
  *    3  A record's kind is not 1, 2 or 3.
  *    4  A used byte is above its range.
  *    5  An unused byte is not 0.
@@ -108,7 +108,7 @@ uint64_t bolfrega_recognize(const uint8_t *file, size_t file_length, const uint8
 /*
  * Checks a file's plan against its order sheet, with a journal of `rows` rows and a budget of `budget` joins.
  *
- * It keeps its journal (256 KiB) and its tables (about 185 KiB) on the stack, and writing a run takes up to 576 KiB more (144 bytes for
+ * It keeps its journal (352 KiB) and its tables (about 185 KiB) on the stack, and writing a run takes up to 576 KiB more (144 bytes for
  * each row on the way down): a thread that calls it needs a stack of 1.5 MiB to be on the safe side. (The main thread of a Linux program
  * has 8 MiB.)
  *

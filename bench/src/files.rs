@@ -1,7 +1,7 @@
 //! The benchmark files. Each is made anew in every run, and is the same in each.
 //!
-//! Many rest on groups of mappings of the eight stages: no mapping contains another, so that a group of n gives n live rows, and the
-//! number of joins can be told beforehand.
+//! Many rest on groups of mappings of the stages: no mapping contains another, so that a group of n gives n live rows, and the number of
+//! joins can be told beforehand. Most use eight stages, as every file did before C-14; those whose names begin with `sixteen` use all.
 
 use plain::making::{plan_a, plan_b, procedure, Making, Numbers};
 use plain::FIRST_REMARK;
@@ -33,10 +33,11 @@ impl Case {
     }
 }
 
-/// A mapping of the eight stages.
+/// A mapping of eight stages, and of all sixteen.
 type Mapping = [u8; 8];
+type Mapping16 = [u8; 16];
 
-/// Every order of the eight stages is made from these two: 40,320 of them.
+/// Every order of eight stages is made from these two: 40,320 of them.
 const ORDERS: [Mapping; 2] = [[1, 2, 3, 4, 5, 6, 7, 0], [1, 0, 2, 3, 4, 5, 6, 7]];
 /// Every order of six stages: 720.
 const ORDERS_OF_SIX: [Mapping; 2] = [[1, 2, 3, 4, 5, 0, 6, 7], [1, 0, 2, 3, 4, 5, 6, 7]];
@@ -48,6 +49,10 @@ const TURNS: [Mapping; 2] = [[2, 0, 3, 1, 6, 4, 7, 5], [0, 2, 4, 6, 1, 3, 5, 7]]
 const CUBE: [Mapping; 3] = [TURNS[0], TURNS[1], [7, 6, 5, 4, 3, 2, 1, 0]];
 /// The 8 turns of a ring.
 const RING: [Mapping; 1] = [[1, 2, 3, 4, 5, 6, 7, 0]];
+/// The 16 turns of a ring of all stages.
+const RING_OF_16: Mapping16 = [1, 2, 3, 4, 5, 6, 7, 8, 9, 10, 11, 12, 13, 14, 15, 0];
+/// With the ring's turns it makes every order of all stages.
+const SWAP_OF_16: Mapping16 = [1, 0, 2, 3, 4, 5, 6, 7, 8, 9, 10, 11, 12, 13, 14, 15];
 
 /// The codes below this one lead to one stage from each in a full sheet; those from here up to the remarks lead to two.
 const FIRST_DOUBLE: u8 = FIRST_REMARK - 8;
@@ -68,15 +73,19 @@ pub fn all() -> Vec<Case> {
         Case::new("retired", &retired(1, 1)),
         Case::new("retired-most", &retired(2, 2)),
         Case::new("retired-chain", &retired_and_chain()),
-        Case::new("random-small", &random_relations(0, 3, 9, 60)),
-        Case::new("random-middle", &random_relations(4, 3, 12, 130)),
-        Case::new("random-large", &random_relations(2, 6, 20, 240)),
+        Case::new("random-small", &random_relations(8, 0, 3, 9, 60)),
+        Case::new("random-middle", &random_relations(8, 4, 3, 12, 130)),
+        Case::new("random-large", &random_relations(8, 2, 6, 20, 240)),
         Case::new("full-1024", &closed(&ORDERS)).rows(1_024),
         Case::new("full-4096", &closed(&ORDERS)),
         Case::new("full-largest", &random_largest()),
         Case::new("full-retired", &retired(2, 1)),
         Case::new("spent-group", &closed(&ORDERS_OF_SIX)).budget(300_000),
         Case::new("spent-largest", &cube_largest()).budget(200_000),
+        Case::new("sixteen-ring", &ring_of_sixteen()),
+        Case::new("sixteen-cubes", &closed(&two_cubes())),
+        Case::new("sixteen-random", &random_relations(16, 2, 4, 14, 330)),
+        Case::new("sixteen-full", &closed(&[RING_OF_16, SWAP_OF_16])),
     ]
 }
 
@@ -113,7 +122,7 @@ fn nothing_but_codes() -> Case {
     for code in 0..128 {
         making.rule(code % 64, &[code, code]).rule(code % 64, &[code]);
     }
-    finish_everywhere(&mut making);
+    finish_everywhere(&mut making, 8);
     Case::new("codes", &making)
 }
 
@@ -129,7 +138,7 @@ fn chain() -> Case {
             .rule(head, &[procedure(head + 1), head])
             .rule(head, &[head, procedure(head + 1)]);
     }
-    finish_everywhere(&mut making);
+    finish_everywhere(&mut making, 8);
     Case::new("chain-64", &making)
 }
 
@@ -138,8 +147,27 @@ fn ring(rules: usize) -> Making {
     let mut making = Making::new();
     making.mapping(0, RING[0]);
     pairs_at_random(&mut making, 7, rules, |_| 0);
-    finish_everywhere(&mut making);
+    finish_everywhere(&mut making, 8);
     making
+}
+
+/// The same over the turns of a ring of all sixteen stages.
+fn ring_of_sixteen() -> Making {
+    let mut making = Making::new();
+    making.mapping(0, RING_OF_16);
+    pairs_at_random(&mut making, 7, 256, |_| 0);
+    finish_everywhere(&mut making, 16);
+    making
+}
+
+/// Two sheets of eight stages side by side, each with the turns of a cube: each turn of the one with each of the other, 576 products.
+fn two_cubes() -> Vec<Mapping16> {
+    let beside =
+        |one: Mapping, other: Mapping| std::array::from_fn(|stage| if stage < 8 { one[stage] } else { 8 + other[stage - 8] });
+    let still = [0, 1, 2, 3, 4, 5, 6, 7];
+    let first = TURNS.map(|turn| beside(turn, still));
+    let second = TURNS.map(|turn| beside(still, turn));
+    [first, second].concat()
 }
 
 /// The largest file that holds: 256 rules, 64 procedures, 1,024 moves, 48 live rows for each procedure. Its rules use no code that leads
@@ -150,7 +178,7 @@ fn cube_largest() -> Making {
     let mut making = Making::new();
     full_sheet(&mut making, || numbers.pick(&symmetries));
     pairs_at_random(&mut making, 9, 256, |numbers| numbers.byte(FIRST_DOUBLE.into()));
-    finish_everywhere(&mut making);
+    finish_everywhere(&mut making, 8);
     making
 }
 
@@ -167,7 +195,7 @@ fn left_linear() -> Making {
 }
 
 /// One procedure that gives each product of the mappings, as one live row each.
-fn closed(mappings: &[Mapping]) -> Making {
+fn closed<const STAGES: usize>(mappings: &[[u8; STAGES]]) -> Making {
     let mut making = Making::new();
     for (code, &mapping) in (0..).zip(mappings) {
         making.mapping(code, mapping).rule(1, &[code]);
@@ -222,11 +250,11 @@ fn delay(making: &mut Making, passes: u8) {
 }
 
 /// A few procedures over codes whose moves are drawn at random: rows that cover and retire each other, until an empty effect covers all.
-fn random_relations(seed: u64, procedures: usize, codes: u8, moves: usize) -> Making {
+fn random_relations(stages: usize, seed: u64, procedures: usize, codes: u8, moves: usize) -> Making {
     let mut numbers = Numbers::new(seed);
     let mut making = Making::new();
     for _ in 0..moves {
-        making.step(numbers.byte(8), numbers.byte(codes.into()), numbers.byte(8));
+        making.step(numbers.byte(stages), numbers.byte(codes.into()), numbers.byte(stages));
     }
     let mut one = || 1 + numbers.byte(procedures);
     for code in 0..codes {
@@ -244,7 +272,7 @@ fn random_largest() -> Making {
     let mut making = Making::new();
     full_sheet(&mut making, || std::array::from_fn(|_| numbers.byte(8)));
     pairs_at_random(&mut making, 11, 256, |numbers| numbers.byte(128));
-    finish_everywhere(&mut making);
+    finish_everywhere(&mut making, 8);
     making
 }
 
@@ -278,9 +306,9 @@ fn full_sheet(making: &mut Making, mut mapping: impl FnMut() -> Mapping) {
     }
 }
 
-/// Makes every stage finishing, so that no mapping is rejecting.
-fn finish_everywhere(making: &mut Making) {
-    (0..8).for_each(|stage| {
+/// Makes every stage below `stages` finishing, so that no mapping of these is rejecting.
+fn finish_everywhere(making: &mut Making, stages: u8) {
+    (0..stages).for_each(|stage| {
         making.finishing(stage);
     });
 }

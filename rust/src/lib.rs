@@ -42,7 +42,7 @@
 //!
 //! # Stack
 //!
-//! [`check`] keeps its journal (256 KiB) and its tables (about 185 KiB) on the stack, and allocates nothing. Writing a run takes up to
+//! [`check`] keeps its journal (352 KiB) and its tables (about 185 KiB) on the stack, and allocates nothing. Writing a run takes up to
 //! 576 KiB more (144 bytes for each row on the way down). A thread that calls it needs 1.5 MiB of stack to be on the safe side; Rust's
 //! threads have 2 MiB unless told otherwise.
 
@@ -164,7 +164,7 @@ pub fn judge(file: &[u8], run: &[u8]) -> Result<Judgement, Refusal> {
 /// with any other answer and with a refusal. It refuses a file with 1 to 7 or 12, and then with 8 a number of rows that is 0 or above
 /// [`MOST_ROWS`]. More rows and a larger budget never change an answer that is `Holds` or `Broken`.
 ///
-/// It keeps about 440 KiB on the stack ([see above](crate#stack)).
+/// It keeps about 540 KiB on the stack ([see above](crate#stack)).
 ///
 /// ```
 /// use bolfrega::{check, Refusal, Verdict};

@@ -23,7 +23,7 @@ use std::fmt;
 pub enum Refusal {
     /// 1: the file's length is no multiple of 8.
     Length,
-    /// 2: the file has more than 1,288 records.
+    /// 2: the file has more than 1,296 records.
     Records,
     /// 3: a record's kind is not 1, 2 or 3.
     Kind { record: u64 },
@@ -112,7 +112,7 @@ impl Refusal {
     fn reason(self) -> &'static str {
         match self {
             Refusal::Length => "the file's length is no multiple of 8",
-            Refusal::Records => "the file has more than 1,288 records",
+            Refusal::Records => "the file has more than 1,296 records",
             Refusal::Kind { .. } => "the kind is not 1, 2 or 3",
             Refusal::AboveRange { .. } => "a used byte is above its range",
             Refusal::Unused { .. } => "an unused byte is not 0",

@@ -6,7 +6,7 @@ use common::{checking, judging, reading};
 use plain::making::{procedure, Making};
 use plain::FIRST_REMARK;
 
-/// A mapping of the stages that takes each one further; with `swap` it makes every order of the eight stages.
+/// A mapping of the stages that takes each one further; with `swap` it makes every order of eight stages.
 const ROUND: [u8; 8] = [1, 2, 3, 4, 5, 6, 7, 0];
 const SWAP: [u8; 8] = [1, 0, 2, 3, 4, 5, 6, 7];
 
@@ -20,14 +20,14 @@ fn moves_on_every_code(making: &mut Making) {
     }
 }
 
-/// The largest file: 256 rules, 1,024 moves and 8 finishing stages.
+/// The largest file: 256 rules, 1,024 moves and 16 finishing stages.
 fn largest() -> Making {
     let mut making = Making::new();
     for rule in 0..=255 {
         making.rule(rule / 4, &[procedure(63 - rule / 4), rule % 128]);
     }
     moves_on_every_code(&mut making);
-    (0..8).for_each(|stage| {
+    (0..16).for_each(|stage| {
         making.finishing(stage);
     });
     making
@@ -36,13 +36,13 @@ fn largest() -> Making {
 #[test]
 fn records() {
     let making = largest();
-    assert_eq!([1, 2, 3].map(|kind| making.count(kind)), [256, 1_024, 8]);
+    assert_eq!([1, 2, 3].map(|kind| making.count(kind)), [256, 1_024, 16]);
     let mut file = making.bytes();
     assert_eq!(reading(&file), (0, 0));
     assert_eq!(judging(&file, &[0, 127]), (110, 0));
     checking(&file, 4_096, 50_000, 100);
-    file.extend([3, 7, 0, 0, 0, 0, 0, 1]);
-    assert_eq!(file.len(), 8 * 1_289);
+    file.extend([3, 15, 0, 0, 0, 0, 0, 1]);
+    assert_eq!(file.len(), 8 * 1_297);
     assert_eq!(reading(&file), (2, 0));
     file.push(0);
     assert_eq!(reading(&file), (1, 0));
@@ -74,13 +74,15 @@ fn a_rule_or_a_move_too_many() {
 #[test]
 fn last_values() {
     let mut making = Making::new();
-    making.rule(63, &[191, 127]).step(7, FIRST_REMARK - 1, 7).finishing(7);
+    making.rule(63, &[191, 127]).step(15, FIRST_REMARK - 1, 15).finishing(15);
     assert_eq!(reading(&making.bytes()), (0, 0));
     for record in [
         [1, 63, 2, 191, 192, 0, 0, 0],
         [1, 64, 0, 0, 0, 0, 0, 0],
-        [2, 7, 128, 7, 0, 0, 0, 0],
-        [3, 8, 0, 0, 0, 0, 0, 0],
+        [2, 15, 128, 15, 0, 0, 0, 0],
+        [2, 16, 0, 0, 0, 0, 0, 0],
+        [2, 0, 0, 16, 0, 0, 0, 0],
+        [3, 16, 0, 0, 0, 0, 0, 0],
     ] {
         assert_eq!(reading(&record), (4, 0));
     }
@@ -107,7 +109,7 @@ fn sixty_four_procedures() {
     assert_eq!((code, details[2]), (102, 63));
 }
 
-/// Orders of the eight stages, all incomparable, until the journal is full.
+/// Orders of eight stages, all incomparable, until the journal is full.
 #[test]
 fn rows() {
     let mut making = Making::new();
@@ -204,7 +206,7 @@ fn rows_of_length_0() {
         making.rule(head, &[procedure(head + 1), procedure(head + 1)]);
     });
     let (code, details, _) = checking(&making.bytes(), 100, 100_000, 3);
-    assert_eq!((code, details[5..].to_vec()), (101, vec![8, 0, 0]));
+    assert_eq!((code, details[5..].to_vec()), (101, vec![16, 0, 0]));
 }
 
 #[test]

@@ -108,7 +108,7 @@ fn only_nothing() {
     let Verdict::Broken(broken) = check(&file, 1_024, 1_000_000, &mut buffer).unwrap().verdict else {
         panic!()
     };
-    assert_eq!((broken.row, broken.pairs, broken.length, broken.run), (0, 8, 0, Ok(&[][..])));
+    assert_eq!((broken.row, broken.pairs, broken.length, broken.run), (0, 16, 0, Ok(&[][..])));
 
     let file = making.finishing(0).bytes();
     assert_eq!(line(&file, 1_024, 1_000_000), ("holds", 2, 1, 2));
@@ -130,14 +130,14 @@ fn a_with_a_remark_holds() {
 
 #[test]
 fn remarks_alone() {
-    // The run is written out with its remarks, and its effect has all eight pairs.
+    // The run is written out with its remarks, and its effect has all sixteen pairs.
     let mut making = Making::new();
     let file = making.rule(0, &[FIRST_REMARK, 127]).bytes();
     assert_eq!(line(&file, 1_024, 1_000_000), ("broken", 1, 1, 1));
     let (_, details, buffer) = checking(&file, 1_024, 1_000_000, 3);
     assert_eq!(
         (&details[4..], &buffer[..]),
-        (&[0, 8, 2, 0][..], &[FIRST_REMARK, 127, 202][..])
+        (&[0, 16, 2, 0][..], &[FIRST_REMARK, 127, 202][..])
     );
     assert_eq!(judging(&file, &[FIRST_REMARK, 127]), (111, 0));
 
@@ -169,7 +169,7 @@ fn a_move_on_a_remark() {
 
 #[test]
 fn the_last_case() {
-    assert_eq!(reading(&[0; 8 * 1_289]), (2, 0));
+    assert_eq!(reading(&[0; 8 * 1_297]), (2, 0));
     assert_eq!(reading(&Making::new().rule(0, &[191]).bytes()), (0, 0));
     assert_eq!(reading(&Making::new().rule(0, &[192]).bytes()), (4, 0));
     assert_eq!(reading(&[3, 1, 0, 0, 0, 0, 0, 0].repeat(2)), (6, 1));
@@ -177,7 +177,7 @@ fn the_last_case() {
 
 #[test]
 fn words_of_a_refusal() {
-    let file = [&[3, 0, 0, 0, 0, 0, 0, 0], &[3, 8, 0, 0, 0, 0, 0, 0][..]].concat();
+    let file = [&[3, 0, 0, 0, 0, 0, 0, 0], &[3, 16, 0, 0, 0, 0, 0, 0][..]].concat();
     assert_eq!(
         refusal(&file).unwrap_err().to_string(),
         "record 1: a used byte is above its range (4)"

@@ -52,13 +52,13 @@ fn each_number_where_it_belongs() {
     assert_eq!(changed(0, 1, 64), (4, 0));
     assert_eq!(changed(0, 2, 3), (4, 0));
     assert_eq!(changed(0, 4, 192), (4, 0));
-    assert_eq!(changed(1, 1, 8), (4, 1));
+    assert_eq!(changed(1, 1, 16), (4, 1));
     assert_eq!(changed(1, 2, 128), (4, 1));
     assert_eq!(changed(1, 2, FIRST_REMARK - 1), (0, 0));
     assert_eq!(changed(1, 2, FIRST_REMARK), (12, 1));
     assert_eq!(changed(1, 2, 127), (12, 1));
-    assert_eq!(changed(1, 3, 8), (4, 1));
-    assert_eq!(changed(2, 1, 8), (4, 2));
+    assert_eq!(changed(1, 3, 16), (4, 1));
+    assert_eq!(changed(2, 1, 16), (4, 2));
     assert_eq!(changed(0, 2, 1), (5, 0)); // the second symbol is no longer used
     assert_eq!(changed(0, 5, 1), (5, 0));
     assert_eq!(changed(1, 4, 1), (5, 1));
@@ -70,14 +70,14 @@ fn each_number_where_it_belongs() {
 #[test]
 fn the_earliest_record_and_then_the_earliest_check() {
     // A file with a wrong length and too many records gives 1; with both 2 and a bad kind it gives 2.
-    assert_eq!(every_call(&[9; 8 * 1_289 + 4]), (1, 0));
-    assert_eq!(every_call(&[9; 8 * 1_289]), (2, 0));
+    assert_eq!(every_call(&[9; 8 * 1_297 + 4]), (1, 0));
+    assert_eq!(every_call(&[9; 8 * 1_297]), (2, 0));
     // 4, 5 and 6 in one record; 5 and 6; then an earlier 6 before a later 3.
     assert_eq!(every_call(&[STEP, [1, 64, 0, 1, 0, 0, 0, 0]].concat()), (4, 1));
     assert_eq!(every_call(&[STEP, [1, 63, 0, 1, 0, 0, 0, 0]].concat()), (5, 1));
     assert_eq!(every_call(&[STEP, STEP, [9; 8]].concat()), (6, 1));
     // 12 comes after 4 and 5, and before 6.
-    assert_eq!(every_call(&[[2, 8, FIRST_REMARK, 0, 0, 0, 0, 0]].concat()), (4, 0));
+    assert_eq!(every_call(&[[2, 16, FIRST_REMARK, 0, 0, 0, 0, 0]].concat()), (4, 0));
     assert_eq!(every_call(&[[2, 0, FIRST_REMARK, 0, 1, 0, 0, 0]].concat()), (5, 0));
     assert_eq!(every_call(&[STEP, [2, 0, FIRST_REMARK, 0, 0, 0, 0, 0]].concat()), (12, 1));
 }

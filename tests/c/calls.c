@@ -70,14 +70,14 @@ static void refusals(void)
     record = 77;
     EXPECT(bolfrega_refusal(plan_b, 7, &record) == 1 && record == 0);
 
-    static const uint8_t many[8 * 1289];
+    static const uint8_t many[8 * 1297];
     record = 77;
     EXPECT(bolfrega_refusal(many, sizeof many, &record) == 2 && record == 0);
     EXPECT(bolfrega_refusal(many, sizeof many - 8, &record) == 3 && record == 0);
 
     uint8_t damaged[sizeof plan_b];
     memcpy(damaged, plan_b, sizeof plan_b);
-    damaged[8 * 7 + 1] = 8;
+    damaged[8 * 7 + 1] = 16;
     EXPECT(bolfrega_refusal(damaged, sizeof damaged, &record) == 4 && record == 7);
     damaged[8 * 6 + 7] = 1;
     EXPECT(bolfrega_refusal(damaged, sizeof damaged, &record) == 5 && record == 6);
@@ -168,7 +168,7 @@ static void checks(void)
     /* The sheet turns every run away, and a remark is written out with its run. */
     static const uint8_t remark_alone[16] = {1, 0, 1, 120, 0, 0, 0, 0, 2, 0, 120, 0, 0, 0, 0, 0};
     EXPECT(check(remark_alone, 8, 1024, 1000000, 64) == BOLFREGA_BROKEN);
-    EXPECT(said(0, 1, 1, 1, 0, 8, 1, 0) && buffer[0] == 120 && untouched(1));
+    EXPECT(said(0, 1, 1, 1, 0, 16, 1, 0) && buffer[0] == 120 && untouched(1));
     EXPECT(check(remark_alone, 16, 1024, 1000000, 64) == 12);
     EXPECT(said(1, 0, 0, 0, 0, 0, 0, 0) && untouched(0));
 

@@ -7,10 +7,10 @@ ghost use lib.ListN.{length};
 ghost use Rattle.host_input.specs.Held.{heldBy, heldOf, FitsIn};
 
 // The bytes of one record more than a file may have: number 2 refuses that many, unless 1 does.
-const HELD: usize = 10312;
+const HELD: usize = 10376;
 
 // The buffer: room for those bytes, and for the remainder by 8 of a longer input.
-pub const ROOM: usize = 10319;
+pub const ROOM: usize = 10383;
 
 // The result of one read: the number of bytes that came, or that the input has ended, or that the read failed.
 enum Chunk {
@@ -30,7 +30,7 @@ pub enum Input {
 // by 8 is kept, which is what numbers 1 and 2 look at.
 fn held(at: usize, got: usize) -> usize
     ensures count { λ r. ⌜ ((n : ℕ) → at ≡ heldOf n → r ≡ heldOf (n + got)) ⌝ }
-    ensures room { λ r. ⌜ r ≤ 10319 ⌝ }
+    ensures room { λ r. ⌜ r ≤ 10383 ⌝ }
 {
     if at < HELD {
         if got < HELD - at {
@@ -68,7 +68,7 @@ fn read_past() -> Chunk {
 
 // Reads once, into `buffer` from place `at` on while there is room for a file, and else past it.
 fn read_at(buffer: &mut [u8], at: usize) -> Chunk
-    requires { ⌜ 10312 ≤ length (now buffer) ⌝ }
+    requires { ⌜ 10376 ≤ length (now buffer) ⌝ }
 {
     if at < HELD {
         return read_into(&mut buffer[at..HELD]);

@@ -36,7 +36,7 @@ fn answer_front(bytes: &[u8], n: usize)
 
 // The same of the whole buffer.
 fn answer(bytes: &[u8; host_input::ROOM], n: usize)
-    requires { ⌜ n ≤ 10319 ⌝ }
+    requires { ⌜ n ≤ 10383 ⌝ }
 {
     answer_front(bytes, n);
 }

@@ -2,13 +2,14 @@
 use mathlib.Core.Path.{_≡_, refl, sym, ap, ap₂, _∙_, subst}
 use mathlib.Core.Bool.{Bool, true, false}
 use Prim.Native.Nat.{ℕ, zero, suc, _+_, _*_, _/_, _%_, _^_, _<_, suc-le-suc}
-use native.Mathlib.Nat.{le-refl, le-of-lt, mod-lt}
+use native.Mathlib.Nat.{le-refl, le-of-lt, mod-lt, add-comm}
 use native.Mathlib.Omega.{arith}
 use lib.Arith.{le-zero}
 use lib.Count.{ones, onesIn, ones-cat, ones-le}
 use lib.Pow.{pow-pos, recompose}
-use Rattle.relation.specs.Digits.{bit, digit, count}
+use Rattle.relation.specs.Digits.{bit, digit, count, sum, pieces}
 use Rattle.relation.specs.DigitLaws.{digit-is, bit-mod}
+use Rattle.relation.specs.Pieces.{pieces-lt}
 use Rattle.relation.specs.Relation.{pairs}
 
 count-same : (m : ℕ) (f g : ℕ → Bool) → ((k : ℕ) → k < m → f k ≡ g k) → count m f ≡ count m g
@@ -35,3 +36,12 @@ ones-count (suc m) x h =
 pub ones-pairs : (n r : ℕ) → r < 2 ^ (n * n) → ones r ≡ pairs n r
 unfolding pairs
 ones-pairs n r h = ones-count (n * n) r h
+
+-- the ones of several words
+pub ones-pieces : (n k : ℕ) (f : ℕ → ℕ) → ((a : ℕ) → f a < 2 ^ n) → sum k (λ a. ones (f a)) ≡ ones (pieces n k f)
+unfolding sum pieces
+ones-pieces n zero f h = sym (le-zero (ones-le 0 0 (pow-pos 0)))
+ones-pieces n (suc k) f h =
+    ap (λ (z : ℕ). z + ones (f k)) (ones-pieces n k f h)
+    ∙ add-comm (ones (pieces n k f)) (ones (f k))
+    ∙ sym (ones-cat (k * n) (f k) (pieces n k f) (pieces-lt n k f h))

@@ -7,11 +7,11 @@ use native.Mathlib.Nat.{le-refl, le-of-suc-le-suc, not-suc-le-zero, zero-lt-suc,
 use native.Mathlib.Omega.{arith}
 use lib.Dec.{eqb, ltb}
 use lib.Arith.{digits-lt, lt-one, lt-of-le-ne}
-use lib.Pow.{pow-pos, pow-lt, shr-shr, high, low, field, mod-mod-pow, recompose}
-use lib.Bits.{bitAnd, bitOr, and-shr, and-step, or-shr, or-step, and-le-l, and-self}
+use lib.Pow.{pow-pos, pow-lt, shr-shr, high, low, field, mod-mod-pow, recompose, ones-lt, ones-split}
+use lib.Bits.{bitAnd, bitOr, bitXor, and-shr, and-step, or-shr, or-step, and-le-l, and-le-r, and-self, xor-self, or-add-and, xor-add-and}
 use borrow.Author.Tests.{eqb-true, eqb-false, eq-eqb, ltb-true, ltb-false}
-use Rattle.spec_basics.specs.Tests.{or-left, or-right}
-use Rattle.relation.specs.Digits.{bit, digit, number, some, subset}
+use Rattle.spec_basics.specs.Tests.{and-intro, and-fst, and-snd, or-left, or-right, iff-equal}
+use Rattle.relation.specs.Digits.{bit, digit, number, some, all, union, subset}
 
 -- ---- digits
 
@@ -96,6 +96,16 @@ pub digit-mul-lt : (t : Bool) (r m : ℕ) → r < m → digit t * r < m
 digit-mul-lt true r m h = subst (λ (z : ℕ). z < m) (sym (one-mul r)) h
 digit-mul-lt false r m h = subst (λ (z : ℕ). z < m) (sym (zero-mul r)) (lt-of-le-of-lt zero-le h)
 
+-- the largest number of n digits has them all
+pub bit-ones : (n k : ℕ) → k < n → bit (2 ^ n - 1) k ≡ true
+bit-ones n k h =
+    let e : n ≡ (n - suc k) + (1 + k) = omega arith in
+    ap (λ (z : ℕ). bit (2 ^ z - 1) k) e
+    ∙ ap (λ (z : ℕ). bit z k) (ones-split (n - suc k) (1 + k))
+    ∙ bit-low (2 ^ (n - suc k) - 1) (1 + k) (2 ^ (1 + k) - 1) k (ones-lt (1 + k)) (omega arith)
+    ∙ ap (λ (z : ℕ). bit z k) (ones-split 1 k)
+    ∙ bit-high true k (2 ^ k - 1) (ones-lt k)
+
 pub number-lt : (m : ℕ) (f : ℕ → Bool) → number m f < 2 ^ m
 unfolding number
 number-lt zero f = le-refl 1
@@ -157,6 +167,41 @@ bit-or a b k =
     ∙ ap₂ (λ (x y : ℕ). eqb (max x y % 2) 1) (digit-is a k) (digit-is b k)
     ∙ max-digit (bit a k) (bit b k)
 
+-- a union without places is one of numbers without places
+pub or-empty : (a b : ℕ) → bitOr a b ≡ 0 → (a ≡ 0) × (b ≡ 0)
+or-empty a b e =
+    let l = and-le-l a b in
+    let m = and-le-r a b in
+    (omega (arith, or-add-and a b), omega (arith, or-add-and a b))
+
+or-none : (a b : ℕ) → eqb (bitOr a b) 0 ≡ (eqb a 0 && eqb b 0)
+or-none a b =
+    iff-equal (eqb (bitOr a b) 0) (eqb a 0 && eqb b 0)
+    (λ h.
+    let e = or-empty a b (eqb-true (bitOr a b) 0 h) in
+    and-intro (eqb a 0) (eqb b 0) (eq-eqb a 0 (e .0)) (eq-eqb b 0 (e .1)))
+    (λ h.
+    let p : a ≡ 0 = eqb-true a 0 (and-fst (eqb a 0) (eqb b 0) h) in
+    let q : b ≡ 0 = eqb-true b 0 (and-snd (eqb a 0) (eqb b 0) h) in
+    eq-eqb (bitOr a b) 0 (omega (arith, or-add-and a b)))
+
+-- of any count of numbers
+pub union-none : (m : ℕ) (f : ℕ → ℕ) → eqb (union m f) 0 ≡ all m (λ k. eqb (f k) 0)
+unfolding union all
+union-none zero f = refl
+union-none (suc m) f = or-none (union m f) (f m) ∙ ap (λ (t : Bool). t && eqb (f m) 0) (union-none m f)
+
+-- numbers that differ nowhere are equal
+pub xor-none : (a b : ℕ) → eqb (bitXor a b) 0 ≡ eqb a b
+xor-none a b =
+    iff-equal (eqb (bitXor a b) 0) (eqb a b)
+    (λ h.
+    let e : bitXor a b ≡ 0 = eqb-true (bitXor a b) 0 h in
+    let l = and-le-l a b in
+    let m = and-le-r a b in
+    eq-eqb a b (omega (arith, xor-add-and a b)))
+    (λ h. eq-eqb (bitXor a b) 0 (ap (bitXor a) (sym (eqb-true a b h)) ∙ xor-self a))
+
 and-right : (a b : Bool) → (a && b) ≡ a → a ≡ true → b ≡ true
 and-right true b e h = e
 and-right false b e h = absurd (false≢true h)
@@ -214,3 +259,14 @@ unfolding some
 some-same zero f g h = refl
 some-same (suc m) f g h =
     ap₂ (λ (a b : Bool). a || b) (h m (le-refl (suc m))) (some-same m f g (λ k l. h k (le-of-lt (suc-le-suc l))))
+
+-- tests that agree at each number below m
+pub all-same : (m : ℕ) (f g : ℕ → Bool) → ((k : ℕ) → k < m → f k ≡ g k) → all m f ≡ all m g
+unfolding all
+all-same zero f g h = refl
+all-same (suc m) f g h = ap₂ (λ (a b : Bool). a && b) (all-same m f g (λ k l. h k (le-of-lt (suc-le-suc l)))) (h m (le-refl (suc m)))
+
+pub some-none : (m : ℕ) (f : ℕ → Bool) → ((k : ℕ) → k < m → f k ≡ false) → some m f ≡ false
+unfolding some
+some-none zero f h = refl
+some-none (suc m) f h = ap₂ (λ (a b : Bool). a || b) (h m (le-refl (suc m))) (some-none m f (λ k l. h k (le-of-lt (suc-le-suc l))))

@@ -4,8 +4,10 @@ pub mod Pieces
 pub mod Relation
 pub mod RelationLaws
 pub mod Product
+pub mod Parts
 pub mod Counting
 pub mod Masks
 pub mod Representation
 pub mod Stored
 pub mod StoredLaws
+pub mod Turns

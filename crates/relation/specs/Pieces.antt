@@ -1,22 +1,17 @@
--- Numbers made of k pieces of n digits, for any k and n: the rows of a relation are such pieces. Assumes nothing.
-use mathlib.Core.Path.{_≡_, sym, ap, ap₂, _∙_, subst}
+-- Numbers made of k pieces of n digits, for any k and n: the words of a relation and the rows of a word are such pieces. Assumes nothing.
+use mathlib.Core.Path.{_≡_, refl, sym, ap, ap₂, _∙_, subst}
 use mathlib.Core.Logic.{_⊎_, inl, inr}
-use mathlib.Core.Bool.{Bool}
-use Prim.Native.Nat.{ℕ, zero, suc, _+_, _*_, _/_, _%_, _^_, _<_}
-use native.Mathlib.Nat.{le-of-suc-le-suc, not-suc-le-zero, zero-lt-suc, mod-lt, div-lt-iff-lt-mul, div-add-mod', eq-or-lt-of-le, add-comm, zero-mul, mul-zero, suc-mul, add-mul, mul-right-comm}
+use mathlib.Core.Bool.{Bool, _&&_}
+use Prim.Native.Nat.{ℕ, zero, suc, _+_, _*_, _/_, _%_, _^_, _<_, suc-le-suc}
+use native.Mathlib.Nat.{le-refl, le-of-lt, le-of-suc-le-suc, not-suc-le-zero, zero-lt-suc, mod-lt, div-lt-iff-lt-mul, div-add-mod', eq-or-lt-of-le, add-comm, zero-mul, mul-zero, suc-mul, add-mul, mul-right-comm}
 use lib.Arith.{digits-lt, digits-div, digits-mod}
-use lib.Pow.{pow-pos, pow-add}
-use Rattle.relation.specs.Digits.{bit, number}
+use lib.Bits.{bitAnd, bitOr, and-zero-l, or-zero-l, and-block, or-block}
+use lib.Dec.{eqb}
+use lib.Pow.{pow-pos, pow-add, high, low}
+use borrow.Author.Tests.{eqb-true, eq-eqb}
+use Rattle.spec_basics.specs.Tests.{and-intro, and-fst, and-snd, iff-equal}
+use Rattle.relation.specs.Digits.{bit, number, pieces, piece, all}
 use Rattle.relation.specs.DigitLaws.{bit-number, bit-up, bit-low, bit-mod, bit-shr, ext}
-
--- k pieces of n digits each, piece 0 lowest
-unfoldable pub pieces : ℕ → ℕ → (ℕ → ℕ) → ℕ
-pieces n zero f = 0
-pieces n (suc k) f = f k * 2 ^ (k * n) + pieces n k f
-
--- piece a of x, where a piece has n digits
-unfoldable pub piece : ℕ → ℕ → ℕ → ℕ
-piece n x a = x / 2 ^ (a * n) % 2 ^ n
 
 -- ---- what is made of pieces
 
@@ -51,6 +46,53 @@ module _ (n : ℕ) where
       add-mul (f k * 2 ^ (k * n)) (pieces n k f) r
       ∙ ap₂ (λ (u v : ℕ). u + v) (mul-right-comm (f k) (2 ^ (k * n)) r) (pieces-mul k f r)
 
+  -- equal pieces
+  pub pieces-same : (k : ℕ) (f g : ℕ → ℕ) → ((a : ℕ) → a < k → f a ≡ g a) → pieces n k f ≡ pieces n k g
+  unfolding pieces
+  pieces-same zero f g h = refl
+  pieces-same (suc k) f g h =
+      ap₂ (λ (u v : ℕ). u * 2 ^ (k * n) + v) (h k (le-refl (suc k))) (pieces-same k f g (λ a l. h a (le-of-lt (suc-le-suc l))))
+
+  -- piece by piece
+  pub pieces-and : (k : ℕ) (f g : ℕ → ℕ) → ((a : ℕ) → f a < 2 ^ n) → ((a : ℕ) → g a < 2 ^ n)
+      → bitAnd (pieces n k f) (pieces n k g) ≡ pieces n k (λ a. bitAnd (f a) (g a))
+  unfolding pieces
+  pieces-and zero f g hf hg = and-zero-l 0
+  pieces-and (suc k) f g hf hg =
+      and-block (k * n) (f k) (g k) (pieces n k f) (pieces n k g) (pieces-lt k f hf) (pieces-lt k g hg)
+      ∙ ap (λ (z : ℕ). bitAnd (f k) (g k) * 2 ^ (k * n) + z) (pieces-and k f g hf hg)
+
+  pub pieces-or : (k : ℕ) (f g : ℕ → ℕ) → ((a : ℕ) → f a < 2 ^ n) → ((a : ℕ) → g a < 2 ^ n)
+      → bitOr (pieces n k f) (pieces n k g) ≡ pieces n k (λ a. bitOr (f a) (g a))
+  unfolding pieces
+  pieces-or zero f g hf hg = or-zero-l 0
+  pieces-or (suc k) f g hf hg =
+      or-block (k * n) (f k) (g k) (pieces n k f) (pieces n k g) (pieces-lt k f hf) (pieces-lt k g hg)
+      ∙ ap (λ (z : ℕ). bitOr (f k) (g k) * 2 ^ (k * n) + z) (pieces-or k f g hf hg)
+
+-- two numbers of as many pieces are equal where their pieces are
+pub pieces-eqb : (n k : ℕ) (f g : ℕ → ℕ) → ((a : ℕ) → f a < 2 ^ n) → ((a : ℕ) → g a < 2 ^ n)
+    → eqb (pieces n k f) (pieces n k g) ≡ all k (λ a. eqb (f a) (g a))
+unfolding pieces all
+pieces-eqb n zero f g hf hg = refl
+pieces-eqb n (suc k) f g hf hg = block ∙ ap (λ (t : Bool). t && eqb (f k) (g k)) (pieces-eqb n k f g hf hg)
+  where
+    block : eqb (f k * 2 ^ (k * n) + pieces n k f) (g k * 2 ^ (k * n) + pieces n k g) ≡ (eqb (pieces n k f) (pieces n k g) && eqb (f k) (g k))
+    block =
+        iff-equal (eqb (f k * 2 ^ (k * n) + pieces n k f) (g k * 2 ^ (k * n) + pieces n k g)) (eqb (pieces n k f) (pieces n k g) && eqb (f k) (g k))
+        (λ h.
+        let e = eqb-true (f k * 2 ^ (k * n) + pieces n k f) (g k * 2 ^ (k * n) + pieces n k g) h in
+        and-intro (eqb (pieces n k f) (pieces n k g)) (eqb (f k) (g k))
+        (eq-eqb (pieces n k f) (pieces n k g)
+        (sym (low (f k) (k * n) (pieces-lt n k f hf)) ∙ ap (λ (z : ℕ). z % 2 ^ (k * n)) e ∙ low (g k) (k * n) (pieces-lt n k g hg)))
+        (eq-eqb (f k) (g k)
+        (sym (high (f k) (k * n) (pieces-lt n k f hf)) ∙ ap (λ (z : ℕ). z / 2 ^ (k * n)) e ∙ high (g k) (k * n) (pieces-lt n k g hg))))
+        (λ h.
+        eq-eqb (f k * 2 ^ (k * n) + pieces n k f) (g k * 2 ^ (k * n) + pieces n k g)
+        (ap₂ (λ (u v : ℕ). u * 2 ^ (k * n) + v)
+        (eqb-true (f k) (g k) (and-snd (eqb (pieces n k f) (pieces n k g)) (eqb (f k) (g k)) h))
+        (eqb-true (pieces n k f) (pieces n k g) (and-fst (eqb (pieces n k f) (pieces n k g)) (eqb (f k) (g k)) h))))
+
 -- ---- one piece
 
 pub piece-lt : (n x a : ℕ) → piece n x a < 2 ^ n
@@ -84,3 +126,15 @@ pub bit-places : (n k : ℕ) (f : ℕ → ℕ → Bool) (a b : ℕ) → a < k �
 bit-places n k f a b ha hb =
     bit-number (k * n) (λ p. f (p / n) (p % n)) (a * n + b) (digits-lt ha hb)
     ∙ ap₂ f (digits-div a hb) (digits-mod a hb)
+
+-- a piece, taken out again
+pub piece-of : (n k : ℕ) (f : ℕ → ℕ) → ((a : ℕ) → f a < 2 ^ n) → (a : ℕ) → a < k → piece n (pieces n k f) a ≡ f a
+piece-of n k f h a ha =
+    ext n (piece n (pieces n k f) a) (f a) (piece-lt n (pieces n k f) a) (h a)
+    (λ b hb. bit-piece n (pieces n k f) a b hb ∙ bit-pieces n k f h a b ha hb)
+
+-- a number below 2 ^ (k * n) is its k pieces
+pub pieces-of : (n k x : ℕ) → x < 2 ^ (k * n) → pieces n k (piece n x) ≡ x
+pieces-of n k x hx =
+    ext-pieces n k (pieces n k (piece n x)) x (pieces-lt n k (piece n x) (piece-lt n x)) hx
+    (λ a b ha hb. bit-pieces n k (piece n x) (piece-lt n x) a b ha hb ∙ bit-piece n x a b hb)

@@ -1,13 +1,14 @@
 -- Relations on n states (document 01: an effect, a set of pairs of stages), for any n, as numbers below 2 ^ (n * n):
 -- the pair (a, b) is the place a * n + b. Definitions only. Assumes nothing.
 use mathlib.Core.Bool.{Bool, not, _&&_, _||_}
-use Prim.Native.Nat.{ℕ, _+_, _*_, _/_, _%_}
+use Prim.Native.Nat.{ℕ, _+_, _-_, _*_, _/_, _%_, _^_}
+use lib.Bits.{bitOr, bitXor}
 use lib.Dec.{eqb}
-use Rattle.relation.specs.Digits.{bit, number, some, count, subset}
+use Rattle.relation.specs.Digits.{bit, number, piece, some, count, subset}
 
--- how many states an automaton has (document 01: stages 0 to 7; all eight always exist)
+-- how many states an automaton has (request C-14: stages 0 to 15; all sixteen always exist)
 abbrev pub states : ℕ
-states = 8
+states = 16
 
 -- the pair (a, b) is in r
 unfoldable pub has : ℕ → ℕ → ℕ → ℕ → Bool
@@ -41,9 +42,15 @@ insert n r a b = table n (λ x y. has n r x y || (eqb x a && eqb y b))
 unfoldable pub pairs : ℕ → ℕ → ℕ
 pairs n r = count (n * n) (bit r)
 
--- a small number of the relation, where a table is to be looked up: the remainder by a prime, so that unlike relations seldom share one
+-- a word x of 64 digits turned by k places: the digits that leave it above come in below
+abbrev pub turned : ℕ → ℕ → ℕ
+turned k x = bitOr (x * 2 ^ k % 2 ^ 64) (x / 2 ^ (64 - k))
+
+-- a small number of the relation, where a table is to be looked up: its words of 64 digits, each turned by other places so that rows do not
+-- meet, in one word, and the remainder of that by a prime, so that unlike relations seldom share one
 abbrev pub digest : ℕ → ℕ
-digest r = r % 32749
+digest r =
+    bitXor (bitXor (piece 64 r 0) (turned 8 (piece 64 r 1))) (turned 29 (bitXor (piece 64 r 2) (turned 8 (piece 64 r 3)))) % 32749
 
 -- no pair (0, f) with f final (document 000, section 3: rejecting)
 unfoldable pub rejects : ℕ → (ℕ → Bool) → ℕ → Bool

@@ -5,7 +5,7 @@ use denote.Array.{Array}
 use denote.Builtin.{u8, u64}
 use denote.RattleType.{RattleType}
 use Rattle.walk_kit.proofs.PlainData.{Data}
-use Rattle.relation.specs.Stored.{relationWords}
+use Rattle.relation.specs.Representation.{relationWords}
 use Rattle.spec_calls.proofs.Options as O
 use Rattle.spec_calls.proofs.Options.Laws as O′
 use Rattle.spec_calls.proofs.Row as R

@@ -106,7 +106,7 @@ table-P =
     ∷ case (checked (planA sheetS) 3 1000000) (says "full 7 3 3\n")
     ∷ case (checked (planA sheetS) 4 1000000) (says "holds 12 4 4\n")
     ∷ case (checked [] 1024 0) (says "holds 0 0 1\n")
-    ∷ case (checked (lone []) 1024 1000000) (says "broken 1 1 1\n0 8 0\n\n")
+    ∷ case (checked (lone []) 1024 1000000) (says "broken 1 1 1\n0 16 0\n\n")
     ∷ case (checked (lone (entry 3 0 0 0 0 [])) 1024 1000000) (says "holds 2 1 2\n")
     ∷ case (judging sheetS (1 ∷ 3 ∷ [])) (judged turnedAway)
     ∷ case (judging sheetS (1 ∷ 2 ∷ 3 ∷ [])) (judged accepted)
@@ -132,13 +132,13 @@ cases = refl
 unfoldable pub movesR : List ℕ
 movesR = entry 2 0 119 1 0 (entry 2 0 120 1 0 [])
 
--- plan A with a remark between its steps holds. A remark alone has all eight pairs, counts in the length and is written out, and is accepted
+-- plan A with a remark between its steps holds. A remark alone has all sixteen pairs, counts in the length and is written out, and is accepted
 -- where stage 0 finishes; 119 is a step, and has none. A move on a remark is refused with its record, and 128 is no code
 pub table-remarks : List Case
 unfolding planR sheetS movesR checkedIn checked refusing judging
 table-remarks =
     case (checked (planR sheetS) 1024 1000000) (says "holds 18 5 5\n")
-    ∷ case (checked (entry 1 0 1 120 0 []) 1024 1000000) (says "broken 1 1 1\n0 8 1\n120\n")
+    ∷ case (checked (entry 1 0 1 120 0 []) 1024 1000000) (says "broken 1 1 1\n0 16 1\n120\n")
     ∷ case (checked (entry 1 0 2 120 127 (entry 3 0 0 0 0 [])) 1024 1000000) (says "holds 2 1 2\n")
     ∷ case (checked (entry 1 0 1 119 0 []) 1024 1000000) (says "broken 1 1 1\n0 0 1\n119\n")
     ∷ case (judging sheetS (1 ∷ 120 ∷ 2 ∷ 127 ∷ 3 ∷ [])) (judged accepted)

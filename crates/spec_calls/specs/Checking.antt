@@ -27,9 +27,13 @@ pub record Settings : Type 0 where
 unfoldable pub journalFault : ℕ → ℕ
 journalFault J = cond (eqb J 0 || ltb journalLimit J) 8 0
 
+-- the working order on the file, where an automaton has n states
+abbrev pub orderOver : ℕ → List ℕ → Settings → Answer ℕ
+orderOver n bs g = check (base n (automatonOf bs)) (rulesOf bs) (g .rows) (g .budget)
+
 -- the working order on the file
 unfoldable pub orderOn : List ℕ → Settings → Answer ℕ
-orderOn bs g = check (base states (automatonOf bs)) (rulesOf bs) (g .rows) (g .budget)
+orderOn bs g = orderOver states bs g
 
 -- what may refuse a check, in its order: the file's refusal, then 8
 abbrev pub checkRefusals : List ℕ → ℕ → List Refusal

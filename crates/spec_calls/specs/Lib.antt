@@ -10,8 +10,10 @@ pub mod Writing
 pub mod Printing
 pub mod BaseLaws
 pub mod DemandThree
+pub mod VerdictTruth
 pub mod Truth
 pub mod Promising
+pub mod OldFiles
 pub mod JournalTruth
 pub mod JudgingTruth
 pub mod StrikingTruth

@@ -32,12 +32,12 @@ stray rest = 1 ∷ 0 ∷ 0 ∷ 0 ∷ 0 ∷ 0 ∷ 0 ∷ 1 ∷ rest
 
 -- 1 and 2
 pub length-first :
-    -- 1,289 records and a byte: 1 before 2
-    (refusalNow (replicate 10313 0) ≡ refuse 1 0)
-    -- 1,289 records: 2 before 3
-    × (refusalNow (replicate 10312 0) ≡ refuse 2 0)
-    -- 1,288 records
-    × (refusalNow (replicate 10304 0) ≡ refuse 3 0)
+    -- 1,297 records and a byte: 1 before 2
+    (refusalNow (replicate 10377 0) ≡ refuse 1 0)
+    -- 1,297 records: 2 before 3
+    × (refusalNow (replicate 10376 0) ≡ refuse 2 0)
+    -- 1,296 records
+    × (refusalNow (replicate 10368 0) ≡ refuse 3 0)
 unfolding refusalNow
 length-first = (refl, refl, refl)
 
@@ -57,14 +57,14 @@ above = (refl, refl, refl, refl, refl, refl)
 
 -- 4, of the sheet
 pub above-sheet :
-    -- stages of a move are 0 to 7, step codes 0 to 127, of which the last are remarks
-    (refusalNow (entry 2 7 119 7 0 []) ≡ refuse 0 0)
-    × (refusalNow (entry 2 8 0 0 0 []) ≡ refuse 4 0)
+    -- stages of a move are 0 to 15, step codes 0 to 127, of which the last are remarks
+    (refusalNow (entry 2 15 119 15 0 []) ≡ refuse 0 0)
+    × (refusalNow (entry 2 16 0 0 0 []) ≡ refuse 4 0)
     × (refusalNow (entry 2 0 128 0 0 []) ≡ refuse 4 0)
-    × (refusalNow (entry 2 0 0 8 0 []) ≡ refuse 4 0)
+    × (refusalNow (entry 2 0 0 16 0 []) ≡ refuse 4 0)
     -- and so are finishing stages
-    × (refusalNow (entry 3 7 0 0 0 []) ≡ refuse 0 0)
-    × (refusalNow (entry 3 8 0 0 0 []) ≡ refuse 4 0)
+    × (refusalNow (entry 3 15 0 0 0 []) ≡ refuse 0 0)
+    × (refusalNow (entry 3 16 0 0 0 []) ≡ refuse 4 0)
 unfolding refusalNow
 above-sheet = (refl, refl, refl, refl, refl, refl)
 
@@ -112,7 +112,7 @@ pub tests-in-order :
     -- 5 of record 1 before 3 of record 2
     × (refusalNow (lone (stray (entry 0 0 0 0 0 []))) ≡ refuse 5 1)
     -- 12 after 4 and 5
-    × (refusalNow (entry 2 8 120 0 0 []) ≡ refuse 4 0)
+    × (refusalNow (entry 2 16 120 0 0 []) ≡ refuse 4 0)
     × (refusalNow (entry 2 0 120 0 9 []) ≡ refuse 5 0)
     -- and before 6
     × (refusalNow (entry 2 1 1 1 0 (entry 2 0 120 1 0 [])) ≡ refuse 12 1)
@@ -161,9 +161,9 @@ unfolding stepIn copies lone
 counted-rules = (refl, refl, refl)
 
 -- and at any record its number is the one that the whole file's walk has for that record, moves before it counted as well
-pub step-checks : (bs : List ℕ) (i : ℕ) → length bs % 8 ≡ 0 → recordCount bs ≤ 1288 → i < recordCount bs → stepAt bs i ≡ unlessRefused (refuse (faultAt bs i) i) (gives (recordOf (recordAt bs i)) (i + 1))
+pub step-checks : (bs : List ℕ) (i : ℕ) → length bs % 8 ≡ 0 → recordCount bs ≤ 1296 → i < recordCount bs → stepAt bs i ≡ unlessRefused (refuse (faultAt bs i) i) (gives (recordOf (recordAt bs i)) (i + 1))
 unfolding stepAt stepFrom lengthFaultIn faultAtIn
-step-checks bs i whole few l = rw (eq-eqb (length bs % 8) 0 whole, le-ltb 1288 (recordCount bs) few, lt-leb (recordCount bs) i l)
+step-checks bs i whole few l = rw (eq-eqb (length bs % 8) 0 whole, le-ltb 1296 (recordCount bs) few, lt-leb (recordCount bs) i l)
 
 -- ---- 8, 10 and 11
 

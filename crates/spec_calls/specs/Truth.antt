@@ -9,32 +9,27 @@ use native.Mathlib.Numerals.{add-one}
 use native.Mathlib.Omega.{arith}
 use lib.Dec.{eqb}
 use lib.ListN.{length}
-use borrow.Author.Tests.{eqb-true, eq-eqb}
-use Rattle.spec_basics.specs.Tests.{and-intro, and-snd}
-use Rattle.relation.specs.Relation.{states, has, rejects}
+use borrow.Author.Tests.{eq-eqb}
+use Rattle.spec_basics.specs.Tests.{and-intro}
+use Rattle.relation.specs.Relation.{states, has}
 use Rattle.relation.specs.RelationLaws.{has-contained}
-use Rattle.spec_language.specs.Grammar.{initial}
-use Rattle.spec_language.specs.Spelling.{DerivesWithin}
 use Rattle.spec_language.specs.Agreement.{language}
-use Rattle.spec_language.specs.Automaton.{Automaton, Accepts, TurnsAway}
-use Rattle.spec_language.specs.WordRelation.{wordRelation, isFinal, rejected}
-use Rattle.spec_language.specs.Paths.{wordRelation-lt, path-of, of-path, turns-away, accepts}
+use Rattle.spec_language.specs.Automaton.{Automaton}
+use Rattle.spec_language.specs.Paths.{wordRelation-lt, path-of, of-path}
 use Rattle.spec_file.specs.Refusals.{fault}
 use Rattle.spec_file.specs.Views.{rulesOf, productionsOf, automatonOf}
 use Rattle.spec_file.specs.Valid.{automaton-within}
-use Rattle.spec_order.specs.Order.{Answer, Verdict, holds, broken, full, spent, check}
-use Rattle.spec_order.specs.Behind.{wordBehind}
-use Rattle.spec_order.specs.Truth.{SaysBy, check-says, holds-calm, shownRow}
+use Rattle.spec_order.specs.Order.{Verdict, holds, broken, full, spent, check}
 use Rattle.spec_order.specs.Journal.{Row, absent, live, liveOf}
 use Rattle.spec_order.specs.Stopping.{Stops}
 use Rattle.spec_order.specs.Exactly.{stops-so, ends-so}
 use Rattle.spec_order.specs.Counting.{Exact, ExactBy, StopsBy, check-exact, never-spent}
 use Rattle.spec_order.specs.Stability.{Firm, check-mono}
-use Rattle.spec_calls.specs.Base.{starts, base, words}
-use Rattle.spec_calls.specs.BaseLaws.{base-laws, word-sizes, relation-derived, word-derived}
+use Rattle.spec_calls.specs.Base.{base}
 use Rattle.spec_calls.specs.Checking.{Settings, orderOn, shown}
-use Rattle.spec_calls.specs.DemandThree.{Derivable, Counterexample, OneVerdict, Counts, LeastHeight, RowMeans, LiveAntichain, Extends}
+use Rattle.spec_calls.specs.DemandThree.{Counterexample, OneVerdict, Counts, LeastHeight, RowMeans, LiveAntichain, Extends}
 use Rattle.spec_calls.specs.JournalTruth.{rowAt, wordAt, row-true, incomparable}
+use Rattle.spec_calls.specs.VerdictTruth.{VerdictMeans, meaning, shows, found}
 use Rattle.spec_calls.specs.Writing.{wordOf}
 
 -- a live row of the nonterminal x
@@ -52,56 +47,21 @@ module _ (bs : List ℕ) (v : fault bs .number ≡ 0) (g : Settings) where
   abbrev A : Automaton
   A = automatonOf bs
 
-  -- what each verdict means
-  abbrev VerdictMeans : Verdict → Answer ℕ → Type 0
-  VerdictMeans holds a = (w : List ℕ) → Derivable bs w → Accepts A w
-  VerdictMeans broken a =
-      DerivesWithin (productionsOf bs) (a .pass) initial (shown bs a) × TurnsAway A (shown bs a)
-      × ((h : ℕ) → h < a .pass → (w : List ℕ) → DerivesWithin (productionsOf bs) h initial w → Accepts A w)
-  VerdictMeans full a = Unit {0}
-  VerdictMeans spent a = Unit {0}
-
-  -- a word whose relation does not break is accepted
-  calm : (w : List ℕ) → base states A .breaks initial (wordRelation states (A .transitions) w) ≡ false → Accepts A w
-  unfolding rejected
-  calm w b = accepts states A (automaton-within bs v) w b
-
-  means : (x : Verdict) (a : Answer ℕ) → SaysBy (base states A) words (rulesOf bs) x a → VerdictMeans x a
-  unfolding rejected shown
-  means holds a s =
-      λ w d.
-      let t = language (productionsOf bs) initial w .0 d in
-      calm w (holds-calm (base states A) (base-laws states A) words word-sizes (rulesOf bs) J B a s (t .0) initial (wordRelation states (A .transitions) w) (relation-derived states A (rulesOf bs) (t .0) initial w (t .1)))
-  means broken a s =
-      let r = shownRow (base states A) a in
-      let w = wordBehind words (rulesOf bs) (a .journal) (a .row) in
-      let t = word-derived states A (rulesOf bs) (a .pass) (r .head) (r .effect) w (s .0) in
-      let reject = rejects states (isFinal A) in (
-        subst (λ (x : ℕ). DerivesWithin (productionsOf bs) (a .pass) x w) (eqb-true (r .head) initial (base-laws states A .breaks-starts (r .head) (r .effect) (s .1))) (t .0),
-        turns-away states A (automaton-within bs v) w (ap reject (t .1) ∙ and-snd (starts (r .head)) (reject (r .effect)) (s .1)),
-        λ h l u d. calm u (s .3 h l initial (wordRelation states (A .transitions) u) (relation-derived states A (rulesOf bs) h initial u d)),
-      )
-  means full a s = tt
-  means spent a s = tt
-
-  meaning : (x : Verdict) → orderOn bs g .verdict ≡ x → VerdictMeans x (orderOn bs g)
+  -- what the verdict means, on the states of today
+  says : (x : Verdict) → orderOn bs g .verdict ≡ x → VerdictMeans states bs (automaton-within bs v) g x (orderOn bs g)
   unfolding orderOn
-  meaning x e =
-      means x (orderOn bs g)
-      (subst (λ (y : Verdict). SaysBy (base states A) words (rulesOf bs) y (orderOn bs g)) e (check-says (base states A) (base-laws states A) words word-sizes (rulesOf bs) J B .verdict))
+  says x e = meaning states bs (automaton-within bs v) g x e
 
-  shows : orderOn bs g .verdict ≡ broken → Counterexample bs (shown bs (orderOn bs g))
-  shows e = let m = meaning broken e in (language (productionsOf bs) initial (shown bs (orderOn bs g)) .1 (orderOn bs g .pass, m .0), m .1)
+  breaks : orderOn bs g .verdict ≡ broken → Counterexample bs (shown bs (orderOn bs g))
+  unfolding orderOn
+  breaks e = shows states bs (automaton-within bs v) g e
 
-  -- where a word is turned away and the verdict is firm, it is "broken"
-  found : (x : Verdict) → orderOn bs g .verdict ≡ x → (x ≡ full → ⊥) → (x ≡ spent → ⊥) → (w : List ℕ) × Counterexample bs w → x ≡ broken
-  found holds e f s c = absurd (c .1 .1 (meaning holds e (c .0) (c .1 .0)))
-  found broken e f s c = refl
-  found full e f s c = absurd (f refl)
-  found spent e f s c = absurd (s refl)
+  breaking : (orderOn bs g .verdict ≡ full → ⊥) → (orderOn bs g .verdict ≡ spent → ⊥) → (w : List ℕ) × Counterexample bs w → orderOn bs g .verdict ≡ broken
+  unfolding orderOn
+  breaking f s c = found states bs (automaton-within bs v) g (orderOn bs g .verdict) refl f s c
 
   pub least-height : LeastHeight bs (orderOn bs g)
-  least-height = record { shown-within = λ e. meaning broken e .0; none-lower = λ e. meaning broken e .2 }
+  least-height = record { shown-within = λ e. says broken e .0; none-lower = λ e. says broken e .2 }
 
   module _ (pos : 1 ≤ J) where
     abbrev counts : Exact (base states A) 1 (λ x y. le-refl 1) (le-refl 1) (rulesOf bs) J B pos (check (base states A) (rulesOf bs) J B)
@@ -131,9 +91,9 @@ module _ (bs : List ℕ) (v : fault bs .number ≡ 0) (g : Settings) where
     unfolding orderOn
     one-verdict =
         record {
-          holds-for-all = meaning holds;
-          broken-shows = shows;
-          broken-exactly = λ f s. (λ e. (shown bs (orderOn bs g), shows e), λ c. found (orderOn bs g .verdict) refl f s c);
+          holds-for-all = says holds;
+          broken-shows = breaks;
+          broken-exactly = λ f s. (λ e. (shown bs (orderOn bs g), breaks e), λ c. breaking f s c);
           stops-full = (stops full, so full);
           stops-spent = (stops spent, so spent);
           stops-broken = (stops broken, so broken);

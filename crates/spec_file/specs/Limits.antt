@@ -1,10 +1,10 @@
 -- The numbers of document 01 on files. Definitions only. Assumes nothing.
 use Prim.Native.Nat.{ℕ, _*_}
-use Rattle.relation.specs.Stored.{relationWords}
+use Rattle.relation.specs.Representation.{relationWords}
 
 -- records of the file
 abbrev pub recordLimit : ℕ
-recordLimit = 1288
+recordLimit = 1296
 
 -- rules of the plan
 abbrev pub ruleLimit : ℕ

@@ -5,9 +5,13 @@ use relation::Relation;
 use spec_calls::Options;
 use spec_calls::Row;
 use test_random::Trial;
+use test_unpruned::FIELDS;
 use test_unpruned::Found;
+use test_unpruned::LEFT;
+use test_unpruned::LENGTH;
 use test_unpruned::Numbers;
 use test_unpruned::rows;
+use test_unpruned::same_relation;
 
 const ROWS: usize = 1024;
 
@@ -25,7 +29,7 @@ const KEPT: usize = 64;
 
 // ---- rows as numbers
 
-// Returns a row as eight numbers, its relation as one of them.
+// Returns a row as numbers, its relation as some of them.
 fn numbers(row: Row) -> Numbers {
     let relation = row.relation;
     let mut words = [0; relation::WORDS];
@@ -34,6 +38,9 @@ fn numbers(row: Row) -> Numbers {
         row.head,
         row.rule,
         words[0],
+        words[1],
+        words[2],
+        words[3],
         row.left,
         row.right,
         row.len,
@@ -42,18 +49,18 @@ fn numbers(row: Row) -> Numbers {
     ]
 }
 
-// Returns the row of eight numbers.
+// Returns the row of these numbers.
 fn row_of(x: Numbers) -> Row {
-    let words = [x[2]; relation::WORDS];
+    let words = [x[2], x[3], x[4], x[5]];
     Row {
         head: x[0],
         rule: x[1],
         relation: Relation::read(&words, 0),
-        left: x[3],
-        right: x[4],
-        len: x[5],
-        birth: x[6],
-        retired: x[7],
+        left: x[6],
+        right: x[7],
+        len: x[8],
+        birth: x[9],
+        retired: x[10],
     }
 }
 
@@ -117,9 +124,12 @@ fn shown(file: &[u8], journal: &[Numbers], told: CheckResult, buffer: &[u8]) -> 
     let held = journal[row];
     let size = told.length as usize;
     (told.refused == 0)
-        & (held[5] == told.length)
+        & (held[LENGTH] == told.length)
         & turned_away(file, buffer, size)
-        & (held[2] == test_unpruned::word(file, buffer, size))
+        & same_relation(
+            rows::relation_of(held),
+            test_unpruned::word(file, buffer, size),
+        )
 }
 
 // Tests whether the verdict is the one of the unpruned search, and a broken one has a word to show.
@@ -143,7 +153,7 @@ fn accounted(journal: &[Numbers], told: CheckResult, found: &Found, count: usize
 
 // Tests whether a longer journal and a larger budget give the same answer and the same rows.
 fn same_with_more(file: &[u8], journal: &[Numbers], told: CheckResult) -> bool {
-    let mut longer = [[0u64; 8]; KEPT];
+    let mut longer = [[0u64; FIELDS]; KEPT];
     let again = ask(file, MORE_ROWS, Row::blank(), LARGER_BUDGET, 0);
     let n = looked_at(again.used);
     collect(file, MORE_ROWS, Row::blank(), LARGER_BUDGET, n, &mut longer);
@@ -161,7 +171,7 @@ fn same_with_old(file: &[u8], journal: &[Numbers], told: CheckResult, old: Numbe
     let again = ask(file, ROWS, row_of(old), BUDGET, 0);
     let n = looked_at(again.used);
     collect(file, ROWS, row_of(old), BUDGET, n, &mut other);
-    let far = ask(file, ROWS, row_of(old), BUDGET, far_row(old[3]));
+    let far = ask(file, ROWS, row_of(old), BUDGET, far_row(old[LEFT]));
     let fresh = [old; KEPT];
     let used = told.used as usize;
     same(told, again)
@@ -230,7 +240,7 @@ pub fn compare(file: &[u8], found: &Found, count: usize, broken: bool, trial: Tr
         0,
         &mut buffer,
     );
-    let mut journal = [[0u64; 8]; KEPT];
+    let mut journal = [[0u64; FIELDS]; KEPT];
     let n = looked_at(told.used);
     collect(file, ROWS, old, BUDGET, n, &mut journal);
     let small = ask(file, trial.few, old, trial.budget, 0);

@@ -108,7 +108,7 @@ fn try_file(number: u64, buffer: &[u8; 192], size: usize, trial: Trial, tally: &
         count_mismatch(tally, number, comparison::refusal(file, remark));
         return;
     }
-    let mut found = [[0u64; 2]; test_unpruned::LIMIT];
+    let mut found = [[0u64; test_unpruned::PAIR]; test_unpruned::LIMIT];
     let count = test_unpruned::search(file, &mut found);
     if count == test_unpruned::LIMIT {
         count_one(tally, SKIPPED);

@@ -135,7 +135,7 @@ fn long_runs_on_refused() {
     alternate(&mut word);
     judge_long(b"65,535 steps on the sample", &file, SAMPLE, &word, 65535);
     judge_long(b"65,535 steps on 71 bytes", &file, 71, &word, 65535);
-    judge_long(b"65,535 steps on 1,290 records", &file, HELD, &word, 65535);
+    judge_long(b"65,535 steps on 1,298 records", &file, HELD, &word, 65535);
     put(&mut file, 6, [4, 0, 0, 0, 0, 0, 0, 0]);
     judge_long(
         b"65,535 steps on a file with kind 4",

@@ -93,33 +93,33 @@ fn lengths() {
 fn long_lengths() {
     let mut file = [0u8; HELD];
     fill(&mut file, 256, 1024);
-    report(b"1,288 records", &file, LARGEST);
-    report(b"1,288 records and 1 byte", &file, 10305);
-    report(b"1,289 records", &file, 10312);
-    report(b"1,289 records and 1 byte", &file, 10313);
-    report(b"1,289 records and 7 bytes", &file, 10319);
-    report(b"1,290 records", &file, HELD);
+    report(b"1,296 records", &file, LARGEST);
+    report(b"1,296 records and 1 byte", &file, 10369);
+    report(b"1,297 records", &file, 10376);
+    report(b"1,297 records and 1 byte", &file, 10377);
+    report(b"1,297 records and 7 bytes", &file, 10383);
+    report(b"1,298 records", &file, HELD);
 }
 
 fn zeros() {
     let file = [0u8; HELD];
     report(b"8 zeros", &file, 8);
     report(b"9 zeros", &file, 9);
-    report(b"1,288 records of zeros", &file, LARGEST);
-    report(b"1,289 records of zeros", &file, 10312);
+    report(b"1,296 records of zeros", &file, LARGEST);
+    report(b"1,297 records of zeros", &file, 10376);
 }
 
 fn counts_of_kinds() {
     filled(256, 0, 256);
     filled(257, 0, 257);
-    filled(257, 1023, 1288);
+    filled(257, 1023, 1296);
     filled(0, 1024, 1024);
     filled(0, 1025, 1025);
     filled(256, 1025, 1281);
-    filled(256, 1025, 1288);
+    filled(256, 1025, 1296);
     filled(257, 1025, 1282);
-    filled(0, 0, 8);
-    filled(0, 0, 9);
+    filled(0, 0, 16);
+    filled(0, 0, 17);
 }
 
 fn value(label: &[u8], i: usize, j: usize, x: u8) {
@@ -143,11 +143,11 @@ fn ranges() {
     range(b"symbol alone", 3, 3, 191);
     range(b"first symbol", 2, 3, 191);
     range(b"second symbol", 2, 4, 191);
-    range(b"from stage", 7, 1, 7);
+    range(b"from stage", 7, 1, 15);
     range(b"step code", 7, 2, 119);
     range(b"remark", 7, 2, 127);
-    range(b"to stage", 7, 3, 7);
-    range(b"finishing stage", 8, 1, 7);
+    range(b"to stage", 7, 3, 15);
+    range(b"finishing stage", 8, 1, 15);
 }
 
 fn rise() {
@@ -243,7 +243,7 @@ fn two_numbers() {
     replaced(b"4 and 6", 5, [1, 0, 1, 192, 0, 0, 0, 0]);
     replaced(b"5 and 6", 5, [1, 0, 1, 1, 1, 0, 0, 0]);
     replaced(b"4, 5 and 6", 5, [1, 0, 3, 0, 0, 0, 0, 1]);
-    replaced(b"4 and 12", 7, [2, 8, 120, 0, 0, 0, 0, 0]);
+    replaced(b"4 and 12", 7, [2, 16, 120, 0, 0, 0, 0, 0]);
     replaced(b"5 and 12", 7, [2, 1, 120, 0, 1, 0, 0, 0]);
     replaced(b"12 and 6", 8, [2, 0, 120, 0, 0, 0, 0, 0]);
 }

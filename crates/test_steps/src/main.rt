@@ -69,9 +69,9 @@ fn steps_on_valid() {
     step(b"the empty file", &file, 0, 0);
     step(b"the empty file", &file, 0, usize::MAX);
     fill(&mut file, 256, 1024);
-    steps(b"1,288 records", &file, LARGEST, 255, 257);
-    steps(b"1,288 records", &file, LARGEST, 1279, 1281);
-    steps(b"1,288 records", &file, LARGEST, 1287, 1290);
+    steps(b"1,296 records", &file, LARGEST, 255, 257);
+    steps(b"1,296 records", &file, LARGEST, 1279, 1281);
+    steps(b"1,296 records", &file, LARGEST, 1295, 1298);
 }
 
 fn steps_on_refused() {
@@ -80,10 +80,10 @@ fn steps_on_refused() {
     steps(b"71 bytes", &file, 71, 0, 2);
     steps(b"71 bytes", &file, 71, 8, 10);
     step(b"71 bytes", &file, 71, usize::MAX);
-    step(b"1,289 records", &file, 10312, 0);
-    steps(b"1,289 records", &file, 10312, 1287, 1291);
-    step(b"1,289 records", &file, 10312, usize::MAX);
-    step(b"1,289 records and 1 byte", &file, 10313, 0);
+    step(b"1,297 records", &file, 10376, 0);
+    steps(b"1,297 records", &file, 10376, 1295, 1299);
+    step(b"1,297 records", &file, 10376, usize::MAX);
+    step(b"1,297 records and 1 byte", &file, 10377, 0);
 }
 
 // The sample with record 5 replaced, and steps from it and from the next record.
@@ -220,8 +220,8 @@ fn walks() {
     put(&mut file, 6, [4, 0, 0, 0, 0, 0, 0, 0]);
     walk(b"walk to kind 4 at 6", &file, SAMPLE);
     fill(&mut file, 256, 1024);
-    walk(b"walk over 1,288 records", &file, LARGEST);
-    walk(b"walk over 1,289 records", &file, 10312);
+    walk(b"walk over 1,296 records", &file, LARGEST);
+    walk(b"walk over 1,297 records", &file, 10376);
     fill(&mut file, 257, 1023);
     walk(b"walk to the 257th rule", &file, LARGEST);
 }

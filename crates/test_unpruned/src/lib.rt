@@ -1,10 +1,9 @@
 // For tests only (test_inclusion): lists the relations of all words of each nonterminal, none left out, with no code of the inclusion check.
-// The list holds pairs of a symbol, as a rule's body spells it, and the relation of a word of that symbol. A relation has pair (a, b) at bit
-// a * 8 + b.
+// The list holds pairs of a symbol, as a rule's body spells it, and the relation of a word of that symbol.
 pub mod rows;
 
 // The numbers of document 01 that this search needs, written anew here so that nothing is shared with the check.
-const STATES: u64 = 8;
+const STATES: u64 = 16;
 
 pub const TERMINALS: u64 = 128;
 
@@ -15,10 +14,25 @@ const FIRST_REMARK: u64 = 120;
 
 const RECORD_BYTES: usize = 8;
 
-// Pairs of states, and triples.
+// Pairs of states.
 const PAIRS: u64 = STATES * STATES;
 
-const TRIPLES: u64 = PAIRS * STATES;
+// A relation: a row of 16 bits for each state, which has the states that it leads to; four rows to a word, state 0 lowest.
+pub struct Relation {
+    pub w0: u64,
+    pub w1: u64,
+    pub w2: u64,
+    pub w3: u64,
+}
+
+pub const WORDS: usize = 4;
+
+const ROWS: u64 = 4;
+
+// A symbol, and then the words of a relation.
+pub type Pair = [u64; PAIR];
+
+pub const PAIR: usize = WORDS + 1;
 
 // Records that are read of a file, and records that a file has room for.
 pub const RECORDS: usize = 24;
@@ -28,13 +42,20 @@ const ROOM: usize = 32;
 // The most pairs of the list.
 pub const LIMIT: usize = 512;
 
-pub type Found = [[u64; 2]; LIMIT];
+pub type Found = [Pair; LIMIT];
 
 // Turns of the search: one to begin, and one for each pair of the list.
 const TURNS: usize = LIMIT + 1;
 
-// A row of the journal as numbers, in document 01's order: nonterminal, rule, relation, left and right pointer, length, birth, retired.
-pub const FIELDS: usize = 8;
+// A row of the journal as numbers, in document 01's order: nonterminal, rule, the words of the relation, left and right pointer, length,
+// birth, retired.
+pub const FIELDS: usize = WORDS + 7;
+
+pub const LEFT: usize = 6;
+
+pub const LENGTH: usize = 8;
+
+pub const RETIRED: usize = 10;
 
 pub type Numbers = [u64; FIELDS];
 
@@ -67,16 +88,60 @@ pub fn remark_transition(file: &[u8]) -> usize {
 
 // ---- relations
 
-fn has(relation: u64, a: u64, b: u64) -> bool {
-    (relation >> (a % STATES * STATES + b % STATES)) % 2 == 1
+// Returns the word that has the row of state `a` of `relation`.
+fn word_of(relation: Relation, a: u64) -> u64 {
+    let i = a / ROWS % ROWS;
+    match i {
+        0 => relation.w0,
+        1 => relation.w1,
+        2 => relation.w2,
+        _ => relation.w3,
+    }
 }
 
-fn with(relation: u64, a: u64, b: u64) -> u64 {
-    relation | (1u64 << (a % STATES * STATES + b % STATES))
+// Returns the row of state `a` of `relation`.
+fn row(relation: Relation, a: u64) -> u64 {
+    (word_of(relation, a) >> (a % ROWS * STATES)) % 65536
+}
+
+// Returns `word` with the states of `row` added to the row of state `a`, if it is word `i` and has that row; else `word`.
+fn with_row_in(word: u64, i: u64, a: u64, row: u64) -> u64 {
+    if i == a / ROWS % ROWS {
+        return word | (row % 65536 << (a % ROWS * STATES));
+    }
+    word
+}
+
+// Adds the states of `row` to the row of state `a` of `relation`.
+fn with_row(relation: Relation, a: u64, row: u64) -> Relation {
+    Relation {
+        w0: with_row_in(relation.w0, 0, a, row),
+        w1: with_row_in(relation.w1, 1, a, row),
+        w2: with_row_in(relation.w2, 2, a, row),
+        w3: with_row_in(relation.w3, 3, a, row),
+    }
+}
+
+fn has(relation: Relation, a: u64, b: u64) -> bool {
+    (row(relation, a) >> (b % STATES)) % 2 == 1
+}
+
+fn with(relation: Relation, a: u64, b: u64) -> Relation {
+    with_row(relation, a, 1u64 << (b % STATES))
+}
+
+// The relation without pairs.
+fn empty() -> Relation {
+    Relation {
+        w0: 0,
+        w1: 0,
+        w2: 0,
+        w3: 0,
+    }
 }
 
 // Adds the pair of record `r` to `relation`, if that is a transition by the letter `code`.
-fn with_transition(relation: u64, file: &[u8], code: u64, r: usize) -> u64 {
+fn with_transition(relation: Relation, file: &[u8], code: u64, r: usize) -> Relation {
     if (byte(file, r, 0) == 2) & (byte(file, r, 2) == code) {
         return with(relation, byte(file, r, 1), byte(file, r, 3));
     }
@@ -84,41 +149,45 @@ fn with_transition(relation: u64, file: &[u8], code: u64, r: usize) -> u64 {
 }
 
 // Returns the relation of the letter `code`: the pairs (a, b) with a transition from a to b on it; of a remark that of the empty word.
-fn letter(file: &[u8], code: u64) -> u64 {
+fn letter(file: &[u8], code: u64) -> Relation {
     if is_remark(code) {
         return identity();
     }
-    let mut relation: u64 = 0;
+    let mut relation = empty();
     for r in 0..RECORDS {
         relation = with_transition(relation, file, code, r);
     }
     relation
 }
 
-// Adds the pair (a, c) to `relation`, if `x` has (a, b) and `y` has (b, c).
-fn with_linked(relation: u64, x: u64, y: u64, a: u64, b: u64, c: u64) -> u64 {
-    if has(x, a, b) & has(y, b, c) {
-        return with(relation, a, c);
+// Adds to the row of `a` the row of `b` in `y`, if `x` has (a, b).
+fn with_linked(relation: Relation, x: Relation, y: Relation, a: u64, b: u64) -> Relation {
+    if has(x, a, b) {
+        return with_row(relation, a, row(y, b));
     }
     relation
 }
 
-// Composes `x` and `y`: goes through all triples (a, b, c), one for each value of `i`.
-fn compose(x: u64, y: u64) -> u64 {
-    let mut relation: u64 = 0;
-    for i in 0..TRIPLES {
-        relation = with_linked(relation, x, y, i / PAIRS, i / STATES % STATES, i % STATES);
+// Composes `x` and `y`: goes through all pairs (a, b), one for each value of `i`.
+fn compose(x: Relation, y: Relation) -> Relation {
+    let mut relation = empty();
+    for i in 0..PAIRS {
+        relation = with_linked(relation, x, y, i / STATES, i % STATES);
     }
     relation
 }
 
 // Returns the relation of the empty word: each state with itself.
-fn identity() -> u64 {
-    0x8040201008040201
+fn identity() -> Relation {
+    let mut relation = empty();
+    for a in 0..STATES {
+        relation = with(relation, a, a);
+    }
+    relation
 }
 
 // Composes `relation` with that of letter `i` of `buffer`, if `buffer` is that long.
-fn with_letter(relation: u64, file: &[u8], buffer: &[u8], i: usize) -> u64 {
+fn with_letter(relation: Relation, file: &[u8], buffer: &[u8], i: usize) -> Relation {
     if i < buffer.len() {
         return compose(relation, letter(file, wide(buffer[i])));
     }
@@ -126,7 +195,7 @@ fn with_letter(relation: u64, file: &[u8], buffer: &[u8], i: usize) -> u64 {
 }
 
 // Returns the relation of the word that is the first `size` letters of `buffer`.
-pub fn word(file: &[u8], buffer: &[u8], size: usize) -> u64 {
+pub fn word(file: &[u8], buffer: &[u8], size: usize) -> Relation {
     let mut relation = identity();
     for i in 0..size {
         relation = with_letter(relation, file, buffer, i);
@@ -135,12 +204,12 @@ pub fn word(file: &[u8], buffer: &[u8], size: usize) -> u64 {
 }
 
 // Tests whether record `r` is a final state to which `relation` has a pair from state 0.
-fn accepting(file: &[u8], relation: u64, r: usize) -> bool {
+fn accepting(file: &[u8], relation: Relation, r: usize) -> bool {
     (byte(file, r, 0) == 3) & has(relation, 0, byte(file, r, 1))
 }
 
 // Tests whether `relation` has no pair from state 0 to a final state.
-fn rejecting(file: &[u8], relation: u64) -> bool {
+fn rejecting(file: &[u8], relation: Relation) -> bool {
     for r in 0..RECORDS {
         if accepting(file, relation, r) {
             return false;
@@ -151,17 +220,36 @@ fn rejecting(file: &[u8], relation: u64) -> bool {
 
 // ---- the list
 
+// Returns the pair of `symbol` and `relation`.
+pub fn pair(symbol: u64, relation: Relation) -> Pair {
+    [symbol, relation.w0, relation.w1, relation.w2, relation.w3]
+}
+
+// Returns the relation of `pair`.
+pub fn relation_of(pair: Pair) -> Relation {
+    Relation {
+        w0: pair[1],
+        w1: pair[2],
+        w2: pair[3],
+        w3: pair[4],
+    }
+}
+
 // Returns pair `i` of the list `found`.
-fn pair_at(found: &Found, i: usize) -> [u64; 2] {
+fn pair_at(found: &Found, i: usize) -> Pair {
     found[i % LIMIT]
 }
 
-fn same_pair(x: [u64; 2], y: [u64; 2]) -> bool {
-    (x[0] == y[0]) & (x[1] == y[1])
+pub fn same_relation(x: Relation, y: Relation) -> bool {
+    (x.w0 == y.w0) & (x.w1 == y.w1) & (x.w2 == y.w2) & (x.w3 == y.w3)
+}
+
+fn same_pair(x: Pair, y: Pair) -> bool {
+    (x[0] == y[0]) & same_relation(relation_of(x), relation_of(y))
 }
 
 // Tests whether `pair` is among the first `count` pairs of `found`.
-pub fn listed(found: &Found, count: usize, pair: [u64; 2]) -> bool {
+pub fn listed(found: &Found, count: usize, pair: Pair) -> bool {
     for i in 0..count {
         if same_pair(pair_at(found, i), pair) {
             return true;
@@ -171,12 +259,12 @@ pub fn listed(found: &Found, count: usize, pair: [u64; 2]) -> bool {
 }
 
 // Appends the pair of `symbol` and `relation` to the `count` pairs of `found`, if it is new and there is room. Returns the new count.
-fn add(found: &mut Found, count: usize, symbol: u64, relation: u64) -> usize {
-    if listed(found, count, [symbol, relation]) {
+fn add(found: &mut Found, count: usize, symbol: u64, relation: Relation) -> usize {
+    if listed(found, count, pair(symbol, relation)) {
         return count;
     }
     if count < LIMIT {
-        found[count] = [symbol, relation];
+        found[count] = pair(symbol, relation);
         return count + 1;
     }
     count
@@ -221,28 +309,27 @@ fn begin(found: &mut Found, count: usize, file: &[u8], rule: Rule) -> usize {
 }
 
 // Appends the head of `rule` with the composition of the two relations, if the symbols of `left` and `right` are its body.
-fn spelled(found: &mut Found, count: usize, rule: Rule, left: [u64; 2], right: [u64; 2]) -> usize {
+fn spelled(found: &mut Found, count: usize, rule: Rule, left: Pair, right: Pair) -> usize {
     if (left[0] == rule.first) & (right[0] == rule.second) {
-        return add(found, count, rule.head, compose(left[1], right[1]));
+        return add(
+            found,
+            count,
+            rule.head,
+            compose(relation_of(left), relation_of(right)),
+        );
     }
     count
 }
 
 // For a body of two symbols: tries `pair` with pair `j` of the list, in both orders.
-fn spelled_both(found: &mut Found, count: usize, rule: Rule, pair: [u64; 2], j: usize) -> usize {
+fn spelled_both(found: &mut Found, count: usize, rule: Rule, pair: Pair, j: usize) -> usize {
     let other = pair_at(found, j);
     let more = spelled(found, count, rule, pair, other);
     spelled(found, more, rule, other, pair)
 }
 
 // The same with each of the first `firsts` pairs of the list.
-fn spelled_with(
-    found: &mut Found,
-    count: usize,
-    rule: Rule,
-    pair: [u64; 2],
-    firsts: usize,
-) -> usize {
+fn spelled_with(found: &mut Found, count: usize, rule: Rule, pair: Pair, firsts: usize) -> usize {
     let mut count = count;
     for j in 0..firsts {
         count = spelled_both(found, count, rule, pair, j);
@@ -260,7 +347,7 @@ fn by_rule(found: &mut Found, count: usize, rule: Rule, k: usize) -> usize {
         return spelled_with(found, count, rule, pair, k + 1);
     }
     if (rule.size == 1) & (rule.first == pair[0]) {
-        return add(found, count, rule.head, pair[1]);
+        return add(found, count, rule.head, relation_of(pair));
     }
     count
 }
@@ -308,13 +395,13 @@ pub struct Verdict {
 }
 
 // Adds `pair` to what the list says.
-fn with_pair(said: Verdict, file: &[u8], pair: [u64; 2]) -> Verdict {
+fn with_pair(said: Verdict, file: &[u8], pair: Pair) -> Verdict {
     if pair[0] < TERMINALS {
         return said;
     }
     Verdict {
         words: said.words | (pair[0] == TERMINALS),
-        broken: said.broken | ((pair[0] == TERMINALS) & rejecting(file, pair[1])),
+        broken: said.broken | ((pair[0] == TERMINALS) & rejecting(file, relation_of(pair))),
         relations: std::num::wrapping_add_u64(said.relations, 1),
     }
 }

@@ -60,7 +60,7 @@ fn views_of_files() {
     view_move(b"record 7 as a move", &file, 7);
     view_finishing(b"record 8 as a finishing stage", &file, 8);
     fill(&mut file, 256, 1024);
-    counts(b"counts of 1,288 records", &file, LARGEST);
+    counts(b"counts of 1,296 records", &file, LARGEST);
 }
 
 // ---- the moves stretch
@@ -91,7 +91,7 @@ fn stretches() {
     stretch(b"moves of the sample's rules", &file, 40);
     stretch(b"moves of the empty file", &file, 0);
     stretch(b"moves of 71 bytes", &file, 71);
-    put(&mut file, 8, [3, 8, 0, 0, 0, 0, 0, 0]);
+    put(&mut file, 8, [3, 16, 0, 0, 0, 0, 0, 0]);
     stretch(b"moves of a file refused at its last record", &file, SAMPLE);
     sheet(&mut file);
     stretch(b"moves of sheet S", &file, SHEET);
@@ -100,12 +100,12 @@ fn stretches() {
 fn long_stretches() {
     let mut file = [0u8; HELD];
     fill(&mut file, 256, 1024);
-    stretch(b"moves of 1,288 records", &file, LARGEST);
-    stretch(b"moves of 1,289 records", &file, 10312);
+    stretch(b"moves of 1,296 records", &file, LARGEST);
+    stretch(b"moves of 1,297 records", &file, 10376);
     fill(&mut file, 0, 1024);
     stretch(b"moves of 1,024 moves", &file, 8192);
     fill(&mut file, 256, 0);
-    stretch(b"moves of 256 rules and 8 finishing stages", &file, 2112);
+    stretch(b"moves of 256 rules and 16 finishing stages", &file, 2176);
 }
 
 // ---- all

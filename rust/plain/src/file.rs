@@ -3,7 +3,7 @@
 use crate::effect::Effect;
 
 const RECORD: usize = 8;
-const MOST_RECORDS: usize = 1_288;
+const MOST_RECORDS: usize = 1_296;
 const MOST_RULES: usize = 256;
 const MOST_MOVES: usize = 1_024;
 
@@ -14,7 +14,7 @@ const FINISHING: u8 = 3;
 const LAST_PROCEDURE: u8 = 63;
 const LAST_CODE: u8 = 127;
 const LAST_SYMBOL: u8 = 191;
-const LAST_STAGE: u8 = 7;
+const LAST_STAGE: u8 = 15;
 
 /// The codes from this one on are remarks (C-11): the effect of each is that of the empty run, and no move may be on one.
 pub const FIRST_REMARK: u8 = 120;
@@ -62,7 +62,7 @@ pub struct Plan {
     /// The effect of each step code.
     pub codes: [Effect; 128],
     /// The finishing stages, a bit for each.
-    pub finishing: u8,
+    pub finishing: u16,
 }
 
 /// Reads a file, or says what refuses it.

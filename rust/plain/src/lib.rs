@@ -10,7 +10,7 @@
 //! let mut buffer = [0; 16];
 //! let checked = plain::check(&file, 1_024, 1_000_000, &mut buffer).unwrap();
 //! assert_eq!(checked.answer.verdict, plain::Verdict::Broken);
-//! assert_eq!(checked.broken.unwrap().pairs, 8);
+//! assert_eq!(checked.broken.unwrap().pairs, 16);
 //! ```
 
 #![forbid(unsafe_code)]

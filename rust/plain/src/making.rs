@@ -32,7 +32,7 @@ impl Making {
     }
 
     /// Adds the moves of a code that takes stage a to `to[a]`.
-    pub fn mapping(&mut self, code: u8, to: [u8; 8]) -> &mut Making {
+    pub fn mapping<const STAGES: usize>(&mut self, code: u8, to: [u8; STAGES]) -> &mut Making {
         for (from, &to) in (0..).zip(&to) {
             self.step(from, code, to);
         }

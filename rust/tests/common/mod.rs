@@ -168,20 +168,25 @@ pub fn valid_file(numbers: &mut Numbers, size: Size) -> Vec<u8> {
         let body: Vec<u8> = (0..length).map(|_| symbol(numbers, size)).collect();
         making.rule(head, &body);
     }
+    // Half of the files use eight stages, as all did before C-14, and half all sixteen.
+    let stages = numbers.pick(&[8, 16]);
     let mut moves = size.moves;
     if numbers.once_in(3) {
-        // Each code leads somewhere from each stage. There is room for what is left of 1,024 moves.
-        for code in 0..size.codes {
-            making.mapping(code as u8, std::array::from_fn(|_| numbers.byte(8)));
+        // Each code leads somewhere from each stage, as far as 1,024 moves go. There is room for what is left of them.
+        let whole = size.codes.min(1_024 / stages);
+        for code in 0..whole {
+            for from in 0..stages {
+                making.step(from as u8, code as u8, numbers.byte(stages));
+            }
         }
-        moves = moves.min(1_024 - 8 * size.codes);
+        moves = moves.min(1_024 - stages * whole);
     }
     for _ in 0..moves {
-        making.step(numbers.byte(8), numbers.byte(size.codes), numbers.byte(8));
+        making.step(numbers.byte(stages), numbers.byte(size.codes), numbers.byte(stages));
     }
     let finishing = numbers.pick(&[0, 1, 3, 20, 40]);
     (0..finishing).for_each(|_| {
-        making.finishing(numbers.byte(8));
+        making.finishing(numbers.byte(stages));
     });
     making.bytes()
 }

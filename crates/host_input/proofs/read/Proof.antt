@@ -5,7 +5,7 @@ use Rattle.host_input.proofs.read.Statement.{statement}
 use Rattle.host_input.proofs.read.Tie as tie
 
 abbrev Inv-loop : tie.InvT-loop
-Inv-loop buffer₀ at₀ turns₀ buffer at turns = at ≤ 10319
+Inv-loop buffer₀ at₀ turns₀ buffer at turns = at ≤ 10383
 
 abbrev μ-loop : tie.MeasureT-loop
 μ-loop buffer₀ at₀ turns₀ buffer at turns = turns

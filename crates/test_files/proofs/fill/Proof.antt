@@ -1,14 +1,14 @@
--- The invariant: `i` is at most 1,290. The measure is 1290 - i, which falls by 1 at each turn. Assumes nothing.
+-- The invariant: `i` is at most 1,298. The measure is 1298 - i, which falls by 1 at each turn. Assumes nothing.
 use Prim.Native.Nat.{_≤_, _-_}
 use borrow.Author.Needs.{needs}
 use Rattle.test_files.proofs.fill.Statement.{statement}
 use Rattle.test_files.proofs.fill.Tie as tie
 
 abbrev Inv-loop : tie.InvT-loop
-Inv-loop file₀ rules moves i₀ file i = i ≤ 1290
+Inv-loop file₀ rules moves i₀ file i = i ≤ 1298
 
 abbrev μ-loop : tie.MeasureT-loop
-μ-loop file₀ rules moves i₀ file i = 1290 - i
+μ-loop file₀ rules moves i₀ file i = 1298 - i
 
 pub fill-spec : {M : Type 1} → statement M
 fill-spec =

@@ -9,4 +9,4 @@ abbrev μ-loop : tie.MeasureT-loop
 μ-loop file code relation₀ r₀ relation r = 24 - r
 
 pub letter-spec : {M : Type 1} → statement M
-letter-spec = tie.close (tie.spec (λ file code relation₀ r₀ relation r. Unit {0}) μ-loop (λ c κs. tt) (λ c κs. tt) (λ c. tt) (λ c. tt) (λ c κs. tt) (λ c. omega arith) (λ c. omega arith) (λ c. tt) (λ c. tt))
+letter-spec = tie.close (tie.spec (λ file code relation₀ r₀ relation r. Unit {0}) μ-loop (λ c κs. tt) (λ c κs. tt) (λ c. tt) (λ c κs. tt) (λ c. tt) (λ c κs. tt) (λ c. omega arith) (λ c. omega arith) (λ c. tt) (λ c. tt))

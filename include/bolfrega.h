@@ -42,10 +42,11 @@ extern "C" {
 #endif
 
 /* What bolfrega_check returns, unless it refuses. */
-#define BOLFREGA_HOLDS 100  /* the sheet accepts every run of the plan */
+#define BOLFREGA_HOLDS 100  /* the plan has a run, and the sheet accepts every one */
 #define BOLFREGA_BROKEN 101 /* the plan has a run that the sheet turns away */
 #define BOLFREGA_FULL 102   /* the journal had no row left */
 #define BOLFREGA_SPENT 103  /* the joins reached the budget */
+#define BOLFREGA_EMPTY 104  /* the plan has no run: procedure 0 never ends */
 
 /* What bolfrega_judge returns, unless it refuses. */
 #define BOLFREGA_ACCEPTED 110
@@ -115,12 +116,13 @@ uint64_t bolfrega_recognize(const uint8_t *file, size_t file_length, const uint8
  * Returns, and sets all eight details:
  * - 1 to 7 or 12 if the file is refused; else 8 if `rows` is 0 or above 4,096. The record is that of bolfrega_refusal (0 for 1, 2 and 8), and
  *   the other details are 0.
- * - BOLFREGA_HOLDS, BOLFREGA_FULL or BOLFREGA_SPENT. Joins, used and pass are those of the check, the row is 65,535, the rest is 0.
+ * - BOLFREGA_HOLDS, BOLFREGA_EMPTY, BOLFREGA_FULL or BOLFREGA_SPENT. Joins, used and pass are those of the check, the row is 65,535, the
+ *   rest is 0.
  * - BOLFREGA_BROKEN. Joins, used, pass, row, pairs and length are those of the check, the record is 0. If the run has at most 65,534
  *   steps and fits into the buffer, refused is 0 and the run is the first `length` bytes of the buffer. Else refused is 10.
  *
- * Every byte of the buffer keeps its value but those of a run that is written. Once it returns BOLFREGA_HOLDS or BOLFREGA_BROKEN, more
- * rows (up to 4,096) or a larger budget change nothing that it returns, sets or writes.
+ * Every byte of the buffer keeps its value but those of a run that is written. Once it returns BOLFREGA_HOLDS, BOLFREGA_BROKEN or
+ * BOLFREGA_EMPTY, more rows (up to 4,096) or a larger budget change nothing that it returns, sets or writes.
  */
 uint64_t bolfrega_check(const uint8_t *file, size_t file_length, size_t rows, uint64_t budget, uint64_t details[8], uint8_t *buffer,
                         size_t buffer_length);

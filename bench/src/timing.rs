@@ -91,6 +91,8 @@ fn proved(case: &Case) -> Option<Outcome> {
         bolfrega::Verdict::Broken(_) => "broken",
         bolfrega::Verdict::Full => "full",
         bolfrega::Verdict::Spent => "spent",
+        bolfrega::Verdict::Empty => "empty",
+        other => panic!("{other:?}"),
     };
     Some(Outcome {
         verdict,
@@ -109,6 +111,7 @@ fn plainly(case: &Case) -> Option<Outcome> {
         plain::Verdict::Broken => "broken",
         plain::Verdict::Full => "full",
         plain::Verdict::Spent => "spent",
+        plain::Verdict::Empty => "empty",
     };
     Some(Outcome {
         verdict,

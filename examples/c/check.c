@@ -4,7 +4,8 @@
  *     cc -Iinclude examples/c/check.c target/staticlib/libbolfrega.a -o check
  *     ./check samples/plan-b.plan
  *
- * Exit status: 0 holds, 1 broken, 2 no answer (the file cannot be read, or the answer not written), 3 refused, 4 full or spent.
+ * Exit status: 0 holds, 1 broken, 2 no answer (the file cannot be read, or the answer not written), 3 refused, 4 full or spent,
+ * 5 empty.
  */
 #include "bolfrega.h"
 #include "io.h"
@@ -30,8 +31,8 @@ static void print_run(const uint64_t *details, const uint8_t *run)
 /* The lines of the check program. */
 static void print_answer(uint64_t code, const uint64_t *details, const uint8_t *run)
 {
-    static const char *const verdicts[] = {"holds", "broken", "full", "spent"};
-    if (code < BOLFREGA_HOLDS || code > BOLFREGA_SPENT) {
+    static const char *const verdicts[] = {"holds", "broken", "full", "spent", "empty"};
+    if (code < BOLFREGA_HOLDS || code > BOLFREGA_EMPTY) {
         printf("refused %" PRIu64 "\n", code);
         return;
     }
@@ -54,6 +55,8 @@ static int status_of(uint64_t code)
     case BOLFREGA_FULL:
     case BOLFREGA_SPENT:
         return 4;
+    case BOLFREGA_EMPTY:
+        return 5;
     default:
         return 3;
     }

@@ -2,7 +2,8 @@
 //!
 //!     cargo run --example check -- ../samples/plan-b.plan
 //!
-//! Exit status: 0 holds, 1 broken, 2 no answer (the file cannot be read, or the answer not written), 3 refused, 4 full or spent.
+//! Exit status: 0 holds, 1 broken, 2 no answer (the file cannot be read, or the answer not written), 3 refused, 4 full or spent,
+//! 5 empty.
 
 use bolfrega::{Answer, Broken, Refusal, Verdict};
 use std::io::Write;
@@ -42,6 +43,9 @@ fn status(reply: &Result<Answer, Refusal>) -> u8 {
             Verdict::Holds => 0,
             Verdict::Broken(_) => 1,
             Verdict::Full | Verdict::Spent => 4,
+            Verdict::Empty => 5,
+            // A verdict that this program does not know is no answer.
+            _ => 2,
         },
         Err(_) => 3,
     }
@@ -58,6 +62,7 @@ fn text(reply: &Result<Answer, Refusal>) -> String {
         Verdict::Holds => format!("holds {joins} {used} {pass}\n"),
         Verdict::Full => format!("full {joins} {used} {pass}\n"),
         Verdict::Spent => format!("spent {joins} {used} {pass}\n"),
+        Verdict::Empty => format!("empty {joins} {used} {pass}\n"),
         Verdict::Broken(broken) => {
             let run = match broken.run {
                 Ok(run) => run.iter().map(u8::to_string).collect::<Vec<_>>().join(" "),
@@ -66,5 +71,6 @@ fn text(reply: &Result<Answer, Refusal>) -> String {
             let Broken { row, pairs, length, .. } = broken;
             format!("broken {joins} {used} {pass}\n{row} {pairs} {length}\n{run}\n")
         }
+        _ => String::new(),
     }
 }

@@ -2,7 +2,7 @@
 //!
 //! A *plan* is a context-free grammar of procedures, an *order sheet* a finite automaton over the same step codes. Both stand in one
 //! file of 8-byte records. [`check`] says whether the sheet accepts every run of the plan, and if not it shows a run that is turned
-//! away. The work is done by a library that is proved: each call is proved to give the answer that document 01 settles, for every
+//! away; it also says where a plan has no run at all. The work is done by a library that is proved: each call is proved to give the answer that document 01 settles, for every
 //! input. This crate only brings its answers into Rust's types. It never panics on an input, however damaged.
 //!
 //! ```
@@ -61,6 +61,7 @@ pub const MOST_ROWS: usize = 4_096;
 
 /// Whether a sheet accepts a run.
 #[derive(Clone, Copy, Debug, PartialEq, Eq, Hash)]
+#[non_exhaustive]
 pub enum Judgement {
     /// The sheet has a path on the run from stage 0 to a finishing stage.
     Accepted,
@@ -83,8 +84,9 @@ pub struct Answer<'b> {
 
 /// How a check ends.
 #[derive(Clone, Copy, Debug, PartialEq, Eq, Hash)]
+#[non_exhaustive]
 pub enum Verdict<'b> {
-    /// The sheet accepts every run of the plan.
+    /// The plan has a run, and the sheet accepts every one.
     Holds,
     /// The plan has a run that the sheet turns away, and this one is shown.
     Broken(Broken<'b>),
@@ -92,6 +94,8 @@ pub enum Verdict<'b> {
     Full,
     /// The joins reached the budget. With a larger one the check may come to a verdict.
     Spent,
+    /// The plan has no run: procedure 0 never ends.
+    Empty,
 }
 
 /// The journal row at which a check was broken, and its run.
@@ -162,7 +166,7 @@ pub fn judge(file: &[u8], run: &[u8]) -> Result<Judgement, Refusal> {
 ///
 /// The run of a broken answer is written to the front of `buffer`; all other bytes of `buffer` keep their values, and so do all of them
 /// with any other answer and with a refusal. It refuses a file with 1 to 7 or 12, and then with 8 a number of rows that is 0 or above
-/// [`MOST_ROWS`]. More rows and a larger budget never change an answer that is `Holds` or `Broken`.
+/// [`MOST_ROWS`]. More rows and a larger budget never change an answer that is `Holds`, `Broken` or `Empty`.
 ///
 /// It keeps about 540 KiB on the stack ([see above](crate#stack)).
 ///
@@ -176,6 +180,7 @@ pub fn judge(file: &[u8], run: &[u8]) -> Result<Judgement, Refusal> {
 /// assert_eq!((answer.joins, answer.used, answer.pass), (2, 1, 2));
 ///
 /// assert_eq!(check(&file, 1_024, 1, &mut [])?.verdict, Verdict::Spent);
+/// assert_eq!(check(&[], 1_024, 1_000_000, &mut [])?.verdict, Verdict::Empty);
 /// assert_eq!(check(&file, 0, 1_000_000, &mut []), Err(Refusal::Journal));
 /// # Ok::<(), Refusal>(())
 /// ```
@@ -188,6 +193,7 @@ pub fn check<'b>(file: &[u8], rows: usize, budget: u64, buffer: &'b mut [u8]) ->
         raw::BROKEN => Verdict::Broken(broken(details, buffer)),
         raw::FULL => Verdict::Full,
         raw::SPENT => Verdict::Spent,
+        raw::EMPTY => Verdict::Empty,
         number => return Err(refused(number, record)),
     };
     Ok(Answer {

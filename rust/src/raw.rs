@@ -8,7 +8,7 @@
 
 #![allow(unsafe_code)]
 
-/// [`check`]: the sheet accepts every run of the plan.
+/// [`check`]: the plan has a run, and the sheet accepts every one.
 pub const HOLDS: u64 = 100;
 /// [`check`]: a run of the plan is turned away.
 pub const BROKEN: u64 = 101;
@@ -16,6 +16,8 @@ pub const BROKEN: u64 = 101;
 pub const FULL: u64 = 102;
 /// [`check`]: the joins reached the budget.
 pub const SPENT: u64 = 103;
+/// [`check`]: the plan has no run.
+pub const EMPTY: u64 = 104;
 /// [`judge`]: the sheet accepts the run.
 pub const ACCEPTED: u64 = 110;
 /// [`judge`]: the sheet turns the run away.
@@ -81,8 +83,8 @@ pub fn recognize(file: &[u8], run: &[u8], record: &mut u64, table: &mut [u64]) -
     unsafe { c::bolfrega_recognize(file.as_ptr(), file.len(), run.as_ptr(), run.len(), record, cells, count) }
 }
 
-/// [`HOLDS`], [`BROKEN`], [`FULL`], [`SPENT`] or the number of a refusal; fills in `details`, and writes the run of a broken answer to
-/// `buffer`.
+/// [`HOLDS`], [`BROKEN`], [`FULL`], [`SPENT`], [`EMPTY`] or the number of a refusal; fills in `details`, and writes the run of a broken
+/// answer to `buffer`.
 pub fn check(file: &[u8], rows: usize, budget: u64, details: &mut Details, buffer: &mut [u8]) -> u64 {
     let (pointer, length) = (buffer.as_mut_ptr(), buffer.len());
     // SAFETY: each pointer and length are those of one slice, and `details` and `buffer` are lent to this call alone.

@@ -137,7 +137,7 @@ fn rows_of_refused_files() {
 #[test]
 fn budgets() {
     let file = Making::new().rule(1, &[1]).rule(2, &[1]).bytes();
-    for (budget, expected) in [(0, 103), (1, 103), (2, 103), (3, 103), (4, 100), (5, 100), (u64::MAX, 100)] {
+    for (budget, expected) in [(0, 103), (1, 103), (2, 103), (3, 103), (4, 104), (5, 104), (u64::MAX, 104)] {
         let (code, details, _) = checking(&file, 4_096, budget, 0);
         assert_eq!((code, details[1]), (expected, budget.min(4)));
     }

@@ -1,4 +1,4 @@
-//! The cases of document 01, and those of C-11's remarks, through the library.
+//! The cases of document 01, those of C-11's remarks and those of C-15's plans without runs, through the library.
 
 mod common;
 
@@ -10,6 +10,7 @@ use plain::FIRST_REMARK;
 const PLAN_A: &[u8] = include_bytes!("../../samples/plan-a.plan");
 const PLAN_B: &[u8] = include_bytes!("../../samples/plan-b.plan");
 const REMARKS: &[u8] = include_bytes!("../../samples/remarks.plan");
+const ENDLESS: &[u8] = include_bytes!("../../samples/endless.plan");
 
 /// Plan A with sheet S, and a remark before each index row: 2 gives a remark and 3, and 3 gives what 2 gave.
 fn plan_a_with_a_remark() -> Making {
@@ -23,6 +24,18 @@ fn plan_a_with_a_remark() -> Making {
     making
 }
 
+/// A plan without its ending rule, with sheet S: 0 gives a tile row, an index row, and itself. "0 gives the close" was dropped, and only
+/// procedure 3 gives the close.
+fn endless() -> Making {
+    let mut making = sheet_s();
+    making
+        .rule(0, &[procedure(1), procedure(0)])
+        .rule(1, &[1, procedure(2)])
+        .rule(2, &[2])
+        .rule(3, &[3]);
+    making
+}
+
 /// The verdict without what a broken one shows, and the counts.
 fn line(file: &[u8], rows: usize, budget: u64) -> (&'static str, u64, u64, u64) {
     checking(file, rows, budget, 16);
@@ -33,6 +46,8 @@ fn line(file: &[u8], rows: usize, budget: u64) -> (&'static str, u64, u64, u64) 
         Verdict::Broken(_) => "broken",
         Verdict::Full => "full",
         Verdict::Spent => "spent",
+        Verdict::Empty => "empty",
+        other => panic!("{other:?}"),
     };
     (verdict, answer.joins, answer.used, answer.pass)
 }
@@ -42,6 +57,7 @@ fn samples_are_the_plans() {
     assert_eq!(plan_a().bytes(), PLAN_A);
     assert_eq!(plan_b().bytes(), PLAN_B);
     assert_eq!(plan_a_with_a_remark().bytes(), REMARKS);
+    assert_eq!(endless().bytes(), ENDLESS);
 }
 
 #[test]
@@ -95,8 +111,22 @@ fn a_with_few_rows() {
 
 #[test]
 fn the_empty_file() {
-    assert_eq!(line(&[], 1_024, 0), ("holds", 0, 0, 1));
+    assert_eq!(line(&[], 1_024, 0), ("empty", 0, 0, 1));
     assert_eq!(refusal(&[]), Ok(()));
+}
+
+#[test]
+fn plans_without_runs() {
+    // Without the rule that ends procedure 0, and with it.
+    assert_eq!(line(ENDLESS, 1_024, 1_000_000), ("empty", 8, 3, 3));
+    assert_eq!(line(&endless().rule(0, &[3]).bytes(), 1_024, 1_000_000), ("holds", 12, 4, 3));
+    assert_eq!(line(&Making::new().rule(0, &[191]).bytes(), 1_024, 0), ("empty", 0, 0, 1));
+    // Full and spent come first, and the answer stays with more rows and joins.
+    let headless = &PLAN_A[8..];
+    assert_eq!(line(headless, 3, 9), ("empty", 9, 3, 4));
+    assert_eq!(line(headless, 4_096, u64::MAX), ("empty", 9, 3, 4));
+    assert_eq!(line(headless, 2, 9), ("full", 5, 2, 3));
+    assert_eq!(line(headless, 3, 8), ("spent", 8, 3, 4));
 }
 
 #[test]

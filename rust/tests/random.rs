@@ -37,10 +37,10 @@ const LARGE: Size = Size {
     moves: 1_024,
 };
 
-/// Checks `rounds` files of a size. Returns how often each verdict came: holds, broken, full, spent.
-fn many(seed: u64, size: Size, rounds: usize) -> [usize; 4] {
+/// Checks `rounds` files of a size. Returns how often each verdict came: holds, broken, full, spent, empty.
+fn many(seed: u64, size: Size, rounds: usize) -> [usize; 5] {
     let mut numbers = Numbers::new(seed);
-    let mut seen = [0; 4];
+    let mut seen = [0; 5];
     for _ in 0..rounds {
         let file = valid_file(&mut numbers, size);
         let rows = numbers.pick(&[1, 2, 3, 5, 20, 100, 1_024, 4_096]);
@@ -66,7 +66,7 @@ fn small_files() {
 
 #[test]
 fn middle_files() {
-    let seen = many(13, MIDDLE, 1_000);
+    let seen = many(13, MIDDLE, 3_000);
     assert!(seen.iter().all(|&times| times > 20), "{seen:?}");
 }
 
@@ -92,7 +92,7 @@ fn around_the_answer() {
         let [_, joins, used, ..] = details;
         for budget in [0, 1, joins.saturating_sub(1), joins, joins + 1, u64::MAX] {
             // A larger budget is for answers that are firm: another check might never end in time.
-            if budget <= joins || code < 102 {
+            if budget <= joins || [100, 101, 104].contains(&code) {
                 checking(&file, 1_024, budget, 300);
             }
         }

@@ -172,8 +172,14 @@ static void checks(void)
     EXPECT(check(remark_alone, 16, 1024, 1000000, 64) == 12);
     EXPECT(said(1, 0, 0, 0, 0, 0, 0, 0) && untouched(0));
 
-    EXPECT(bolfrega_check(NULL, 0, 1, 0, details, NULL, 0) == BOLFREGA_HOLDS);
+    /* A plan without runs: the empty file; 0 gives 1 (procedure 0), and 1 gives nothing; the joins run out first. */
+    EXPECT(bolfrega_check(NULL, 0, 1, 0, details, NULL, 0) == BOLFREGA_EMPTY);
     EXPECT(said(0, 0, 0, 1, 65535, 0, 0, 0));
+    static const uint8_t endless[16] = {1, 0, 2, 1, 128, 0, 0, 0, 1, 1, 0, 0, 0, 0, 0, 0};
+    EXPECT(check(endless, 16, 1, 2, 64) == BOLFREGA_EMPTY);
+    EXPECT(said(0, 2, 1, 2, 65535, 0, 0, 0) && untouched(0));
+    EXPECT(check(endless, 16, 1, 1, 64) == BOLFREGA_SPENT);
+    EXPECT(said(0, 1, 1, 2, 65535, 0, 0, 0) && untouched(0));
 }
 
 int main(void)

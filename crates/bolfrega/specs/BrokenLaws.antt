@@ -1,6 +1,6 @@
 -- What depends on whether the verdict is broken. Assumes nothing.
 use mathlib.Core.Path.{_≡_, refl}
-use Rattle.spec_order.specs.Order.{Verdict, holds, broken, full, spent}
+use Rattle.spec_order.specs.Order.{Verdict, holds, broken, full, spent, empty}
 use Rattle.host_check.specs.Details.{ifBroken}
 
 module _ {A : Type 0} where
@@ -10,6 +10,7 @@ module _ {A : Type 0} where
   if-not-broken broken x y n = absurd (n refl)
   if-not-broken full x y n = refl
   if-not-broken spent x y n = refl
+  if-not-broken empty x y n = refl
 
   -- two things that are the same where it is
   pub if-broken-same : (v : Verdict) (x z y : A) → (v ≡ broken → x ≡ z) → ifBroken v x y ≡ ifBroken v z y
@@ -17,3 +18,4 @@ module _ {A : Type 0} where
   if-broken-same broken x z y e = e refl
   if-broken-same full x z y e = refl
   if-broken-same spent x z y e = refl
+  if-broken-same empty x z y e = refl

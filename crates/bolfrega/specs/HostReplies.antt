@@ -12,12 +12,12 @@ use lib.ListN.{length, getD, drop, length-replicate, List·getD-append}
 use borrow.Author.Tests.{eqb-true, ltb-true, ne-eqb, eq-eqb, lt-ltb}
 use Rattle.spec_file.specs.Refusals.{Refusal, refuse, fault, byNumber}
 use Rattle.spec_order.specs.Journal.{Row}
-use Rattle.spec_order.specs.Order.{Answer, Verdict, holds, broken, full, spent}
+use Rattle.spec_order.specs.Order.{Answer, Verdict, holds, broken, full, spent, empty}
 use Rattle.spec_calls.specs.Checking.{Settings, journalLimit, journalFault, orderOn, checkOf, keptBy, journalAfter, shown}
 use Rattle.spec_calls.specs.Promising.{promises, broken-word, broken-writes}
 use Rattle.spec_calls.specs.Replies.{Reply, refused, answered, unless}
 use Rattle.spec_calls.specs.Writing.{roomFault, writtenBy, bufferAfter}
-use Rattle.spec_calls.specs.Codes.{firstAnswerCode, holdsCode, brokenCode, fullCode, verdictCode, codeBy}
+use Rattle.spec_calls.specs.Codes.{firstAnswerCode, holdsCode, brokenCode, fullCode, emptyCode, verdictCode, codeBy}
 use Rattle.host_check.specs.Details.{zeroRow, answerCode, rowAfter, lastThree, detailsOf, shownBy, shownOf}
 use Rattle.bolfrega.specs.BrokenLaws.{if-broken-same}
 use Rattle.bolfrega.specs.Contracts.{zeroRows, ChecksZeros}
@@ -28,13 +28,14 @@ use Rattle.host_result.specs.LowNumbers.{LowIn, check-low}
 
 -- the verdict of a number, and back
 abbrev verdictAt : ℕ → Verdict
-verdictAt n = cond (eqb n holdsCode) holds (cond (eqb n brokenCode) broken (cond (eqb n fullCode) full spent))
+verdictAt n = cond (eqb n holdsCode) holds (cond (eqb n brokenCode) broken (cond (eqb n fullCode) full (cond (eqb n emptyCode) empty spent)))
 
 verdict-back : (v : Verdict) → verdictAt (verdictCode v) ≡ v
 verdict-back holds = refl
 verdict-back broken = refl
 verdict-back full = refl
 verdict-back spent = refl
+verdict-back empty = refl
 
 pub same-verdict : (v x : Verdict) → verdictCode v ≡ verdictCode x → v ≡ x
 same-verdict v x e = sym (verdict-back v) ∙ ap verdictAt e ∙ verdict-back x
@@ -44,6 +45,7 @@ verdict-high holds = omega arith
 verdict-high broken = omega arith
 verdict-high full = omega arith
 verdict-high spent = omega arith
+verdict-high empty = omega arith
 
 -- ---- an answer, as the host has it: with no journal
 

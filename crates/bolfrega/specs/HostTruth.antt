@@ -1,6 +1,6 @@
 -- What a host may conclude from what a call gave it (Hosts.antt), by the call's contract alone. Assumes nothing.
 use mathlib.Core.Path.{_≡_, refl, sym, ap, _∙_, subst}
-use mathlib.Core.Logic.{_⊎_, inl, inr}
+use mathlib.Core.Logic.{_↔_, _⊎_, inl, inr}
 use mathlib.Core.List.{List, [], _∷_}
 use Prim.Native.Nat.{ℕ, suc, _+_, _≤_, _<_, zero-le}
 use native.Mathlib.Omega.{arith}
@@ -11,13 +11,13 @@ use Rattle.spec_language.specs.Automaton.{Accepts}
 use Rattle.spec_file.specs.Refusals.{Refusal, fileNumbers, fault}
 use Rattle.spec_file.specs.Views.{rulesOf, automatonOf}
 use Rattle.spec_order.specs.Stopping.{Stops}
-use Rattle.spec_order.specs.Order.{Answer, Verdict, holds, broken, full, spent}
+use Rattle.spec_order.specs.Order.{Answer, Verdict, holds, broken, full, spent, empty}
 use Rattle.spec_calls.specs.Base.{base}
 use Rattle.spec_calls.specs.Checking.{Settings, journalFault, checkOf, shown}
-use Rattle.spec_calls.specs.DemandThree.{Derivable, Counterexample, joinsBound, Promises}
+use Rattle.spec_calls.specs.DemandThree.{Derivable, SomeDerivable, NoneDerivable, Counterexample, joinsBound, Promises}
 use Rattle.spec_calls.specs.Promising.{from-order}
 use Rattle.spec_calls.specs.Replies.{Reply, refused, answered}
-use Rattle.spec_calls.specs.Codes.{firstAnswerCode, holdsCode, brokenCode, fullCode, spentCode, verdictCode}
+use Rattle.spec_calls.specs.Codes.{firstAnswerCode, holdsCode, brokenCode, fullCode, spentCode, emptyCode, verdictCode}
 use Rattle.host_check.specs.Details.{lastThree}
 use Rattle.bolfrega.specs.BrokenLaws.{if-not-broken}
 use Rattle.bolfrega.specs.Contracts.{Refuses, ChecksZeros}
@@ -74,9 +74,10 @@ module _ (bs : List ℕ) (g : Settings) (d old new : List ℕ) (r : ℕ) where
         record {
           refusing = refusing-by w;
           verdicts = record {
-            one-of-four = λ h. absurd (low-high (t .low) h);
+            one-of-five = λ h. absurd (low-high (t .low) h);
             holds-exactly = λ x. absurd (low-high (t .low) (x .answers));
             broken-exactly = λ x. absurd (low-high (t .low) (x .answers));
+            empty-exactly = λ x. absurd (low-high (t .low) (x .answers));
             full-exactly = (λ e. absurd (not-verdict full e), λ o. absurd (runs-not full o));
             full-used = λ e. absurd (not-verdict full e);
             spent-exactly = (λ e. absurd (not-verdict spent e), λ o. absurd (runs-not spent o));
@@ -94,12 +95,8 @@ module _ (bs : List ℕ) (g : Settings) (d old new : List ℕ) (r : ℕ) where
             buffer-kept = λ n. t .buffer;
           };
           shows = λ e. absurd (not-verdict broken e);
-          stays = record { larger = λ x. absurd (neither x); same-details = λ x. absurd (neither x) };
+          stays = record { larger = λ x. absurd (low-high (t .low) (x .answers)); same-details = λ x. absurd (low-high (t .low) (x .answers)) };
         }
-      where
-        neither : (r ≡ holdsCode) ⊎ (r ≡ brokenCode) → ⊥
-        neither (inl e) = not-verdict holds e
-        neither (inr e) = not-verdict broken e
 
 -- ---- a check that answers
 
@@ -153,14 +150,19 @@ module _ (bs : List ℕ) (g : Settings) (d old new : List ℕ) (r : ℕ) (h : Ch
     ran-out : (v : Verdict) (o : RunsOut bs g d old new r v) → o .answer .verdict ≡ v → r ≡ verdictCode v
     ran-out v o e = told-answer bs g d old new r h (o .answer) (o .answers) .number ∙ ap verdictCode e
 
+    not-full : Decided r → a .verdict ≡ full → ⊥
+    not-full x e = x .not-full (code full e)
+
+    not-spent : Decided r → a .verdict ≡ spent → ⊥
+    not-spent x e = x .not-spent (code spent e)
+
     verdicts : Verdicts bs g d old new r
     verdicts =
         record {
-          one-of-four = λ l. four (a .verdict) refl;
-          holds-exactly = λ x. (λ e. p .one-verdict .holds-for-all (is holds e), λ all. calm x all (a .verdict) refl);
-          broken-exactly = λ x.
-              let b = p .one-verdict .broken-exactly (λ e. x .not-full (code full e)) (λ e. x .not-spent (code spent e)) in
-              (λ e. b .0 (is broken e), λ c. code broken (b .1 c));
+          one-of-five = λ l. five (a .verdict) refl;
+          holds-exactly = λ x. exactly holds (p .one-verdict .holds-exactly (not-full x) (not-spent x));
+          broken-exactly = λ x. exactly broken (p .one-verdict .broken-exactly (not-full x) (not-spent x));
+          empty-exactly = λ x. exactly empty (p .one-verdict .empty-exactly (not-full x) (not-spent x));
           full-exactly = (
             λ e. runs-out full (p .one-verdict .stops-full .0 (is full e)),
             λ o. ran-out full o (h .promises (o .answer) (o .answers) .one-verdict .stops-full .1 (o .stops)),
@@ -174,18 +176,16 @@ module _ (bs : List ℕ) (g : Settings) (d old new : List ℕ) (r : ℕ) (h : Ch
           never-spent = λ l e. p .counts .never-spent l (is spent e);
         }
       where
-        four : (v : Verdict) → a .verdict ≡ v → (r ≡ holdsCode) ⊎ ((r ≡ brokenCode) ⊎ ((r ≡ fullCode) ⊎ (r ≡ spentCode)))
-        four holds e = inl (code holds e)
-        four broken e = inr (inl (code broken e))
-        four full e = inr (inr (inl (code full e)))
-        four spent e = inr (inr (inr (code spent e)))
+        five : (v : Verdict) → a .verdict ≡ v → (r ≡ holdsCode) ⊎ ((r ≡ brokenCode) ⊎ ((r ≡ fullCode) ⊎ ((r ≡ spentCode) ⊎ (r ≡ emptyCode))))
+        five holds e = inl (code holds e)
+        five broken e = inr (inl (code broken e))
+        five full e = inr (inr (inl (code full e)))
+        five spent e = inr (inr (inr (inl (code spent e))))
+        five empty e = inr (inr (inr (inr (code empty e))))
 
-        -- where every run is accepted, none is shown
-        calm : Decided r → ((w : List ℕ) → Derivable bs w → Accepts (automatonOf bs) w) → (v : Verdict) → a .verdict ≡ v → r ≡ holdsCode
-        calm x all holds e = code holds e
-        calm x all broken e = let c = p .one-verdict .broken-shows e in absurd (c .1 (all (shown bs a) (c .0)))
-        calm x all full e = absurd (x .not-full (code full e))
-        calm x all spent e = absurd (x .not-spent (code spent e))
+        -- what is said of the verdict, said of its number
+        exactly : {X : Type 0} (v : Verdict) → (a .verdict ≡ v) ↔ X → (r ≡ verdictCode v) ↔ X
+        exactly v x = (λ e. x .0 (is v e), λ y. code v (x .1 y))
 
     details : Details bs g d old new r
     details =
@@ -207,21 +207,18 @@ module _ (bs : List ℕ) (g : Settings) (d old new : List ℕ) (r : ℕ) (h : Ch
         long broken = refl
         long full = refl
         long spent = refl
+        long empty = refl
 
     stays : Stays bs g d old new r
     stays =
         record {
           larger = λ x g′ y d′ new′ r′ h′.
-              let s = p .stable (λ q. firm x fullCode (omega arith) (code full q)) (λ q. firm x spentCode (omega arith) (code spent q)) g′ y in
+              let s = p .stable (not-full x) (not-spent x) g′ y in
               tells-alike bs g g′ d d′ old new new′ r r′ a (s .0) p (h′ .promises (s .0) (s .1)) t (told-answer bs g′ d′ old new′ r′ h′ (s .0) (s .1)) (s .2);
           same-details = λ x g′ y d′ new′ r′ h′.
-              let e = p .same-answer (λ q. firm x fullCode (omega arith) (code full q)) (λ q. firm x spentCode (omega arith) (code spent q)) g′ y in
+              let e = p .same-answer (not-full x) (not-spent x) g′ y in
               told-answer bs g′ d′ old new′ r′ h′ a e .details ∙ sym (t .details);
         }
-      where
-        firm : (r ≡ holdsCode) ⊎ (r ≡ brokenCode) → (n : ℕ) → brokenCode < n → r ≡ n → ⊥
-        firm (inl x) n l e = omega (arith, x, l, e)
-        firm (inr x) n l e = omega (arith, x, l, e)
 
     answer-tells : CheckTells bs g d old new r
     answer-tells =
@@ -243,10 +240,15 @@ module _ (bs : List ℕ) (g : Settings) (d old new : List ℕ) (r : ℕ) (h : Ch
 
   -- ---- some of it in short, for the reader; nothing cites these
 
-  pub holds-means : r ≡ holdsCode → (w : List ℕ) → Derivable bs w → Accepts (automatonOf bs) w
+  pub holds-means : r ≡ holdsCode → SomeDerivable bs × ((w : List ℕ) → Derivable bs w → Accepts (automatonOf bs) w)
   holds-means e =
       let sure : Decided r = record { answers = omega (arith, e); not-full = λ z. omega (arith, e, z); not-spent = λ z. omega (arith, e, z) } in
       check-tells .verdicts .holds-exactly sure .0 e
+
+  pub empty-means : r ≡ emptyCode → NoneDerivable bs
+  empty-means e =
+      let sure : Decided r = record { answers = omega (arith, e); not-full = λ z. omega (arith, e, z); not-spent = λ z. omega (arith, e, z) } in
+      check-tells .verdicts .empty-exactly sure .0 e
 
   pub broken-means : r ≡ brokenCode → (w : List ℕ) × Counterexample bs w
   broken-means e = let s = check-tells .shows e in (s .0, s .1 .counterexample)

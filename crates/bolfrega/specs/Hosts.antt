@@ -18,12 +18,12 @@ use Rattle.spec_order.specs.Journal.{absent, capped}
 use Rattle.spec_order.specs.Order.{Answer, Verdict, full, spent}
 use Rattle.spec_calls.specs.Base.{base}
 use Rattle.spec_calls.specs.Checking.{Settings, journalLimit, checkOf}
-use Rattle.spec_calls.specs.DemandThree.{Derivable, Counterexample, joinsBound, Extends}
+use Rattle.spec_calls.specs.DemandThree.{Derivable, SomeDerivable, NoneDerivable, Counterexample, joinsBound, Extends}
 use Rattle.spec_calls.specs.Judging.{wordFault}
 use Rattle.spec_calls.specs.Recognizing.{TableShows, recognizeRefusals}
 use Rattle.spec_calls.specs.Replies.{answered}
 use Rattle.spec_calls.specs.Writing.{longWord}
-use Rattle.spec_calls.specs.Codes.{firstAnswerCode, holdsCode, brokenCode, fullCode, spentCode}
+use Rattle.spec_calls.specs.Codes.{firstAnswerCode, holdsCode, brokenCode, fullCode, spentCode, emptyCode}
 use Rattle.bolfrega.specs.Codes.{acceptedCode, turnedAwayCode, derivedCode, notDerivedCode}
 use Rattle.bolfrega.specs.Contracts.{Judges, ChecksZeros}
 
@@ -94,7 +94,8 @@ toldRefused d = getD d 7 0
 
 -- ---- checking: the number r, the details d and the buffer, old before and new after, that bolfrega_check gave for the settings g
 
--- the number says whether the sheet accepts every run: it is no refusal, the rows have not run out, and the joins have not
+-- the number says whether the plan has a run, and whether the sheet accepts every one: it is no refusal, the rows have not run out, and the
+-- joins have not
 pub record Decided (r : ℕ) : Type 0 where
   pub answers : firstAnswerCode ≤ r
   pub not-full : r ≡ fullCode → ⊥
@@ -124,10 +125,11 @@ module _ (bs : List ℕ) (g : Settings) (d old new : List ℕ) (r : ℕ) where
 
   -- from 100 on it is a verdict
   pub record Verdicts : Type 0 where
-    pub one-of-four : firstAnswerCode ≤ r → (r ≡ holdsCode) ⊎ ((r ≡ brokenCode) ⊎ ((r ≡ fullCode) ⊎ (r ≡ spentCode)))
-    -- 100 exactly when the sheet accepts every run of the plan, and 101 exactly when it turns one away
-    pub holds-exactly : Decided r → (r ≡ holdsCode) ↔ ((w : List ℕ) → Derivable bs w → Accepts (automatonOf bs) w)
+    pub one-of-five : firstAnswerCode ≤ r → (r ≡ holdsCode) ⊎ ((r ≡ brokenCode) ⊎ ((r ≡ fullCode) ⊎ ((r ≡ spentCode) ⊎ (r ≡ emptyCode))))
+    -- 100 exactly when the plan has a run and the sheet accepts every one, 101 exactly when it turns one away, and 104 exactly when there is none
+    pub holds-exactly : Decided r → (r ≡ holdsCode) ↔ (SomeDerivable bs × ((w : List ℕ) → Derivable bs w → Accepts (automatonOf bs) w))
     pub broken-exactly : Decided r → (r ≡ brokenCode) ↔ ((w : List ℕ) × Counterexample bs w)
+    pub empty-exactly : Decided r → (r ≡ emptyCode) ↔ NoneDerivable bs
     -- 102 exactly where the working order runs out of rows: all are used
     pub full-exactly : (r ≡ fullCode) ↔ RunsOut full
     pub full-used : r ≡ fullCode → toldUsed d ≡ g .rows
@@ -183,12 +185,12 @@ module _ (bs : List ℕ) (g : Settings) (d old new : List ℕ) (r : ℕ) where
     pub same-refused : toldRefused d′ ≡ toldRefused d
     pub same-buffer : new′ ≡ new
 
-  -- once the number is 100 or 101, a call with more rows or a larger budget, and the same buffer, tells the same
+  -- once the number is 100, 101 or 104, a call with more rows or a larger budget, and the same buffer, tells the same
   pub record Stays : Type 0 where
-    pub larger : (r ≡ holdsCode) ⊎ (r ≡ brokenCode) → (g′ : Settings) → Extends g g′
+    pub larger : Decided r → (g′ : Settings) → Extends g g′
         → (d′ new′ : List ℕ) (r′ : ℕ) → ChecksZeros bs g′ d′ old new′ r′ → TellsAlike d′ new′ r′
     -- and today the same used rows and the same row, so that all details are the same
-    pub same-details : (r ≡ holdsCode) ⊎ (r ≡ brokenCode) → (g′ : Settings) → Extends g g′
+    pub same-details : Decided r → (g′ : Settings) → Extends g g′
         → (d′ new′ : List ℕ) (r′ : ℕ) → ChecksZeros bs g′ d′ old new′ r′ → d′ ≡ d
 
   pub record CheckTells : Type 0 where

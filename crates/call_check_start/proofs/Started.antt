@@ -1,6 +1,6 @@
 -- What a check has at each end of `prepare`, and that the search may then run. Assumes nothing.
 use mathlib.Core.Path.{_≡_, refl, sym, ap, _∙_, subst}
-use mathlib.Core.Bool.{_||_}
+use mathlib.Core.Bool.{Bool, _||_}
 use mathlib.Core.List.{List, [], map}
 use Prim.Native.Nat.{ℕ, zero, suc, _≤_, _<_}
 use native.Mathlib.Omega.{arith}
@@ -31,7 +31,7 @@ use Rattle.search_laws.specs.Passes.{pass-first}
 use Rattle.search_laws.specs.Problems.{Letters, RuleBytes, Problem, problemIn}
 use Rattle.search_laws.specs.Steps.{MayOpen}
 use Rattle.search_laws.specs.Running.{SearchAt, Running, OpensPass, Onward}
-use Rattle.search_laws.specs.States.{opening}
+use Rattle.search_laws.specs.States.{startLinked, opening}
 use Rattle.search_laws.specs.declared.Reached.{Reached}
 use Rattle.file_tables.specs.Tables.{letterTable, RuleTable}
 use Rattle.file_tables.specs.LetterLaws.{letters-length}
@@ -69,7 +69,7 @@ module _ (bs : List ℕ) (g : Settings) where
       (record { table = ap length et ∙ length-replicate tableCells end; count = rules-fit bs before rules n en; old = omega arith; used = omega arith; links = record { rows = []; size = refl; covering = no-links t et } })
 
   module _ (letters : Letters) (el : letters ≡ letterTable states (transitionsOf bs)) (finals : ℕ) (ef : finals ≡ number states (isFinal (automatonOf bs))) (before rules : RuleBytes) (n : ℕ) (en : RuleTable bs before rules n) (t t′ : List ℕ)
-      (et : t ≡ replicate tableCells end) (w : State) (ew : w ≡ waiting g n finals) (x : Reached) (o : OpensPass rules t n (w .terms) (w .counts) t′ x) (s : State) (es : s ≡ opening w (w .terms) x) (r : Refusal) (e : refusalOf r ≡ firstOf (checkRefusals bs J)) (z : r .number ≡ 0) where
+      (et : t ≡ replicate tableCells end) (w : State) (ew : w ≡ waiting g n finals) (x : Reached) (o : OpensPass rules t n (w .terms) (w .counts) t′ x) (nonempty : Bool) (em : nonempty ≡ startLinked t′) (s : State) (es : s ≡ opening w (w .terms) x nonempty) (r : Refusal) (e : refusalOf r ≡ firstOf (checkRefusals bs J)) (z : r .number ≡ 0) where
     abbrev P : Problem
     P = problemIn (waiting g n finals .terms) letters (take n rules)
 
@@ -79,7 +79,7 @@ module _ (bs : List ℕ) (g : Settings) where
     opened : (j : Journal) → length j ≡ J → Onward P B j (record { used = 0; joins = 0; added = 0 }) s j t′
     opened j l =
         let k = journal-size J (quiet .1) in
-        subst (λ (y : State). Onward P B j (record { used = 0; joins = 0; added = 0 }) y j t′) (sym (es ∙ ap (λ (y : State). opening y (y .terms) x) ew))
+        subst (λ (y : State). Onward P B j (record { used = 0; joins = 0; added = 0 }) y j t′) (sym (es ∙ ap (opening w (w .terms) x) em ∙ ap (λ (y : State). opening y (y .terms) x (startLinked t′)) ew))
         (subst (λ (y : State). OpensPass rules t n (y .terms) (y .counts) t′ x) ew o P B j j 1 0 (waiting g n finals) refl (record { all = omega (arith, ap length el, letters-length states (transitionsOf bs)); some = omega (arith, l, k .0); limit = omega (arith, l, k .1) }) (sym l) (pass-first P B j) refl (λ q. absurd (omega (arith, q)))
         (subst (λ (rows : List Row). Covering rows t) (sym (rows-none rowOf j)) (no-links t et)))
 

@@ -76,6 +76,6 @@ pub fn prepare(
     let at = search_passes::open_pass(&rules[..], table, n, terms, before.counts);
     Start {
         refusal: fault,
-        state: search_step::stand_or_finish(before, terms, at),
+        state: search_step::stand_or_finish(before, terms, at, search_passes::start_linked(table)),
     }
 }

@@ -4,7 +4,7 @@ use Prim.Native.Nat.{ℕ}
 use lib.ListN.{getD}
 use Rattle.relation.specs.Relation.{states, pairs}
 use Rattle.spec_order.specs.Journal.{Row}
-use Rattle.spec_order.specs.Order.{Answer, Verdict, holds, broken, full, spent}
+use Rattle.spec_order.specs.Order.{Answer, Verdict, holds, broken, full, spent, empty}
 use Rattle.spec_calls.specs.Replies.{Reply, refused, answered}
 use Rattle.spec_calls.specs.Writing.{writeOf, bufferAfter}
 use Rattle.spec_calls.specs.Codes.{verdictCode, refusedBy}
@@ -19,6 +19,7 @@ ifBroken broken x y = x
 ifBroken holds x y = y
 ifBroken full x y = y
 ifBroken spent x y = y
+ifBroken empty x y = y
 
 -- ---- the result
 

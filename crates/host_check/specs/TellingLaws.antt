@@ -97,6 +97,7 @@ unbroken-shows-none : {A : Type 0} (v : Unbroken) (x y : A) → ifBroken (verdic
 unbroken-shows-none unbroken.Holds x y = refl
 unbroken-shows-none unbroken.Full x y = refl
 unbroken-shows-none unbroken.Spent x y = refl
+unbroken-shows-none unbroken.Empty x y = refl
 
 -- ---- the whole reply
 

@@ -6,10 +6,10 @@ use native.Mathlib.Nat.{suc-mul}
 use native.Mathlib.Omega.{arith}
 use lib.Dec.{eqb}
 use lib.ListN.{length, getD, take, length-append, length-take}
-use Rattle.spec_order.specs.Order.{Verdict, holds, broken, full, spent}
+use Rattle.spec_order.specs.Order.{Verdict, holds, broken, full, spent, empty}
 use Rattle.spec_calls.specs.Printing.{bytes, lineFeed, decimal, blanked, separated, verdictWord, numbersLine, wordLine, refusedLine}
 use Rattle.host_page.specs.DecimalLaws.{decimal-length}
-use Rattle.spec_calls.specs.Codes.{holdsCode, brokenCode, fullCode, spentCode}
+use Rattle.spec_calls.specs.Codes.{holdsCode, brokenCode, fullCode, spentCode, emptyCode}
 use Rattle.host_result.specs.declared.CheckResult.{CheckResult}
 use Rattle.host_lines.specs.Lines.{totalsLine, rowLine, runBy, runLine, brokenText, pick, toldText}
 
@@ -70,6 +70,7 @@ verdict-long holds = omega arith
 verdict-long broken = omega arith
 verdict-long full = omega arith
 verdict-long spent = omega arith
+verdict-long empty = omega arith
 
 refused-long : (n : ℕ) → Wide n → length (refusedLine n) ≤ 29
 unfolding refusedLine
@@ -124,5 +125,6 @@ module _ (t : CheckResult) (buffer : List ℕ) (m : Machine t buffer) where
       pick-long (eqb (t .code) holdsCode) _ _ most (omega (arith, totals-long holds))
       (pick-long (eqb (t .code) fullCode) _ _ most (omega (arith, totals-long full))
       (pick-long (eqb (t .code) spentCode) _ _ most (omega (arith, totals-long spent))
+      (pick-long (eqb (t .code) emptyCode) _ _ most (omega (arith, totals-long empty))
       (pick-long (eqb (t .code) brokenCode) _ _ most broken-long
-      (omega (arith, refused-long (t .code) (m .code))))))
+      (omega (arith, refused-long (t .code) (m .code)))))))

@@ -8,11 +8,11 @@ use lib.Dec.{leb}
 use lib.ListN.{length, take}
 use lib.Seq.{take-all}
 use borrow.Author.Tests.{eq-eqb, ne-eqb, leb-true, leb-false}
-use Rattle.spec_order.specs.Order.{holds, full, spent}
+use Rattle.spec_order.specs.Order.{holds, full, spent, empty}
 use Rattle.spec_calls.specs.Printing.{blankByte, lineFeed, decimal, blanked, separated, verdictWord, numbersLine, wordLine, refusedLine}
 use Rattle.host_page.specs.Page.{Page, put, puts}
 use Rattle.host_page.specs.PageLaws.{puts-one, puts-then}
-use Rattle.spec_calls.specs.Codes.{holdsCode, brokenCode, fullCode, spentCode}
+use Rattle.spec_calls.specs.Codes.{holdsCode, brokenCode, fullCode, spentCode, emptyCode}
 use Rattle.host_result.specs.declared.CheckResult.{CheckResult}
 use Rattle.host_lines.specs.Lines.{totalsLine, runBy, runLine, brokenText, toldText}
 
@@ -80,10 +80,14 @@ module _ (t : CheckResult) (buffer : List ℕ) where
   unfolding toldText
   told-spent a b e = rw (ne-eqb (t .code) holdsCode a, ne-eqb (t .code) fullCode b, eq-eqb (t .code) spentCode e)
 
-  pub told-broken : (t .code ≡ holdsCode → ⊥) → (t .code ≡ fullCode → ⊥) → (t .code ≡ spentCode → ⊥) → t .code ≡ brokenCode → brokenText t buffer ≡ toldText t buffer
+  pub told-empty : (t .code ≡ holdsCode → ⊥) → (t .code ≡ fullCode → ⊥) → (t .code ≡ spentCode → ⊥) → t .code ≡ emptyCode → totalsLine (verdictWord empty) t ≡ toldText t buffer
   unfolding toldText
-  told-broken a b c e = rw (ne-eqb (t .code) holdsCode a, ne-eqb (t .code) fullCode b, ne-eqb (t .code) spentCode c, eq-eqb (t .code) brokenCode e)
+  told-empty a b c e = rw (ne-eqb (t .code) holdsCode a, ne-eqb (t .code) fullCode b, ne-eqb (t .code) spentCode c, eq-eqb (t .code) emptyCode e)
 
-  pub told-refused : (t .code ≡ holdsCode → ⊥) → (t .code ≡ fullCode → ⊥) → (t .code ≡ spentCode → ⊥) → (t .code ≡ brokenCode → ⊥) → refusedLine (t .code) ≡ toldText t buffer
+  pub told-broken : (t .code ≡ holdsCode → ⊥) → (t .code ≡ fullCode → ⊥) → (t .code ≡ spentCode → ⊥) → (t .code ≡ emptyCode → ⊥) → t .code ≡ brokenCode → brokenText t buffer ≡ toldText t buffer
   unfolding toldText
-  told-refused a b c d = rw (ne-eqb (t .code) holdsCode a, ne-eqb (t .code) fullCode b, ne-eqb (t .code) spentCode c, ne-eqb (t .code) brokenCode d)
+  told-broken a b c d e = rw (ne-eqb (t .code) holdsCode a, ne-eqb (t .code) fullCode b, ne-eqb (t .code) spentCode c, ne-eqb (t .code) emptyCode d, eq-eqb (t .code) brokenCode e)
+
+  pub told-refused : (t .code ≡ holdsCode → ⊥) → (t .code ≡ fullCode → ⊥) → (t .code ≡ spentCode → ⊥) → (t .code ≡ emptyCode → ⊥) → (t .code ≡ brokenCode → ⊥) → refusedLine (t .code) ≡ toldText t buffer
+  unfolding toldText
+  told-refused a b c d e = rw (ne-eqb (t .code) holdsCode a, ne-eqb (t .code) fullCode b, ne-eqb (t .code) spentCode c, ne-eqb (t .code) emptyCode d, ne-eqb (t .code) brokenCode e)

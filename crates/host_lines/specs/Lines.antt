@@ -4,9 +4,9 @@ use mathlib.Core.List.{List, [], _∷_, _++_}
 use Prim.Native.Nat.{ℕ, zero, suc}
 use lib.Dec.{eqb}
 use lib.ListN.{take}
-use Rattle.spec_order.specs.Order.{holds, broken, full, spent}
+use Rattle.spec_order.specs.Order.{holds, broken, full, spent, empty}
 use Rattle.spec_calls.specs.Printing.{verdictWord, numbersLine, wordLine, refusedLine}
-use Rattle.spec_calls.specs.Codes.{holdsCode, brokenCode, fullCode, spentCode}
+use Rattle.spec_calls.specs.Codes.{holdsCode, brokenCode, fullCode, spentCode, emptyCode}
 use Rattle.host_result.specs.declared.CheckResult.{CheckResult}
 
 -- line 1: the word of the verdict, joins, used rows, pass
@@ -38,5 +38,6 @@ toldText t buffer =
     pick (eqb (t .code) holdsCode) (totalsLine (verdictWord holds) t)
     (pick (eqb (t .code) fullCode) (totalsLine (verdictWord full) t)
     (pick (eqb (t .code) spentCode) (totalsLine (verdictWord spent) t)
+    (pick (eqb (t .code) emptyCode) (totalsLine (verdictWord empty) t)
     (pick (eqb (t .code) brokenCode) (brokenText t buffer)
-    (refusedLine (t .code)))))
+    (refusedLine (t .code))))))

@@ -89,6 +89,9 @@ pub fn put_told(text: &mut [u8], told: CheckResult, buffer: &[u8]) -> usize
     if told.code == host_result::SPENT {
         return put_totals(text, 0, b"spent", told);
     }
+    if told.code == host_result::EMPTY {
+        return put_totals(text, 0, b"empty", told);
+    }
     if told.code == host_result::BROKEN {
         return put_broken(text, 0, told, buffer);
     }

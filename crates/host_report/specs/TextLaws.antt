@@ -12,7 +12,7 @@ use Rattle.relation.specs.Relation.{states}
 use Rattle.spec_file.specs.Refusals.{refuse, fault}
 use Rattle.spec_file.specs.Views.{automatonOf}
 use Rattle.spec_order.specs.Journal.{Row, noRow, capped}
-use Rattle.spec_order.specs.Order.{Answer, Verdict, holds, broken, full, spent}
+use Rattle.spec_order.specs.Order.{Answer, Verdict, holds, broken, full, spent, empty}
 use Rattle.spec_calls.specs.Base.{base}
 use Rattle.spec_calls.specs.Checking.{Settings, journalLimit, journalFault, checkOf, keptBy, journalAfter, shown}
 use Rattle.spec_calls.specs.Printing.{verdictWord, numbersLine, wordLine, refusedLine, lineOne, lineTwo, lineThree, brokenLines, linesBy, textBy, textOf}
@@ -30,7 +30,7 @@ use Rattle.host_check.specs.Details.{zeroRow, rowAfter, lastThree, shownBy}
 use Rattle.host_check.specs.Contracts.{Tells, ChecksAlone}
 use Rattle.host_result.specs.LowNumbers.{LowIn, check-low}
 use Rattle.host_lines.specs.Lines.{totalsLine, rowLine, runBy, runLine, brokenText, toldText}
-use Rattle.host_lines.specs.LineLaws.{told-holds, told-full, told-spent, told-broken, told-refused}
+use Rattle.host_lines.specs.LineLaws.{told-holds, told-full, told-spent, told-empty, told-broken, told-refused}
 use Rattle.host_report.specs.RunLaws.{line-told, row-in, shows-run}
 
 -- ---- the lent rows
@@ -147,14 +147,17 @@ module _ (bs : List ℕ) (n : ℕ) (x : LentRow) (o : Options) (p : ℕ) (old ne
     answered-text holds v = sym (told-holds t new (code holds v)) ∙ totals-are (verdictWord holds)
     answered-text full v = let c = code full v in sym (told-full t new (λ z. omega arith) c) ∙ totals-are (verdictWord full)
     answered-text spent v = let c = code spent v in sym (told-spent t new (λ z. omega arith) (λ z. omega arith) c) ∙ totals-are (verdictWord spent)
+    answered-text empty v =
+        let c = code empty v in
+        sym (told-empty t new (λ z. omega arith) (λ z. omega arith) (λ z. omega arith) c) ∙ totals-are (verdictWord empty)
     answered-text broken v =
         let c = code broken v in
-        sym (told-broken t new (λ z. omega arith) (λ z. omega arith) (λ z. omega arith) c) ∙ broken-text v
+        sym (told-broken t new (λ z. omega arith) (λ z. omega arith) (λ z. omega arith) (λ z. omega arith) c) ∙ broken-text v
 
   replied-text : (y : Reply (Answer ℕ)) → checkOf bs g ≡ y → LowIn y → Tells bs rows y (numbersIn t) old new (t .code) → toldText t new ≡ textBy bs room y
   replied-text (refused r) e low k =
       let c = k .code in
-      sym (told-refused t new (λ z. omega arith) (λ z. omega arith) (λ z. omega arith) (λ z. omega arith)) ∙ ap refusedLine c
+      sym (told-refused t new (λ z. omega arith) (λ z. omega arith) (λ z. omega arith) (λ z. omega arith) (λ z. omega arith)) ∙ ap refusedLine c
   replied-text (answered a) e low k = answered-text a e k (a .verdict) refl
 
   pub told-text : toldText t new ≡ textOf bs (settingsOf n o) room

@@ -24,6 +24,8 @@ pub const FULL: u64 = search_laws::FULL as u64;
 
 pub const SPENT: u64 = search_laws::SPENT as u64;
 
+pub const EMPTY: u64 = search_laws::EMPTY as u64;
+
 // What a host is told: the number that refuses, or the verdict's; the refused record's number; joins, used rows and pass; and of a broken
 // answer the row, its pairs, its length, and what refuses to write its run, or 0. And `sample`, a row of the journal after the check.
 pub struct CheckResult {

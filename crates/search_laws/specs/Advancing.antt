@@ -43,7 +43,7 @@ use Rattle.search_laws.specs.Problems.{Letters, RuleBytes, Problem, comp
 use Rattle.search_laws.specs.Steps.{MayAdvance, Remembers}
 use Rattle.search_laws.specs.Running.{problemAt, target, Goes, SearchAt, Running, fateFor, Considered, GoesOn, GoesOnOver, Onward, candidatesLeft}
 use Rattle.search_laws.specs.RunLaws.{started, stands-on, goes-on, sized, used-fits, limit}
-use Rattle.search_laws.specs.RunningLaws.{stops}
+use Rattle.search_laws.specs.RunningLaws.{unbroken-back, stops}
 use Rattle.search_laws.specs.States.{stoppedIn}
 use Rattle.search_laws.specs.Passing.{pass-stopped, pass-going}
 use Rattle.search_laws.specs.Remaining.{EndsFrom}
@@ -56,12 +56,6 @@ use Rattle.search_laws.specs.declared.Stop.{Stop}
 use Rattle.search_laws.specs.declared.Totals.{Totals}
 use Rattle.search_laws.specs.declared.Unbroken.the-variants as unbroken
 use Rattle.search_laws.specs.declared.Unbroken.{Unbroken}
-
--- a verdict's number gives the verdict back
-unbroken-back : (v : Unbroken) (n : Totals) → answerAt (codeOf v) 0 n ≡ answer.Ended v n
-unbroken-back unbroken.Holds n = refl
-unbroken-back unbroken.Full n = refl
-unbroken-back unbroken.Spent n = refl
 
 stopped-answer : (s : State) (p : Stop) → answerIn (stoppedIn s p) ≡ answerTo (s .terms .pass) p
 stopped-answer s (stop.Ended v w) = unbroken-back v (totalsOf w (s .terms .pass))

@@ -4,8 +4,8 @@ use mathlib.Core.List.{List}
 use Prim.Native.Nat.{ℕ, _+_}
 use lib.Dec.{eqb}
 use Rattle.spec_order.specs.Journal.{absent}
-use Rattle.spec_order.specs.Order.{Verdict, holds, broken, full, spent, going, stopped}
-use Rattle.spec_calls.specs.Codes.{holdsCode, brokenCode, fullCode, verdictCode}
+use Rattle.spec_order.specs.Order.{Verdict, holds, broken, full, spent, empty, going, stopped}
+use Rattle.spec_calls.specs.Codes.{holdsCode, brokenCode, fullCode, emptyCode, verdictCode}
 use Rattle.search_rows.specs.Base as order
 use Rattle.spec_calls.specs.Rows.{rowOf, Journal}
 use Rattle.search_links.specs.Rows.{rowsRead}
@@ -33,6 +33,7 @@ abbrev pub verdictOf : Unbroken → Verdict
 verdictOf unbroken.Holds = holds
 verdictOf unbroken.Full = full
 verdictOf unbroken.Spent = spent
+verdictOf unbroken.Empty = empty
 
 -- its row is absent unless broken
 abbrev pub stopOf : Stop → Journal → order.Outcome
@@ -107,13 +108,19 @@ abbrev pub answerTo : ℕ → Stop → Answer
 answerTo k (stop.Ended v w) = answer.Ended v (totalsOf w k)
 answerTo k (stop.Broken i w) = answer.Broken i (totalsOf w k)
 
+-- the verdict of a search whose last pass added no row, by whether a nonterminal whose words count has a live row (the working order's
+-- `finishBy`)
+abbrev pub finishedBy : Bool → Unbroken
+finishedBy true = unbroken.Holds
+finishedBy false = unbroken.Empty
+
 -- ---- the verdict of a search that has ended, by its number
 
 abbrev pub codeOf : Unbroken → ℕ
 codeOf v = verdictCode (verdictOf v)
 
 abbrev pub unbrokenAt : ℕ → Unbroken
-unbrokenAt c = cond (eqb c holdsCode) unbroken.Holds (cond (eqb c fullCode) unbroken.Full unbroken.Spent)
+unbrokenAt c = cond (eqb c holdsCode) unbroken.Holds (cond (eqb c fullCode) unbroken.Full (cond (eqb c emptyCode) unbroken.Empty unbroken.Spent))
 
 abbrev pub answerAt : ℕ → ℕ → Totals → Answer
 answerAt c i n = cond (eqb c brokenCode) (answer.Broken i n) (answer.Ended (unbrokenAt c) n)

@@ -1,5 +1,6 @@
 -- One turn of the check: what is left after a pass. Assumes nothing.
 use mathlib.Core.Path.{_≡_, refl, sym, ap, ap₂, _∙_, subst, subst₂}
+use mathlib.Core.Bool.{Bool}
 use mathlib.Core.List.{[]}
 use Prim.Native.Nat.{ℕ, suc, _+_, _-_, _≤_, _<_}
 use native.Mathlib.Numerals.{add-one}
@@ -16,7 +17,7 @@ use Rattle.search_links.specs.Rows.{KeptBeyond, rowsRead}
 use Rattle.search_laws.specs.Meanings.{firstRows, progressOf, countsIn, inNextPass, totalsIn}
 use Rattle.search_laws.specs.Problems.{Problem, algebraOf, rulesIn, termsOf}
 use Rattle.search_laws.specs.ProblemLaws.{problem-laws}
-use Rattle.search_laws.specs.Walks.{walkIn, candidatesIn, passIn, Known}
+use Rattle.search_laws.specs.Walks.{walkIn, candidatesIn, passIn, nonemptyIn, Known}
 use Rattle.search_laws.specs.Contracts.{Answers, Checked, orderOf}
 use Rattle.search_links.specs.RowLaws.{rows-length}
 use Rattle.search_laws.specs.Closing.{PassEnd, Again, Done, endOf, endAnswer, endUsed, close-end, close-used, again-going}
@@ -76,7 +77,10 @@ module _ {P : Problem} {B : ℕ} {target : order.Answer} {j₀ : Journal} {w : C
     N : order.Progress → order.Answer
     N = rest P B (length j₀) (suc (length j₀) - k) (suc k)
 
-    turned : endAnswer (endOf k r) j′ N ≡ target
+    abbrev nonempty : Bool
+    nonempty = nonemptyIn P (countsIn r .used) j′
+
+    turned : endAnswer (endOf nonempty k r) j′ N ≡ target
     unfolding passes N
     turned =
         close-end (algebraOf P .starts) (w .used) k j′ N r (subst (λ (n : ℕ). countsIn r .used ≤ n) (sym s) (x .room)) (omega (arith, x .adds, a .none-added))
@@ -87,24 +91,24 @@ module _ {P : Problem} {B : ℕ} {target : order.Answer} {j₀ : Journal} {w : C
     kept : KeptBeyond (countsIn r .used) j₀ j′
     kept = x .beyond ∙ drop-later-same (w .used) (countsIn r .used) j j₀ (x .grows) (a .beyond)
 
-    pub pass-done : {y : Answer} → endOf k r ≡ Done y → Checked target j₀ j′ y
+    pub pass-done : {y : Answer} → endOf nonempty k r ≡ Done y → Checked target j₀ j′ y
     pass-done {y} e =
-        let n : countsIn r .used ≡ totalsIn y .used = sym (close-used k r) ∙ ap endUsed e in
+        let n : countsIn r .used ≡ totalsIn y .used = sym (close-used nonempty k r) ∙ ap endUsed e in
         record {
           answer = ap (λ (z : PassEnd). endAnswer z j′ N) (sym e) ∙ turned;
           beyond = subst (λ (m : ℕ). KeptBeyond m j₀ j′) n kept;
           room = subst₂ (λ (m l : ℕ). m ≤ l) n (a .same) (x .room);
         }
 
-    module _ {w′ : Counts} (e : endOf k r ≡ Again w′) where
+    module _ {w′ : Counts} (e : endOf nonempty k r ≡ Again w′) where
       went : r ≡ outcome.Going w′
-      went = again-going k r w′ e .0
+      went = again-going nonempty k r w′ e .0
 
       abbrev xg : Answers B res w j j′ (outcome.Going w′)
       xg = subst (λ (z : Outcome). Answers B res w j j′ z) went x
 
       pub pass-grew : w .used < w′ .used
-      pass-grew = lt-of-le-ne (xg .grows) (λ p. again-going k r w′ e .1 (omega (arith, p, xg .adds, a .none-added)))
+      pass-grew = lt-of-le-ne (xg .grows) (λ p. again-going nonempty k r w′ e .1 (omega (arith, p, xg .adds, a .none-added)))
 
       pub pass-room : w′ .used ≤ length j₀
       pass-room = subst (λ (n : ℕ). w′ .used ≤ n) (a .same) (xg .room)

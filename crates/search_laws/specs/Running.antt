@@ -31,7 +31,7 @@ use Rattle.search_laws.specs.Meanings.{firstRows, answerIn}
 use Rattle.search_laws.specs.Passes.{AtPass}
 use Rattle.search_laws.specs.Passing.{InPass}
 use Rattle.search_laws.specs.Problems.{Letters, RuleBytes, Problem, withRules, problemIn, termsOf, breakingIn}
-use Rattle.search_laws.specs.States.{opening}
+use Rattle.search_laws.specs.States.{startLinked, opening}
 use Rattle.search_laws.specs.Walks.{candidatesIn, passIn, Known}
 use Rattle.search_laws.specs.declared.Outcome.the-variants.{Going}
 use Rattle.search_laws.specs.declared.Reached.{Reached}
@@ -162,7 +162,7 @@ abbrev pub OpensPass : RuleBytes → List ℕ → ℕ → Terms → Counts → L
 OpensPass rules t n b w t′ x =
     (P : Problem) (B : ℕ) (j₀ j : Journal) (k m : ℕ) (s : State) → let Q = withRules P (take n rules) in s .rules ≡ n → InLimits Q B j₀ → s .rows ≡ length j₀
     → AtPass Q B (target Q B j₀) j₀ w j k → b ≡ termsOf P B k (w .used) m
-    → Known m (candidatesIn Q (firstRows (w .used) j)) (firstRows (w .used) j) → Covering (firstRows (w .used) j) t → Onward Q B j₀ w (opening s b x) j t′
+    → Known m (candidatesIn Q (firstRows (w .used) j)) (firstRows (w .used) j) → Covering (firstRows (w .used) j) t → Onward Q B j₀ w (opening s b x (startLinked t′)) j t′
 
 -- closing the pass of s, which is over with the counts w: the invariant holds of r, in the next pass or at the end
 abbrev pub Closes : RuleBytes → List ℕ → State → Counts → List ℕ → State → Type 0

@@ -8,7 +8,10 @@ use native.Mathlib.Omega.{arith}
 use lib.Dec.{ltb}
 use lib.ListN.{length}
 use borrow.Author.Tests.{leb-true, leb-false, eq-eqb, ne-eqb, ltb-true, ltb-false}
-use Rattle.spec_calls.specs.Codes.{holdsCode, spentCode}
+use Rattle.spec_language.specs.Grammar.{initial}
+use Rattle.spec_order.specs.Journal.{liveOf}
+use Rattle.spec_order.specs.Order.{startRow}
+use Rattle.spec_calls.specs.Codes.{spentCode}
 use Rattle.search_rows.specs.Base as order
 use Rattle.search_state.specs.declared.Place.{Place}
 use Rattle.search_state.specs.Layout.{rowCells, listsIn}
@@ -16,6 +19,7 @@ use Rattle.search_order.specs.Lists.{Listed}
 use Rattle.search_order.specs.Places as places
 use Rattle.search_order.specs.PlacesLeft.{PassFrom}
 use Rattle.search_order.specs.PlacesLeftLaws.{places-first}
+use Rattle.search_links.specs.CoverLaws.{linked-live}
 use Rattle.search_links.specs.Covers.{Covering}
 use Rattle.search_links.specs.Listing.{Gathered, gathered-listed, gathered-covering}
 use Rattle.spec_calls.specs.Rows.{rowOf, Journal}
@@ -27,7 +31,7 @@ use Rattle.search_state.specs.declared.Terms.{Terms}
 use Rattle.search_laws.specs.Closing.{Again, Done, endBy, endOf}
 use Rattle.search_laws.specs.Contracts.{PassReady, Answers, Checked}
 use Rattle.search_laws.specs.Deciding.{answers-spent}
-use Rattle.search_laws.specs.Meanings.{firstRows, inNextPass, totalsOf, answerIn}
+use Rattle.search_laws.specs.Meanings.{firstRows, countsIn, inNextPass, totalsOf, answerAt, finishedBy, codeOf, answerIn}
 use Rattle.search_laws.specs.Problems.{RuleBytes, Problem, termsOf}
 use Rattle.search_laws.specs.Passes.{AtPass, pass-done, pass-again, pass-known}
 use Rattle.search_laws.specs.Passing.{InPass, pass-start, pass-end, pass-stopped}
@@ -35,15 +39,29 @@ use Rattle.search_laws.specs.Steps.{LinksAlong, PassesOver}
 use Rattle.search_laws.specs.StepLaws.{over-counted}
 use Rattle.search_laws.specs.PassingOver.{over-stands}
 use Rattle.search_laws.specs.Running.{target, InLimits, PassBegun, Onward}
-use Rattle.search_laws.specs.States.{ended, standingBy, standing, finished, openingBy, opening}
-use Rattle.search_laws.specs.Walks.{candidatesIn, candidateIn, passIn, Known}
+use Rattle.search_laws.specs.States.{ended, standingBy, standing, startLinked, finished, openingBy, opening}
+use Rattle.search_laws.specs.Walks.{candidatesIn, candidateIn, passIn, nonemptyIn, Known}
 use Rattle.search_laws.specs.declared.Answer.the-variants as answer
 use Rattle.search_laws.specs.declared.Answer.{Answer}
 use Rattle.search_laws.specs.declared.Outcome.the-variants as outcome
 use Rattle.search_laws.specs.declared.Outcome.{Outcome}
 use Rattle.search_laws.specs.declared.Reached.{Reached}
 use Rattle.search_laws.specs.declared.Stop.the-variants as stop
+use Rattle.search_laws.specs.declared.Totals.{Totals}
 use Rattle.search_laws.specs.declared.Unbroken.the-variants as unbroken
+use Rattle.search_laws.specs.declared.Unbroken.{Unbroken}
+
+-- the list of the nonterminal whose words count has a row exactly where such a nonterminal has a live row
+start-linked : (P : Problem) (u : ℕ) (j : Journal) (t : List ℕ) → length (firstRows u j) ≤ rowCells → Covering (firstRows u j) t → startLinked t ≡ nonemptyIn P u j
+unfolding startRow liveOf
+start-linked P u j t few c = linked-live (firstRows u j) t few c initial (omega arith)
+
+-- a verdict's number gives the verdict back
+pub unbroken-back : (v : Unbroken) (n : Totals) → answerAt (codeOf v) 0 n ≡ answer.Ended v n
+unbroken-back unbroken.Holds n = refl
+unbroken-back unbroken.Full n = refl
+unbroken-back unbroken.Spent n = refl
+unbroken-back unbroken.Empty n = refl
 
 -- the first place along the lists of the links is one of the pass
 pub opens-place : {u : ℕ} {t t′ : List ℕ} {rules : RuleBytes} {p : Place} → LinksAlong u t → u ≤ rowCells → Gathered u t t′ → places.FirstPlace (listsIn t′) rules 0 p → PassFrom (listsIn t′) rules p
@@ -65,7 +83,8 @@ module _ (P : Problem) (B : ℕ) (j₀ : Journal) (s : State) (rows : s .rows �
 
   module _ {first : Counts} {j₁ : Journal} {k : ℕ} (a : AtPass P B (target P B j₀) j₀ first j₁ k) (n : ℕ) where
     -- an outcome that ends everything
-    pub stops : {j : Journal} → length j ≡ length j₁ → (o : Outcome) {y : Answer} → Answers B (passIn (at k n first) P first j₁) first j₁ j o → endOf k o ≡ Done y → Checked (target P B j₀) j₀ j y
+    pub stops : {j : Journal} → length j ≡ length j₁ → (o : Outcome) {y : Answer} → Answers B (passIn (at k n first) P first j₁) first j₁ j o
+        → endOf (nonemptyIn P (countsIn o .used) j) k o ≡ Done y → Checked (target P B j₀) j₀ j y
     stops e o x d = pass-done a e {r = o} x d
 
     -- ---- at a place
@@ -112,11 +131,19 @@ module _ (P : Problem) (B : ℕ) (j₀ : Journal) (s : State) (rows : s .rows �
     -- ---- after the last place
 
     module _ {j : Journal} (e : length j ≡ length j₁) {w : Counts} (x : Answers B (passIn (at k n first) P first j₁) first j₁ j (outcome.Going w)) where
-      pub close-last : (t : List ℕ) → w .added ≡ 0 → Onward P B j₀ w (finished s (at k n first) w) j t
-      close-last t u = over w (at k n first) holdsCode 0 j t (e ∙ a .same) refl (stops e (outcome.Going w) x (ap (λ (b : Bool). endBy b w k) (eq-eqb (w .added) 0 u)))
+      abbrev nonempty : Bool
+      nonempty = nonemptyIn P (w .used) j
 
-      again : (w .added ≡ 0 → ⊥) → endOf k (outcome.Going w) ≡ Again w
-      again z = ap (λ (b : Bool). endBy b w k) (ne-eqb (w .added) 0 z)
+      pub close-last : length j₀ ≤ rowCells → (t : List ℕ) → Covering (firstRows (w .used) j) t → w .added ≡ 0 → Onward P B j₀ w (finished s (at k n first) w (startLinked t)) j t
+      close-last few t c u =
+          let fits : length (firstRows (w .used) j) ≤ rowCells = omega (arith, rows-length rowOf (w .used) j (omega (arith, x .room, e)), x .room, a .same, few) in
+          let done : endOf nonempty k (outcome.Going w) ≡ Done (answer.Ended (finishedBy nonempty) (totalsOf w k)) = ap (λ (b : Bool). endBy b nonempty w k) (eq-eqb (w .added) 0 u) in
+          subst (λ (b : Bool). Onward P B j₀ w (finished s (at k n first) w b) j t) (sym (start-linked P (w .used) j t fits c))
+          (over w (at k n first) (codeOf (finishedBy nonempty)) 0 j t (e ∙ a .same) refl
+          (subst (Checked (target P B j₀) j₀ j) (sym (unbroken-back (finishedBy nonempty) (totalsOf w k))) (stops e (outcome.Going w) x done)))
+
+      again : (w .added ≡ 0 → ⊥) → endOf nonempty k (outcome.Going w) ≡ Again w
+      again z = ap (λ (b : Bool). endBy b nonempty w k) (ne-eqb (w .added) 0 z)
 
       pub close-again : (w .added ≡ 0 → ⊥) → AtPass P B (target P B j₀) j₀ (inNextPass w) j (k + 1)
       close-again z = pass-again a e {r = outcome.Going w} x (again z)
@@ -155,9 +182,9 @@ module _ (P : Problem) (B : ℕ) (j₀ : Journal) (s : State) (rows : s .rows �
       reached : InPass (at k n w) P w j t′ (r .counts) j (r .place)
       reached = over-stands v (pass-start listed ready known o)
 
-      pub open-reached : Onward P B j₀ w (opening s (at k n w) r) j t′
+      pub open-reached : Onward P B j₀ w (opening s (at k n w) r (startLinked t′)) j t′
       open-reached = onward-from (over-counted (P .rules) t′ (at k n w) v .joins) (by (ltb (r .place .rule) (s .rules)) refl)
         where
-          by : (b : Bool) → ltb (r .place .rule) (s .rules) ≡ b → Onward P B j₀ (r .counts) (openingBy b s (at k n w) r) j t′
+          by : (b : Bool) → ltb (r .place .rule) (s .rules) ≡ b → Onward P B j₀ (r .counts) (openingBy b s (at k n w) r (startLinked t′)) j t′
           by true e = stand-there a n fits known reached (omega (arith, ltb-true (r .place .rule) (s .rules) e, count))
-          by false e = close-last a n refl (pass-end reached (omega (arith, ltb-false (r .place .rule) (s .rules) e, count))) t′ (over-counted (P .rules) t′ (at k n w) v .added ∙ a .none-added)
+          by false e = close-last a n refl (pass-end reached (omega (arith, ltb-false (r .place .rule) (s .rules) e, count))) (z .limit) t′ (reached .covering) (over-counted (P .rules) t′ (at k n w) v .added ∙ a .none-added)

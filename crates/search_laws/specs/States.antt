@@ -1,15 +1,18 @@
 -- The states that a step leaves. Definitions only. Assumes nothing.
 use mathlib.Core.Bool.{Bool, true, false}
+use mathlib.Core.List.{List}
 use Prim.Native.Nat.{ℕ}
 use lib.Dec.{ltb}
-use Rattle.spec_calls.specs.Codes.{holdsCode, brokenCode, spentCode}
+use Rattle.spec_language.specs.Grammar.{initial}
+use Rattle.spec_calls.specs.Codes.{brokenCode, spentCode}
 use Rattle.search_state.specs.declared.Place.{Place}
 use Rattle.search_state.specs.Budgets.{isSpent}
 use Rattle.search_state.specs.Positions.{positionRow}
 use Rattle.search_state.specs.declared.Counts.{Counts}
 use Rattle.search_state.specs.declared.State.{State}
 use Rattle.search_state.specs.declared.Terms.{Terms}
-use Rattle.search_laws.specs.Meanings.{codeOf}
+use Rattle.search_links.specs.Covers.{isLinked}
+use Rattle.search_laws.specs.Meanings.{codeOf, finishedBy}
 use Rattle.search_laws.specs.declared.Reached.{Reached}
 use Rattle.search_laws.specs.declared.Stop.the-variants as stop
 use Rattle.search_laws.specs.declared.Stop.{Stop}
@@ -38,17 +41,21 @@ standingBy false s t w p =
 abbrev pub standing : State → Terms → Counts → Place → State
 standing s t w p = standingBy (isSpent (t .budget) (w .joins)) s t w p
 
--- after a pass that has added no row: what the working order's `finish` says
-abbrev pub finished : State → Terms → Counts → State
-finished s t w = ended s t w holdsCode 0
+-- the table has a row in the list of the nonterminal whose words count
+abbrev pub startLinked : List ℕ → Bool
+startLinked table = isLinked initial table
 
-abbrev pub openingBy : Bool → State → Terms → Reached → State
-openingBy true s t x = standing s t (x .counts) (x .place)
-openingBy false s t x = finished s t (x .counts)
+-- after a pass that has added no row: what the working order's `finish` says, where the flag is whether such a nonterminal has a live row
+abbrev pub finished : State → Terms → Counts → Bool → State
+finished s t w nonempty = ended s t w (codeOf (finishedBy nonempty)) 0
+
+abbrev pub openingBy : Bool → State → Terms → Reached → Bool → State
+openingBy true s t x nonempty = standing s t (x .counts) (x .place)
+openingBy false s t x nonempty = finished s t (x .counts) nonempty
 
 -- at a place of a pass that has added no row, or at its end
-abbrev pub opening : State → Terms → Reached → State
-opening s t x = openingBy (ltb (x .place .rule) (s .rules)) s t x
+abbrev pub opening : State → Terms → Reached → Bool → State
+opening s t x nonempty = openingBy (ltb (x .place .rule) (s .rules)) s t x nonempty
 
 abbrev pub stoppedIn : State → Stop → State
 stoppedIn s (stop.Ended v w) = ended s (s .terms) w (codeOf v) 0

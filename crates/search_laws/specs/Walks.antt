@@ -1,14 +1,14 @@
 -- One candidate, candidates one after the other, and a pass, under the terms of the pass; and those that the pass before formed too.
 -- Definitions only. Assumes nothing.
 use mathlib.Core.Path.{_≡_}
-use mathlib.Core.Bool.{true}
+use mathlib.Core.Bool.{Bool, true}
 use mathlib.Core.List.{List, []}
 use Prim.Native.Nat.{ℕ, _<_}
 use lib.ListN.{length}
-use Rattle.spec_basics.specs.Elements.{In}
+use Rattle.spec_basics.specs.Elements.{In, any}
 use Rattle.relation.specs.Relation.{contained}
 use Rattle.spec_order.specs.Candidates.{passCandidates}
-use Rattle.spec_order.specs.Order.{dropped, consider, walk}
+use Rattle.spec_order.specs.Order.{dropped, consider, walk, startRow}
 use Rattle.spec_order.specs.Repeating.{Repeats}
 use Rattle.search_rows.specs.Base.{Row, Candidate, Progress, Outcome}
 use Rattle.search_state.specs.declared.Place.{Place}
@@ -35,6 +35,10 @@ candidateIn P rows p = candidateAt (composingIn P) (rowOf blank) rows (P .rules)
 -- the whole pass that begins at w over the journal j
 abbrev pub passIn : Terms → Problem → Counts → Journal → Outcome
 passIn t P w j = walkIn t (length j) (candidatesIn P (firstRows (w .used) j)) (progressOf w j)
+
+-- among the first u rows of the journal j is a live one of a nonterminal whose words count
+abbrev pub nonemptyIn : Problem → ℕ → Journal → Bool
+nonemptyIn P u j = any (startRow (algebraOf P .starts)) (firstRows u j)
 
 -- ---- what the pass before formed
 

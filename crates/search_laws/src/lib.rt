@@ -27,11 +27,14 @@ pub const FULL: u8 = 102;
 
 pub const SPENT: u8 = 103;
 
+pub const EMPTY: u8 = 104;
+
 // A verdict that shows no row.
 pub enum Unbroken {
     Holds,
     Full,
     Spent,
+    Empty,
 }
 
 // The verdict with its totals; a broken answer names its row.

@@ -1,6 +1,6 @@
 -- The table of covers stays one: when hints change, when a row retires and is linked no more, and when a row is added. Assumes nothing.
 use mathlib.Core.Path.{_≡_, refl, sym, ap, _∙_, subst}
-use mathlib.Core.Bool.{Bool, true, false, _&&_, false≢true}
+use mathlib.Core.Bool.{Bool, true, false, _&&_, not, false≢true}
 use mathlib.Core.List.{List, [], _∷_, _++_, map}
 use mathlib.Core.Logic.{_⊎_, inl, inr}
 use Prim.Native.Nat.{ℕ, zero, suc, _+_, _≤_, _<_}
@@ -9,12 +9,13 @@ use lib.Dec.{eqb, ltb}
 use lib.Arith.{lt-of-le-ne}
 use lib.ListN.{length, getD, set, replicate, length-set, length-replicate, getD-replicate, length-append}
 use lib.Seq.{getD-set-same, getD-set-other}
-use borrow.Author.Tests.{ltb-true, ltb-false, eqb-true, eqb-false, eq-eqb}
+use borrow.Author.Tests.{ltb-true, ltb-false, eqb-true, eqb-false, eq-eqb, ne-eqb}
+use Rattle.spec_basics.specs.Elements.{any}
 use Rattle.spec_basics.specs.Tests.{and-fst}
 use Rattle.spec_order.specs.Journal.{Row, live, liveOf}
 use Rattle.search_state.specs.Layout.{rowCells, heads, headCell, listCells, tableCells, end}
-use Rattle.search_links.specs.Covers.{liveAt, Cell, Reach, Covering, withoutEffect}
-use Rattle.search_links.specs.RowLaws.{holds-inside, holds-nowhere, holds-before, is-last}
+use Rattle.search_links.specs.Covers.{liveAt, Cell, Reach, Covering, withoutEffect, isLinked}
+use Rattle.search_links.specs.RowLaws.{holds-inside, holds-nowhere, holds-any, any-none, holds-before, is-last}
 
 pub below-or-last : (k i : ℕ) → k < suc i → (k < i) ⊎ (k ≡ i)
 below-or-last k i m = split (ltb k i) refl
@@ -80,6 +81,22 @@ module _ {E : Type 0} where
     cell-head x y cell m n hx hy (inl p) (inr q) = absurd (omega (arith, p .0, live-inside y rows cell (q .0), limit))
     cell-head x y cell m n hx hy (inr p) (inl q) = absurd (omega (arith, live-inside x rows cell (p .0), q .0, limit))
     cell-head x y cell m n hx hy (inr p) (inr q) = one-head x y rows cell (p .0) (q .0)
+
+    -- the list of x has a row exactly where x has a live row
+    pub linked-live : (x : ℕ) → x < heads → isLinked x covers ≡ any (liveOf x) rows
+    linked-live x hx = by (r .stop)
+      where
+        v : ℕ
+        v = getD covers (headCell x) 0
+
+        r : Reach x rows 0 v
+        r = g .reach x (headCell x) 0 hx (inl (refl, refl))
+
+        by : (v ≡ end) ⊎ (liveAt x rows v ≡ true) → isLinked x covers ≡ any (liveOf x) rows
+        by (inl e) =
+            ap not (eq-eqb v end e)
+            ∙ sym (any-none (liveOf x) rows (λ i. holds-nowhere (liveOf x) rows i (λ l. r .gap i (omega arith) (omega (arith, l, limit, e)))))
+        by (inr h) = ap not (ne-eqb v end (λ e. omega (arith, e, live-inside x rows v h, limit))) ∙ sym (holds-any (liveOf x) rows v h)
 
   cell-from : (x : ℕ) (rows : List (Row E)) (cell m n : ℕ) → x < heads → length rows ≤ rowCells → Cell x rows cell m → Cell x rows cell n → m ≡ n
   cell-from x rows cell m n hx l (inl p) (inl q) = p .1 ∙ sym (q .1)

@@ -1,10 +1,11 @@
 -- The table of covers: the live rows of each nonterminal, rising, one cell leading to the next. A link asks of a row only whose live row it is.
 -- Definitions only. Assumes nothing.
 use mathlib.Core.Path.{_≡_}
-use mathlib.Core.Bool.{Bool, true, false}
+use mathlib.Core.Bool.{Bool, true, false, not}
 use mathlib.Core.List.{List}
 use mathlib.Core.Logic.{_⊎_}
 use Prim.Native.Nat.{ℕ, suc, _≤_, _<_}
+use lib.Dec.{eqb}
 use lib.ListN.{length, getD, drop}
 use Rattle.spec_basics.specs.Elements.{any}
 use Rattle.spec_order.specs.Candidates.{Candidate}
@@ -44,6 +45,10 @@ module _ {E : Type 0} where
     pub from : ℕ
     pub is : Cell x rows cell from
     pub last : getD covers cell 0 ≡ end
+
+-- the list of x has a row: the cell of x does not lead to the end
+abbrev pub isLinked : ℕ → List ℕ → Bool
+isLinked x covers = not (eqb (getD covers (headCell x) 0) end)
 
 -- ---- a candidate beside the rows
 

@@ -4,10 +4,17 @@ use search_laws::Outcome;
 use search_laws::Reached;
 use search_state::Counts;
 use search_state::END;
+use search_state::END_CELL;
+use search_state::FIRSTS;
 use search_state::Fate;
+use search_state::INITIAL;
 use search_state::State;
 use search_state::Terms;
 ghost use Prim.Native.Nat.{_<_};
+ghost use mathlib.Core.Path.{_≡_};
+ghost use lib.ListN.{length};
+ghost use Rattle.search_state.specs.Layout.{tableCells};
+ghost use Rattle.search_laws.specs.States.{startLinked};
 ghost use Rattle.search_laws.specs.Steps.{MayPass, MayOpen, MayGoOn, MayAdvance};
 ghost use Rattle.search_laws.specs.Running.{OpensPass, Closes, GoesFrom, GoesOn, Advances};
 
@@ -28,6 +35,14 @@ pub fn open_pass(
     search_skip::pass_over(rules, table, n, terms, Reached { counts, place })
 }
 
+// Returns whether the nonterminal whose words count has a live row: whether its cell of `table` leads to one.
+pub fn start_linked(table: &[u32]) -> bool
+    requires { ⌜ length (now table) ≡ tableCells ⌝ }
+    ensures { λ r. ⌜ r ≡ startLinked (now (table .entry)) ⌝ }
+{
+    table[FIRSTS + INITIAL as usize] != END_CELL
+}
+
 // Ends the pass of `state`, which has come to `counts`: it added no row and was the last, or the next begins, and has added none.
 fn close_pass(rules: &[[u8; 4]], table: &mut [u32], state: State, counts: Counts) -> State
     requires { ⌜ MayGoOn (now rules) state counts (now table) ⌝ }
@@ -35,7 +50,7 @@ fn close_pass(rules: &[[u8; 4]], table: &mut [u32], state: State, counts: Counts
 {
     let terms = state.terms;
     if counts.added == 0 {
-        return search_step::finish(state, terms, counts);
+        return search_step::finish(state, terms, counts, start_linked(table));
     }
     let next = terms.next_pass(counts.used);
     let fresh = Counts {
@@ -44,7 +59,7 @@ fn close_pass(rules: &[[u8; 4]], table: &mut [u32], state: State, counts: Counts
         added: 0,
     };
     let at = open_pass(rules, table, state.rules, next, fresh);
-    search_step::stand_or_finish(state, next, at)
+    search_step::stand_or_finish(state, next, at, start_linked(table))
 }
 
 // From a place on to the first that needs work, or to the end of the pass.

@@ -6,6 +6,7 @@ use relation::Letter;
 use relation::StateSet;
 use search_state::Comparison;
 use search_state::Fate;
+use search_state::INITIAL;
 use search_state::Place;
 use search_state::State;
 use spec_calls::ABSENT;
@@ -146,7 +147,7 @@ fn breaks(finals: StateSet, candidate: Candidate) -> bool
     ensures { λ r. ⌜ r ≡ breaking finals (candidateOf candidate) ⌝ }
 {
     let formed = candidate.relation;
-    (candidate.head == 0) & formed.rejects(finals)
+    (candidate.head == INITIAL) & formed.rejects(finals)
 }
 
 // Decides what becomes of `candidate`, where a row covers it or not.

@@ -45,6 +45,9 @@ pub const END: usize = ABSENT + 1;
 // The same as a cell: a table of these has no row in any list.
 pub const END_CELL: u32 = END as u32;
 
+// The nonterminal whose words have to be accepted.
+pub const INITIAL: u8 = 0;
+
 // ---- the state
 
 // Where a candidate stands in a pass: its rule, and the rows of its two symbols.

@@ -1,6 +1,7 @@
 // Where the search stands, in steps on values: at a place, at the end with a verdict, and what it then answers.
 use search_laws::Answer;
 use search_laws::BROKEN;
+use search_laws::EMPTY;
 use search_laws::FULL;
 use search_laws::HOLDS;
 use search_laws::Reached;
@@ -24,6 +25,7 @@ pub fn code_of(unbroken: Unbroken) -> u8
         Unbroken::Holds => HOLDS,
         Unbroken::Full => FULL,
         Unbroken::Spent => SPENT,
+        Unbroken::Empty => EMPTY,
     }
 }
 
@@ -74,23 +76,27 @@ pub fn stand_at(state: State, terms: Terms, counts: Counts, place: Place) -> Sta
     }
 }
 
-// After a pass that has added no row: the only place where the end of a check is decided.
-pub fn finish(state: State, terms: Terms, counts: Counts) -> State
-    ensures { λ r. ⌜ r ≡ finished state terms counts ⌝ }
+// After a pass that has added no row: the only place where the end of a check is decided. It holds where `nonempty`, that is, where a
+// nonterminal whose words count has a live row, and so a word; else it is empty.
+pub fn finish(state: State, terms: Terms, counts: Counts, nonempty: bool) -> State
+    ensures { λ r. ⌜ r ≡ finished state terms counts nonempty ⌝ }
 {
-    end_with(state, terms, counts, HOLDS, 0)
+    if nonempty {
+        return end_with(state, terms, counts, HOLDS, 0);
+    }
+    end_with(state, terms, counts, EMPTY, 0)
 }
 
-// At the first place of a pass that needs work. Past the last rule there is none: the pass adds no row.
-pub fn stand_or_finish(state: State, terms: Terms, at: Reached) -> State
-    ensures { λ r. ⌜ r ≡ opening state terms at ⌝ }
+// At the first place of a pass that needs work. Past the last rule there is none: the pass adds no row, and `nonempty` decides the end.
+pub fn stand_or_finish(state: State, terms: Terms, at: Reached, nonempty: bool) -> State
+    ensures { λ r. ⌜ r ≡ opening state terms at nonempty ⌝ }
 {
     let counts = at.counts;
     let place = at.place;
     if place.rule < state.rules {
         return stand_at(state, terms, counts, place);
     }
-    finish(state, terms, counts)
+    finish(state, terms, counts, nonempty)
 }
 
 // The search has stopped at a candidate.
@@ -127,6 +133,9 @@ fn unbroken_of(code: u8) -> Unbroken
     }
     if code == FULL {
         return Unbroken::Full;
+    }
+    if code == EMPTY {
+        return Unbroken::Empty;
     }
     Unbroken::Spent
 }

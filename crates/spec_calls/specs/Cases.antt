@@ -1,4 +1,5 @@
--- The cases that document 01 marks P, as one table about the definitions, from file bytes; and one of remarks (C-11). Assumes nothing.
+-- The cases that document 01 marks P, as one table about the definitions, from file bytes; one of remarks (C-11), and one of plans without runs
+-- (C-15). Assumes nothing.
 use mathlib.Core.Path.{_≡_, refl}
 use mathlib.Core.List.{List, [], _∷_, map}
 use Prim.Native.Nat.{ℕ}
@@ -12,7 +13,7 @@ use Rattle.spec_file.specs.Refusals.{kindKnown, onRemark, risesFrom, overLimit,
 use Rattle.spec_file.specs.Views.{collect, rulesOf, transitionsOf, finalsOf}
 use Rattle.spec_order.specs.Journal.{capped, live, liveOf}
 use Rattle.spec_order.specs.Candidates.{liveRows, sole, paired, bare, choices, bodyCandidates, passCandidates}
-use Rattle.spec_order.specs.Order.{Answer, born, answer, dropped, larger, retire, added, decide, consider, walk, onePass, passes, check}
+use Rattle.spec_order.specs.Order.{Answer, born, answer, dropped, larger, retire, added, decide, consider, walk, startRow, onePass, passes, check}
 use Rattle.spec_order.specs.Behind.{symbolWord, bodyWord, rowWord, wordsFrom, wordsOf, wordBehind}
 use Rattle.spec_order.specs.Fitting.{pointerFits, symbolLen, bodyFits, rowFits, rowsFit}
 use Rattle.spec_calls.specs.Replies.{Reply, refused, answered}
@@ -56,7 +57,7 @@ says text = printed (bytes text)
 
 -- of a check with J rows and a budget of B joins, and a run buffer of `room` bytes
 checkedIn : ℕ → List ℕ → ℕ → ℕ → Output
-unfolding textOf brokenLines lineOne lineTwo lineThree refusedLine wordLine numbersLine separated blanked decimal writeOf bufferAfter wordOf rowFault roomFault rowsFit rowFits bodyFits pointerFits symbolLen wordBehind wordsOf wordsFrom rowWord bodyWord symbolWord pairs count checkOf orderOn journalFault faultIn lengthFaultIn faultFromIn faultAtIn faultByIn kindKnown aboveRangeIn strayByteIn onRemark risesFrom exceedsIn overLimit countIn rulesOf transitionsOf finalsOf collect check passes onePass walk consider decide added retire larger dropped answer born passCandidates bodyCandidates choices bare sole paired liveRows live liveOf capped letterRelation isRemark moves isFinal rejects compose identity table has some number subset bit
+unfolding textOf brokenLines lineOne lineTwo lineThree refusedLine wordLine numbersLine separated blanked decimal writeOf bufferAfter wordOf rowFault roomFault rowsFit rowFits bodyFits pointerFits symbolLen wordBehind wordsOf wordsFrom rowWord bodyWord symbolWord pairs count checkOf orderOn journalFault faultIn lengthFaultIn faultFromIn faultAtIn faultByIn kindKnown aboveRangeIn strayByteIn onRemark risesFrom exceedsIn overLimit countIn rulesOf transitionsOf finalsOf collect check passes onePass walk consider decide added retire larger dropped startRow answer born passCandidates bodyCandidates choices bare sole paired liveRows live liveOf capped letterRelation isRemark moves isFinal rejects compose identity table has some number subset bit
 checkedIn room bs J B = printed (textOf bs (record { rows = J; budget = B }) room)
 
 -- with the check program's
@@ -105,12 +106,12 @@ table-P =
     ∷ case (checked (planA sheetS) 1024 12) (says "holds 12 4 4\n")
     ∷ case (checked (planA sheetS) 3 1000000) (says "full 7 3 3\n")
     ∷ case (checked (planA sheetS) 4 1000000) (says "holds 12 4 4\n")
-    ∷ case (checked [] 1024 0) (says "holds 0 0 1\n")
+    ∷ case (checked [] 1024 0) (says "empty 0 0 1\n")
     ∷ case (checked (lone []) 1024 1000000) (says "broken 1 1 1\n0 16 0\n\n")
     ∷ case (checked (lone (entry 3 0 0 0 0 [])) 1024 1000000) (says "holds 2 1 2\n")
     ∷ case (judging sheetS (1 ∷ 3 ∷ [])) (judged turnedAway)
     ∷ case (judging sheetS (1 ∷ 2 ∷ 3 ∷ [])) (judged accepted)
-    ∷ case (checked (entry 1 0 1 191 0 []) 1024 1000000) (says "holds 0 0 1\n")
+    ∷ case (checked (entry 1 0 1 191 0 []) 1024 1000000) (says "empty 0 0 1\n")
     ∷ case (checked (entry 1 0 1 192 0 []) 1024 1000000) (says "refused 4\n")
     ∷ case (refusing (entry 1 0 1 192 0 []) 1024 1000000) (refusal 4 0)
     ∷ case (checked (lone (lone [])) 1024 1000000) (says "refused 6\n")
@@ -156,3 +157,38 @@ table-remarks =
 pub remark-cases : map (λ (c : Case). c .got) table-remarks ≡ map (λ (c : Case). c .want) table-remarks
 unfolding table-remarks
 remark-cases = refl
+
+-- ---- plans without runs
+
+-- 0 gives 1 (procedure 0), and 1 gives nothing: procedure 0 never ends, and procedure 1 does
+unfoldable pub endless : List ℕ → List ℕ
+endless rest = entry 1 0 2 1 128 (entry 1 1 0 0 0 rest)
+
+-- plan A without the rule that begins it, and so without a rule of procedure 0
+unfoldable pub headless : List ℕ → List ℕ
+headless rest = entry 1 1 0 0 0 (entry 1 1 2 1 130 (entry 1 2 2 2 129 rest))
+
+-- the other procedures' rows are used and counted; one finishing stage more or fewer changes nothing. Full and spent come first. A run of no
+-- steps is a run. A row of procedure 0 that has retired was covered by one that is live
+pub table-empty : List Case
+unfolding planA endless headless lone sheetS checkedIn checked
+table-empty =
+    case (checked [] 1 0) (says "empty 0 0 1\n")
+    ∷ case (checked sheetS 1024 1000000) (says "empty 0 0 1\n")
+    ∷ case (checked (endless sheetS) 1024 1000000) (says "empty 2 1 2\n")
+    ∷ case (checked (endless (entry 3 0 0 0 0 [])) 1024 1000000) (says "empty 2 1 2\n")
+    ∷ case (checked (endless sheetS) 1 2) (says "empty 2 1 2\n")
+    ∷ case (checked (endless sheetS) 1024 1) (says "spent 1 1 2\n")
+    ∷ case (checked (headless sheetS) 1024 1000000) (says "empty 9 3 4\n")
+    ∷ case (checked (headless sheetS) 3 9) (says "empty 9 3 4\n")
+    ∷ case (checked (headless sheetS) 2 9) (says "full 5 2 3\n")
+    ∷ case (checked (headless sheetS) 3 8) (says "spent 8 3 4\n")
+    ∷ case (checked (entry 1 0 2 129 3 sheetS) 1024 1000000) (says "empty 0 0 1\n")
+    ∷ case (checked (entry 1 1 0 0 0 []) 1024 1000000) (says "empty 2 1 2\n")
+    ∷ case (checked (lone (entry 1 0 2 1 128 (entry 3 0 0 0 0 []))) 1024 1000000) (says "broken 3 2 2\n1 0 1\n1\n")
+    ∷ case (checked (lone (entry 1 0 1 5 0 (entry 2 0 5 0 0 (entry 3 0 0 0 0 [])))) 1024 1000000) (says "holds 4 2 2\n")
+    ∷ []
+
+pub empty-cases : map (λ (c : Case). c .got) table-empty ≡ map (λ (c : Case). c .want) table-empty
+unfolding table-empty
+empty-cases = refl

@@ -1,6 +1,6 @@
 -- The numbers of the verdicts, above those of the refusals of document 01. Definitions only. Assumes nothing.
 use Prim.Native.Nat.{ℕ}
-use Rattle.spec_order.specs.Order.{Verdict, holds, broken, full, spent}
+use Rattle.spec_order.specs.Order.{Verdict, holds, broken, full, spent, empty}
 use Rattle.spec_calls.specs.Replies.{Reply, refused, answered}
 
 -- numbers below this one refuse a call; answers have this one or a higher one
@@ -19,11 +19,15 @@ fullCode = 102
 abbrev pub spentCode : ℕ
 spentCode = 103
 
+abbrev pub emptyCode : ℕ
+emptyCode = 104
+
 abbrev pub verdictCode : Verdict → ℕ
 verdictCode holds = holdsCode
 verdictCode broken = brokenCode
 verdictCode full = fullCode
 verdictCode spent = spentCode
+verdictCode empty = emptyCode
 
 -- ---- replies
 

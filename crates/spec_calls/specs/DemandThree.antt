@@ -15,7 +15,7 @@ use Rattle.spec_language.specs.Automaton.{WordPath, Accepts, TurnsAway}
 use Rattle.spec_file.specs.Refusals.{refuse}
 use Rattle.spec_file.specs.Views.{rulesOf, productionsOf, automatonOf}
 use Rattle.spec_order.specs.Journal.{Row, absent, capped}
-use Rattle.spec_order.specs.Order.{Answer, holds, broken, full, spent}
+use Rattle.spec_order.specs.Order.{Answer, holds, broken, full, spent, empty}
 use Rattle.spec_order.specs.Stopping.{Stops, Ends}
 use Rattle.spec_order.specs.Fitting.{rowFits}
 use Rattle.spec_calls.specs.Base.{base}
@@ -32,6 +32,13 @@ module _ (bs : List ℕ) where
   abbrev pub Derivable : List ℕ → Type 0
   Derivable w = Language (productionsOf bs) initial w
 
+  -- some word is derived (document 02, C-15: a run exists); none is
+  abbrev pub SomeDerivable : Type 0
+  SomeDerivable = (w : List ℕ) × Derivable w
+
+  abbrev pub NoneDerivable : Type 0
+  NoneDerivable = (w : List ℕ) → Derivable w → ⊥
+
   -- a word that is derived and turned away
   abbrev pub Counterexample : List ℕ → Type 0
   Counterexample w = Derivable w × TurnsAway (automatonOf bs) w
@@ -40,18 +47,27 @@ module _ (bs : List ℕ) where
 
   -- the answer to a check with the settings g
   pub record OneVerdict (g : Settings) (a : Answer ℕ) : Type 0 where
-    -- "holds" only if no derivable word, however long, is turned away
+    -- "holds" only if no derivable word, however long, is turned away, and there is one
     pub holds-for-all : a .verdict ≡ holds → (w : List ℕ) → Derivable w → Accepts (automatonOf bs) w
+    pub holds-for-some : a .verdict ≡ holds → SomeDerivable
+    -- "empty" only if no word is derivable
+    pub empty-for-none : a .verdict ≡ empty → NoneDerivable
     -- "broken" only with such a word shown
     pub broken-shows : a .verdict ≡ broken → Counterexample (shown bs a)
-    -- any verdict other than "full" and "spent" is "broken" exactly when such a word exists
+    -- any verdict other than "full" and "spent" is "broken" exactly when such a word exists, "empty" exactly when no word is derivable, and
+    -- "holds" exactly in the other cases: some word is derivable, and none is turned away
     pub broken-exactly : (a .verdict ≡ full → ⊥) → (a .verdict ≡ spent → ⊥) → (a .verdict ≡ broken) ↔ ((w : List ℕ) × Counterexample w)
+    pub empty-exactly : (a .verdict ≡ full → ⊥) → (a .verdict ≡ spent → ⊥) → (a .verdict ≡ empty) ↔ NoneDerivable
+    pub holds-exactly : (a .verdict ≡ full → ⊥) → (a .verdict ≡ spent → ⊥)
+        → (a .verdict ≡ holds) ↔ (SomeDerivable × ((w : List ℕ) → Derivable w → Accepts (automatonOf bs) w))
     -- "full" exactly where the rows run out, and "spent" where the joins do: at the candidate that Stops names
     pub stops-full : (a .verdict ≡ full) ↔ Stops (base states (automatonOf bs)) (rulesOf bs) (g .rows) (g .budget) full a
     pub stops-spent : (a .verdict ≡ spent) ↔ Stops (base states (automatonOf bs)) (rulesOf bs) (g .rows) (g .budget) spent a
-    -- "broken" exactly where a candidate becomes a row that breaks, and "holds" where a pass ends that has added no row
+    -- "broken" exactly where a candidate becomes a row that breaks, and "holds" or "empty" where a pass ends that has added no row: the initial
+    -- symbol has a live row, or has none
     pub stops-broken : (a .verdict ≡ broken) ↔ Stops (base states (automatonOf bs)) (rulesOf bs) (g .rows) (g .budget) broken a
-    pub ends-holds : (a .verdict ≡ holds) ↔ Ends (base states (automatonOf bs)) (rulesOf bs) (g .rows) (g .budget) a
+    pub ends-holds : (a .verdict ≡ holds) ↔ Ends (base states (automatonOf bs)) (rulesOf bs) (g .rows) (g .budget) holds a
+    pub ends-empty : (a .verdict ≡ empty) ↔ Ends (base states (automatonOf bs)) (rulesOf bs) (g .rows) (g .budget) empty a
 
   -- document 01's bound on the joins: R · J · J · (J + 1)
   abbrev pub joinsBound : Settings → ℕ

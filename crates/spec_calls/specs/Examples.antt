@@ -12,7 +12,7 @@ use Rattle.spec_file.specs.Reading.{ReaderStep, gives, refuses, ended, stepFrom
 use Rattle.spec_file.specs.Views.{collect, rulesOf, transitionsOf, finalsOf}
 use Rattle.spec_order.specs.Journal.{Row, capped, live, liveOf}
 use Rattle.spec_order.specs.Candidates.{liveRows, sole, paired, bare, choices, bodyCandidates, passCandidates}
-use Rattle.spec_order.specs.Order.{born, answer, dropped, larger, retire, added, decide, consider, walk, onePass, passes, check}
+use Rattle.spec_order.specs.Order.{born, answer, dropped, larger, retire, added, decide, consider, walk, startRow, onePass, passes, check}
 use Rattle.spec_order.specs.Behind.{symbolWord, bodyWord, rowWord, wordsFrom, wordsOf, wordBehind}
 use Rattle.spec_order.specs.Fitting.{pointerFits, symbolLen, bodyFits, rowFits, rowsFit}
 use Rattle.spec_calls.specs.Replies.{Reply, refused, answered}
@@ -45,7 +45,7 @@ stretches = (refl, refl, refl)
 
 -- the journal of plan B's check
 pub journalB : List (Row ℕ)
-unfolding planB sheetS orderOn rulesOf transitionsOf finalsOf collect check passes onePass walk consider decide added retire larger dropped answer born passCandidates bodyCandidates choices bare sole paired liveRows live liveOf capped letterRelation isRemark moves isFinal rejects compose identity table has some number subset bit
+unfolding planB sheetS orderOn rulesOf transitionsOf finalsOf collect check passes onePass walk consider decide added retire larger dropped startRow answer born passCandidates bodyCandidates choices bare sole paired liveRows live liveOf capped letterRelation isRemark moves isFinal rejects compose identity table has some number subset bit
 journalB = orderOn (planB sheetS) programSettings .journal
 
 pub writeOn : List ℕ → List (Row ℕ) → ℕ → ℕ → ℕ → Reply ℕ

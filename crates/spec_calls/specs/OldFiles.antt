@@ -1,5 +1,5 @@
 -- What stays of a file from before request C-14, whose states are all below 8 (document 02: an old file's "holds" or "broken" stays unless the
--- new order ends full or spent). Both orders have the same rows and budget. Nothing is said of their joins, rows and passes: the empty word's
+-- new order ends full or spent; and so does "empty", C-15). Both orders have the same rows and budget. Nothing is said of their joins, rows and passes: the empty word's
 -- relation has the pairs of the new states too, so it compares otherwise. Assumes nothing.
 use mathlib.Core.Path.{_≡_, refl, ap, _∙_}
 use mathlib.Core.List.{List}
@@ -8,30 +8,25 @@ use Rattle.relation.specs.Relation.{states}
 use Rattle.spec_language.specs.Automaton.{Within}
 use Rattle.spec_file.specs.Valid.{automaton-within}
 use Rattle.spec_file.specs.Views.{automatonOf}
-use Rattle.spec_order.specs.Order.{Answer, Verdict, holds, broken, full, spent}
+use Rattle.spec_order.specs.Order.{Answer, Verdict, holds, broken, full, spent, empty}
 use Rattle.spec_order.specs.Stability.{Firm}
 use Rattle.spec_calls.specs.Checking.{Settings, orderOver, orderOn, checkOf, shown}
 use Rattle.spec_calls.specs.Promising.{from-order}
 use Rattle.spec_calls.specs.Replies.{answered}
-use Rattle.spec_calls.specs.VerdictTruth.{meaning, shows, found}
+use Rattle.spec_calls.specs.VerdictTruth.{meaning, shows, found, underivable, accepted}
 
 -- how many states an automaton had
 abbrev pub oldStates : ℕ
 oldStates = 8
 
--- "holds" and "broken" do not hang on the count of states, where the file's automaton keeps to both counts
+-- "holds", "broken" and "empty" do not hang on the count of states, where the file's automaton keeps to both counts
 pub verdict-stays : (n m : ℕ) (bs : List ℕ) → Within n (automatonOf bs) → Within m (automatonOf bs) → (g : Settings) (x : Verdict) → Firm x
     → orderOver n bs g .verdict ≡ x → (orderOver m bs g .verdict ≡ full → ⊥) → (orderOver m bs g .verdict ≡ spent → ⊥) → orderOver m bs g .verdict ≡ x
 verdict-stays n m bs hn hm g full firm e f s = absurd firm
 verdict-stays n m bs hn hm g spent firm e f s = absurd firm
 verdict-stays n m bs hn hm g broken firm e f s = found m bs hm g (orderOver m bs g .verdict) refl f s (shown bs (orderOver n bs g), shows n bs hn g e)
-verdict-stays n m bs hn hm g holds firm e f s = by (orderOver m bs g .verdict) refl f s
-  where
-    by : (y : Verdict) → orderOver m bs g .verdict ≡ y → (y ≡ full → ⊥) → (y ≡ spent → ⊥) → y ≡ holds
-    by holds p f s = refl
-    by broken p f s = let c = shows m bs hm g p in absurd (c .1 (meaning n bs hn g holds e (shown bs (orderOver m bs g)) (c .0)))
-    by full p f s = absurd (f refl)
-    by spent p f s = absurd (s refl)
+verdict-stays n m bs hn hm g holds firm e f s = accepted m bs hm g (orderOver m bs g .verdict) refl f s (meaning n bs hn g holds e)
+verdict-stays n m bs hn hm g empty firm e f s = underivable m bs hm g (orderOver m bs g .verdict) refl f s (meaning n bs hn g empty e)
 
 -- the answer to a check of an old file has the verdict that eight states give
 pub old-verdict-stays : (bs : List ℕ) → Within oldStates (automatonOf bs) → (g : Settings) (a : Answer ℕ) → checkOf bs g ≡ answered a

@@ -9,7 +9,7 @@ use lib.ListN.{getD, take, replicate}
 use Rattle.relation.specs.Relation.{states, pairs}
 use Rattle.spec_file.specs.Views.{automatonOf}
 use Rattle.spec_order.specs.Journal.{Row, noRow}
-use Rattle.spec_order.specs.Order.{Verdict, holds, broken, full, spent, Answer}
+use Rattle.spec_order.specs.Order.{Verdict, holds, broken, full, spent, empty, Answer}
 use Rattle.spec_calls.specs.Base.{base}
 use Rattle.spec_calls.specs.Checking.{Settings, checkOf}
 use Rattle.spec_calls.specs.Replies.{Reply, refused, answered}
@@ -73,6 +73,7 @@ verdictWord holds = bytes "holds"
 verdictWord broken = bytes "broken"
 verdictWord full = bytes "full"
 verdictWord spent = bytes "spent"
+verdictWord empty = bytes "empty"
 
 -- `refused` and the number
 unfoldable pub refusedLine : ℕ → List ℕ
@@ -104,6 +105,7 @@ abbrev pub linesBy : Verdict → List ℕ → ℕ → Answer ℕ → List ℕ
 linesBy holds bs room a = lineOne holds a
 linesBy full bs room a = lineOne full a
 linesBy spent bs room a = lineOne spent a
+linesBy empty bs room a = lineOne empty a
 linesBy broken bs room a = lineOne broken a ++ brokenLines bs room a
 
 -- a refused file gives only `refused` and the number

@@ -19,9 +19,9 @@ use Rattle.spec_language.specs.Paths.{wordRelation-lt, path-of, of-path}
 use Rattle.spec_file.specs.Refusals.{fault}
 use Rattle.spec_file.specs.Views.{rulesOf, productionsOf, automatonOf}
 use Rattle.spec_file.specs.Valid.{automaton-within}
-use Rattle.spec_order.specs.Order.{Verdict, holds, broken, full, spent, check}
+use Rattle.spec_order.specs.Order.{Verdict, holds, broken, full, spent, empty, check}
 use Rattle.spec_order.specs.Journal.{Row, absent, live, liveOf}
-use Rattle.spec_order.specs.Stopping.{Stops}
+use Rattle.spec_order.specs.Stopping.{Stops, Ends}
 use Rattle.spec_order.specs.Exactly.{stops-so, ends-so}
 use Rattle.spec_order.specs.Counting.{Exact, ExactBy, StopsBy, check-exact, never-spent}
 use Rattle.spec_order.specs.Stability.{Firm, check-mono}
@@ -29,7 +29,7 @@ use Rattle.spec_calls.specs.Base.{base}
 use Rattle.spec_calls.specs.Checking.{Settings, orderOn, shown}
 use Rattle.spec_calls.specs.DemandThree.{Counterexample, OneVerdict, Counts, LeastHeight, RowMeans, LiveAntichain, Extends}
 use Rattle.spec_calls.specs.JournalTruth.{rowAt, wordAt, row-true, incomparable}
-use Rattle.spec_calls.specs.VerdictTruth.{VerdictMeans, meaning, shows, found}
+use Rattle.spec_calls.specs.VerdictTruth.{VerdictMeans, meaning, shows, found, underivable, accepted}
 use Rattle.spec_calls.specs.Writing.{wordOf}
 
 -- a live row of the nonterminal x
@@ -56,10 +56,6 @@ module _ (bs : List ℕ) (v : fault bs .number ≡ 0) (g : Settings) where
   unfolding orderOn
   breaks e = shows states bs (automaton-within bs v) g e
 
-  breaking : (orderOn bs g .verdict ≡ full → ⊥) → (orderOn bs g .verdict ≡ spent → ⊥) → (w : List ℕ) × Counterexample bs w → orderOn bs g .verdict ≡ broken
-  unfolding orderOn
-  breaking f s c = found states bs (automaton-within bs v) g (orderOn bs g .verdict) refl f s c
-
   pub least-height : LeastHeight bs (orderOn bs g)
   least-height = record { shown-within = λ e. says broken e .0; none-lower = λ e. says broken e .2 }
 
@@ -75,6 +71,10 @@ module _ (bs : List ℕ) (v : fault bs .number ≡ 0) (g : Settings) where
     unfolding orderOn
     so x h = stops-so (base states A) (rulesOf bs) J B x (orderOn bs g) h
 
+    ends : (x : Verdict) → Ends (base states A) (rulesOf bs) J B x (orderOn bs g) → orderOn bs g .verdict ≡ x
+    unfolding orderOn
+    ends x h = ends-so (base states A) (rulesOf bs) J B x (orderOn bs g) h
+
     exact : (x : Verdict) → orderOn bs g .verdict ≡ x → ExactBy (base states A) 1 (λ x y. le-refl 1) (le-refl 1) (rulesOf bs) J B pos x (orderOn bs g)
     unfolding orderOn
     exact x e = subst (λ (y : Verdict). ExactBy (base states A) 1 (λ x y. le-refl 1) (le-refl 1) (rulesOf bs) J B pos y (orderOn bs g)) e (counts .by-verdict)
@@ -82,6 +82,7 @@ module _ (bs : List ℕ) (v : fault bs .number ≡ 0) (g : Settings) where
     -- no row unless broken
     rowless : (x : Verdict) → orderOn bs g .verdict ≡ x → (x ≡ broken → ⊥) → orderOn bs g .row ≡ absent
     rowless holds e n = exact holds e
+    rowless empty e n = exact empty e
     rowless broken e n = absurd (n refl)
     rowless full e n = exact full e .1
     rowless spent e n = exact spent e .1
@@ -91,13 +92,18 @@ module _ (bs : List ℕ) (v : fault bs .number ≡ 0) (g : Settings) where
     unfolding orderOn
     one-verdict =
         record {
-          holds-for-all = says holds;
+          holds-for-all = λ e. says holds e .1;
+          holds-for-some = λ e. says holds e .0;
+          empty-for-none = says empty;
           broken-shows = breaks;
-          broken-exactly = λ f s. (λ e. (shown bs (orderOn bs g), breaks e), λ c. breaking f s c);
+          broken-exactly = λ f s. (λ e. (shown bs (orderOn bs g), breaks e), λ c. found states bs (automaton-within bs v) g (orderOn bs g .verdict) refl f s c);
+          empty-exactly = λ f s. (says empty, λ d. underivable states bs (automaton-within bs v) g (orderOn bs g .verdict) refl f s d);
+          holds-exactly = λ f s. (says holds, λ y. accepted states bs (automaton-within bs v) g (orderOn bs g .verdict) refl f s y);
           stops-full = (stops full, so full);
           stops-spent = (stops spent, so spent);
           stops-broken = (stops broken, so broken);
-          ends-holds = (stops holds, ends-so (base states A) (rulesOf bs) J B (orderOn bs g));
+          ends-holds = (stops holds, ends holds);
+          ends-empty = (stops empty, ends empty);
         }
 
     -- the bound as the counting has it, and as document 01 writes it
@@ -161,6 +167,7 @@ same-answer bs g g′ x f s =
   where
     firm : (x : Verdict) → (x ≡ full → ⊥) → (x ≡ spent → ⊥) → Firm x
     firm holds f s = tt
+    firm empty f s = tt
     firm broken f s = tt
     firm full f s = f refl
     firm spent f s = s refl

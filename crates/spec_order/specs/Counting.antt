@@ -9,13 +9,13 @@ use native.Mathlib.Omega.{arith}
 use lib.Dec.{eqb}
 use lib.ListN.{length, length-append, length-map}
 use borrow.Author.Tests.{eqb-true, eqb-false}
-use Rattle.spec_basics.specs.Elements.{concatMap}
+use Rattle.spec_basics.specs.Elements.{any, concatMap}
 use Rattle.spec_basics.specs.Lists.{length-concatMap}
 use Rattle.spec_language.specs.Grammar.{Symbol, terminal, nonterminal, Body, empty, one, two, Rule}
 use Rattle.spec_order.specs.Algebra.{Algebra}
 use Rattle.spec_order.specs.Candidates.{Choice, Candidate, liveRows, sole, paired, choices, bodyCandidates, passCandidates}
 use Rattle.spec_order.specs.Journal.{Row, absent, liveOf}
-use Rattle.spec_order.specs.Order.{Progress, start, Verdict, holds, broken, full, spent, Outcome, going, stopped, Answer, answer, closeBy, close, onePass, passes, check}
+use Rattle.spec_order.specs.Order.{Progress, start, Verdict, holds, broken, full, spent, empty, Outcome, going, stopped, Answer, answer, finishBy, startRow, finish, closeBy, close, onePass, passes, check}
 use Rattle.spec_order.specs.Truth.{length-added}
 use Rattle.spec_order.specs.Stopping.{Found, Halt, lastJoin, Begun, Stops, Ends}
 use Rattle.spec_order.specs.Walking.{Post}
@@ -72,6 +72,7 @@ module _ {E : Type 0} (A : Algebra E) (m : ℕ) (few : (x y : E) → length (A .
 -- why a candidate c stopped the check (`Found`) says whether it is a join: from t to u the joins rise by `lastJoin v`
 found-joins : {E : Type 0} (A : Algebra E) (J B k : ℕ) (v : Verdict) (i : ℕ) (c : Candidate E) (t u : Progress E) → Found A J B k v i c t u → u .joins ≡ t .joins + lastJoin v
 found-joins {E} A J B k holds i c t u f = absurd f
+found-joins {E} A J B k empty i c t u f = absurd f
 found-joins {E} A J B k broken i c t u f = ap (λ (x : Progress E). x .joins) (f .5) ∙ sym (add-one (t .joins))
 found-joins {E} A J B k full i c t u f = ap (λ (x : Progress E). x .joins) (f .4) ∙ sym (add-one (t .joins))
 found-joins {E} A J B k spent i c t u f = ap (λ (x : Progress E). x .joins) (f .2) ∙ sym (add-zero (t .joins))
@@ -86,13 +87,15 @@ module _ {E : Type 0} (A : Algebra E) (m : ℕ) (few : (x y : E) → length (A .
   -- what the counts of an answer are, in each verdict
   abbrev pub ExactBy : Verdict → Answer E → Type 0
   ExactBy holds a = a .row ≡ absent
+  ExactBy empty a = a .row ≡ absent
   ExactBy broken a = suc (a .row) ≡ a .used
   ExactBy full a = (a .used ≡ J) × (a .row ≡ absent)
   ExactBy spent a = (a .joins ≡ B) × (a .row ≡ absent) × (suc (a .joins) ≤ suc J * per)
 
-  -- where each verdict comes: in the last pass, "holds" at its end, and the others at a candidate
+  -- where each verdict comes: in the last pass, "holds" and "empty" at its end, and the others at a candidate
   abbrev pub StopsBy : Verdict → Answer E → Type 0
-  StopsBy holds a = Ends A rules J B a
+  StopsBy holds a = Ends A rules J B holds a
+  StopsBy empty a = Ends A rules J B empty a
   StopsBy broken a = Stops A rules J B broken a
   StopsBy full a = Stops A rules J B full a
   StopsBy spent a = Stops A rules J B spent a
@@ -149,7 +152,7 @@ module _ {E : Type 0} (A : Algebra E) (m : ℕ) (few : (x y : E) → length (A .
           }
 
       ends : (t : Progress E) → onePass A rules J B (suc h) s ≡ going t → length (t .rows) ≡ length (s .rows) → Went J (length cs) s t
-          → Ends A rules J B (answer holds (suc h) absent t)
+          → Ends A rules J B (finish (A .starts) (t .rows)) (answer (finish (A .starts) (t .rows)) (suc h) absent t)
       ends t e same p =
           record {
             passed = h;
@@ -159,6 +162,7 @@ module _ {E : Type 0} (A : Algebra E) (m : ℕ) (few : (x y : E) → length (A .
             last = t;
             walked = e;
             none-added = same;
+            verdict-is = refl;
             joins-are = omega (arith, p .joins-are, begun-came A rules J B h s b .joins-are);
             journal-is = refl;
           }
@@ -167,6 +171,7 @@ module _ {E : Type 0} (A : Algebra E) (m : ℕ) (few : (x y : E) → length (A .
           → ((t : Progress E) → Begun A rules J B (suc h) t → J < f + length (t .rows) → length (t .rows) ≤ J → suc h ≤ length (t .rows) → t .joins ≤ suc h * per → Exact (passes A rules J B f (suc (suc h)) t))
           → Exact (close (A .starts) (suc h) (length (s .rows)) (passes A rules J B f (suc (suc h))) r)
       by (stopped holds i u) e p next = absurd (p .found)
+      by (stopped empty i u) e p next = absurd (p .found)
       by (stopped broken i u) e p next =
           let c = p .found in
           let size : length (u .rows) ≡ suc (length (p .reached .rows)) = ap (λ (x : Progress E). length (x .rows)) (c .5) ∙ length-added A (suc h) (p .at) (p .reached .rows) in
@@ -205,11 +210,22 @@ module _ {E : Type 0} (A : Algebra E) (m : ℕ) (few : (x y : E) → length (A .
           }
       by (going t) e p next = fork (eqb (length (t .rows)) (length (s .rows))) refl
         where
+          ended : Answer E
+          ended = answer (finish (A .starts) (t .rows)) (suc h) absent t
+
+          rowless : (x : Bool) → ExactBy (finishBy x) ended
+          rowless true = refl
+          rowless false = refl
+
+          at-end : (x : Bool) → Ends A rules J B (finishBy x) ended → StopsBy (finishBy x) ended
+          at-end true y = y
+          at-end false y = y
+
           fork : (x : Bool) → eqb (length (t .rows)) (length (s .rows)) ≡ x → Exact (closeBy (A .starts) x (suc h) (passes A rules J B f (suc (suc h))) t)
           fork true q =
               record {
-                by-verdict = refl;
-                stops = ends t e (eqb-true (length (t .rows)) (length (s .rows)) q) p;
+                by-verdict = rowless (any (startRow (A .starts)) (t .rows));
+                stops = at-end (any (startRow (A .starts)) (t .rows)) (ends t e (eqb-true (length (t .rows)) (length (s .rows)) q) p);
                 used-is = refl;
                 joins-bound = top (t .joins) (le-of-eq (p .joins-are));
                 rows-bound = p .rows-fit;

@@ -10,7 +10,7 @@ use borrow.Author.Tests.{eq-eqb, ne-eqb}
 use Rattle.spec_language.specs.Grammar.{Rule}
 use Rattle.spec_order.specs.Algebra.{Algebra}
 use Rattle.spec_order.specs.Candidates.{Candidate}
-use Rattle.spec_order.specs.Order.{Progress, start, Verdict, holds, broken, full, spent, Outcome, stopped, Answer, andThen, answer, decide, consider, walk, closeBy, close, onePass, passes, check}
+use Rattle.spec_order.specs.Order.{Progress, start, Verdict, broken, full, spent, holds, empty, Outcome, stopped, Answer, andThen, answer, decide, consider, walk, closeBy, close, onePass, passes, check}
 use Rattle.spec_order.specs.Stopping.{Found, Halt, candidatesAt, Begun, Stops, Ends}
 use Rattle.spec_order.specs.Walking.{walk-append}
 use Rattle.spec_order.specs.Halting.{begun-came}
@@ -20,6 +20,7 @@ module _ {E : Type 0} (A : Algebra E) (J B k : ℕ) where
   found-stops : (v : Verdict) (i : ℕ) (c : Candidate E) (t u : Progress E) → Found A J B k v i c t u → consider (A .below) (A .breaks) J B k c t ≡ stopped v i u
   unfolding consider decide
   found-stops holds i c t u f = absurd f
+  found-stops empty i c t u f = absurd f
   found-stops spent i c t u f = rw (eq-eqb (t .joins) B (f .0), f .1, f .2)
   found-stops full i c t u f = rw (ne-eqb (t .joins) B (f .0), f .1, eq-eqb (length (t .rows)) J (f .2), f .3, f .4)
   found-stops broken i c t u f = rw (ne-eqb (t .joins) B (f .0), f .1, ne-eqb (length (t .rows)) J (f .2), f .3, f .4, f .5)
@@ -60,11 +61,12 @@ module _ {E : Type 0} (A : Algebra E) (rules : List Rule) (J B : ℕ) where
       ∙ ap (close (A .starts) (suc (h .passed)) (length (h .began .rows)) (passes A rules J B (J - h .passed) (suc (suc (h .passed)))))
       (halt-stops A J B (suc (h .passed)) (candidatesAt A rules (h .began)) (h .began) v (a .row) (h .last) (h .halt)))
 
-  -- and where a pass ends that has added no row, it holds
-  pub ends-so : (a : Answer E) → Ends A rules J B a → check A rules J B .verdict ≡ holds
+  -- and where a pass ends that has added no row, the verdict of the end
+  pub ends-so : (v : Verdict) (a : Answer E) → Ends A rules J B v a → check A rules J B .verdict ≡ v
   unfolding answer
-  ends-so a h =
+  ends-so v a h =
       ap (λ (x : Answer E). x .verdict)
       (from-pass (h .passed) (h .began) (h .begun)
       ∙ ap (close (A .starts) (suc (h .passed)) (length (h .began .rows)) (passes A rules J B (J - h .passed) (suc (suc (h .passed))))) (h .walked)
       ∙ ap (λ (x : Bool). closeBy (A .starts) x (suc (h .passed)) (passes A rules J B (J - h .passed) (suc (suc (h .passed)))) (h .last)) (eq-eqb (length (h .last .rows)) (length (h .began .rows)) (h .none-added)))
+      ∙ h .verdict-is

@@ -9,7 +9,7 @@ use Rattle.spec_language.specs.Grammar.{terminal, nonterminal, one, two, Rule}
 use Rattle.spec_order.specs.Algebra.{Algebra}
 use Rattle.spec_order.specs.Journal.{capped, live, liveOf}
 use Rattle.spec_order.specs.Candidates.{liveRows, sole, paired, bare, choices, bodyCandidates, passCandidates}
-use Rattle.spec_order.specs.Order.{Verdict, holds, born, answer, dropped, larger, retire, added, decide, consider, walk, onePass, passes, check}
+use Rattle.spec_order.specs.Order.{Verdict, holds, born, answer, dropped, larger, retire, added, decide, consider, walk, startRow, onePass, passes, check}
 
 abbrev pub toy : Algebra ℕ
 toy = record { forms = record { ofEmpty = 0; ofTerminal = λ c. c; ofPair = λ x y. (x + y) ∷ [] }; below = eqb; starts = λ x. true; breaks = λ x e. false }
@@ -25,7 +25,7 @@ pub record CountedAs : Type 0 where
   pub pass : ℕ
 
 pub counted : ℕ → ℕ → CountedAs
-unfolding check passes onePass walk consider decide added retire larger dropped answer born passCandidates bodyCandidates choices bare sole paired liveRows live liveOf capped
+unfolding check passes onePass walk consider decide added retire larger dropped startRow answer born passCandidates bodyCandidates choices bare sole paired liveRows live liveOf capped
 counted J B = let a = check toy rules J B in record { verdict = a .verdict; joins = a .joins; used = a .used; pass = a .pass }
 
 -- one row is born in each of three passes, and the fourth adds none: 1 + 2 + 3 + 3 joins

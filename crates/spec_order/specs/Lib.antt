@@ -22,6 +22,7 @@ pub mod Counting
 pub mod Stability
 pub mod Journals
 pub mod Antichain
+pub mod Ending
 pub mod FittingRows
 pub mod FittingLaws
 pub mod BehindLaws

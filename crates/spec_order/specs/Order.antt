@@ -8,7 +8,7 @@ use lib.ListN.{length}
 use Rattle.spec_basics.specs.Elements.{any}
 use Rattle.spec_language.specs.Grammar.{Rule}
 use Rattle.spec_order.specs.Algebra.{Algebra}
-use Rattle.spec_order.specs.Journal.{Row, absent, liveOf}
+use Rattle.spec_order.specs.Journal.{Row, absent, live, liveOf}
 use Rattle.spec_order.specs.Candidates.{Candidate, passCandidates}
 
 -- the used rows, and the joins made
@@ -20,7 +20,7 @@ abbrev pub start : {E : Type 0} → Progress E
 start = record { rows = []; joins = 0 }
 
 pub data Verdict : Type 0 where
-  holds broken full spent : Verdict
+  holds broken full spent empty : Verdict
 
 -- a pass is going, or has stopped with a verdict and a row
 pub data Outcome (E : Type 0) : Type 0 where
@@ -89,9 +89,19 @@ module _ {E : Type 0} (below : E → E → Bool) where
 
 -- ---- the check
 
--- the verdict of a check whose last pass added no row, from the nonterminals whose words count and the rows
-abbrev pub finish : {E : Type 0} → (ℕ → Bool) → List (Row E) → Verdict
-finish starts rows = holds
+-- the verdict of a check whose last pass added no row: the flag says whether a nonterminal whose words count has a live row
+abbrev pub finishBy : Bool → Verdict
+finishBy true = holds
+finishBy false = empty
+
+module _ {E : Type 0} where
+  -- the row is live, and of a nonterminal whose words count
+  unfoldable pub startRow : (ℕ → Bool) → Row E → Bool
+  startRow starts r = starts (r .head) && live r
+
+  -- that verdict, from the nonterminals whose words count and the rows
+  abbrev pub finish : (ℕ → Bool) → List (Row E) → Verdict
+  finish starts rows = finishBy (any (startRow starts) rows)
 
 module _ {E : Type 0} (starts : ℕ → Bool) where
   -- the flag says whether pass k added no row: then the check ends; `next` is the rest of the check otherwise

@@ -1,16 +1,16 @@
 -- The rows of two small plans over toy algebras, computed field by field. They settle what no theorem says: the order of a pass's candidates
 -- (the left symbol outer, the right one inner, rows rising), what each row points to, and the passes in which rows are added and retire.
--- Assumes nothing.
+-- And the verdict at the end of a check. Assumes nothing.
 use mathlib.Core.Path.{_≡_, refl}
 use mathlib.Core.Bool.{true, false}
 use mathlib.Core.List.{List, [], _∷_}
 use Prim.Native.Nat.{ℕ, _+_}
-use lib.Dec.{leb}
+use lib.Dec.{eqb, leb}
 use Rattle.spec_language.specs.Grammar.{Symbol, terminal, nonterminal, one, two, Rule}
 use Rattle.spec_order.specs.Algebra.{Algebra}
 use Rattle.spec_order.specs.Journal.{Row, absent, capped, live, liveOf}
 use Rattle.spec_order.specs.Candidates.{liveRows, sole, paired, bare, choices, bodyCandidates, passCandidates}
-use Rattle.spec_order.specs.Order.{born, answer, dropped, larger, retire, added, decide, consider, walk, onePass, passes, check}
+use Rattle.spec_order.specs.Order.{Verdict, holds, empty, born, answer, dropped, larger, retire, added, decide, consider, walk, startRow, finish, onePass, passes, check}
 use Rattle.spec_order.specs.Example.{toy}
 
 -- the numbers that name no row and cap a length
@@ -30,7 +30,7 @@ abbrev pub row : ℕ → ℕ → ℕ → ℕ → ℕ → ℕ → ℕ → ℕ →
 row x r e i j n p q = record { head = x; rule = r; effect = e; left = i; right = j; len = n; birth = p; retired = q }
 
 pub journal : Algebra ℕ → List Rule → List (Row ℕ)
-unfolding check passes onePass walk consider decide added retire larger dropped answer born passCandidates bodyCandidates choices bare sole paired liveRows live liveOf capped
+unfolding check passes onePass walk consider decide added retire larger dropped startRow answer born passCandidates bodyCandidates choices bare sole paired liveRows live liveOf capped
 journal A rules = check A rules 9 99 .journal
 
 -- ---- two rows for each symbol of a body of two: the sums tell the pairs apart
@@ -73,3 +73,19 @@ pub row-passes : journal falling chain
     ∷ []
 unfolding journal
 row-passes = refl
+
+-- ---- the end of a check in which only the words of nonterminal 7 count
+
+pub ended : List (Row ℕ) → Verdict
+unfolding startRow live
+ended rows = finish (λ x. eqb x 7) rows
+
+-- it holds where 7 has a live row, also as the last of several. A row of another nonterminal is none, and neither is one that has retired
+pub ends :
+    (ended [] ≡ empty)
+    × (ended (row 0 0 5 65535 65535 1 1 0 ∷ row 8 1 5 65535 65535 1 1 0 ∷ []) ≡ empty)
+    × (ended (row 7 0 5 65535 65535 1 1 2 ∷ []) ≡ empty)
+    × (ended (row 7 0 5 65535 65535 1 1 0 ∷ []) ≡ holds)
+    × (ended (row 7 0 5 65535 65535 1 1 2 ∷ row 0 1 5 65535 65535 1 1 0 ∷ row 7 2 3 65535 65535 1 2 0 ∷ []) ≡ holds)
+unfolding ended
+ends = (refl, refl, refl, refl, refl)

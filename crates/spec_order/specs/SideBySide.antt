@@ -1,9 +1,11 @@
 -- Two lists of one length, related element by element. Assumes nothing.
-use mathlib.Core.Path.{_≡_, refl, ap}
+use mathlib.Core.Path.{_≡_, refl, sym, ap, subst}
+use mathlib.Core.Logic.{inl, inr}
 use mathlib.Core.List.{List, [], _∷_, _++_, map}
 use Prim.Native.Nat.{ℕ, zero, suc, _<_}
 use native.Mathlib.Nat.{le-of-suc-le-suc, not-suc-le-zero}
 use lib.ListN.{length, getD}
+use Rattle.spec_basics.specs.Elements.{In}
 
 module _ {X Y : Type 0} where
   abbrev pub SideBySide : (X → Y → Type 0) → List X → List Y → Type 0
@@ -37,6 +39,12 @@ module _ {X Y : Type 0} where
   side-at P d d′ (r ∷ rows) [] b i h = absurd b
   side-at P d d′ (r ∷ rows) (w ∷ ws) b zero h = b .0
   side-at P d d′ (r ∷ rows) (w ∷ ws) b (suc i) h = side-at P d d′ rows ws (b .1) i (le-of-suc-le-suc h)
+
+  pub side-in : (P : X → Y → Type 0) (r : X) (rows : List X) (ws : List Y) → SideBySide P rows ws → In r rows → (w : Y) × P r w
+  side-in P r [] ws b m = absurd m
+  side-in P r (x ∷ rows) [] b m = absurd b
+  side-in P r (x ∷ rows) (w ∷ ws) b (inl e) = (w, subst (λ (z : X). P z w) (sym e) (b .0))
+  side-in P r (x ∷ rows) (w ∷ ws) b (inr m) = side-in P r rows ws (b .1) m
 
   pub side-length : (P : X → Y → Type 0) (rows : List X) (ws : List Y) → SideBySide P rows ws → length rows ≡ length ws
   side-length P [] [] b = refl

@@ -1,4 +1,4 @@
--- A longer journal or a larger budget leaves "holds" and "broken" as they are, with the whole answer. Assumes nothing.
+-- A longer journal or a larger budget leaves "holds", "empty" and "broken" as they are, with the whole answer. Assumes nothing.
 use mathlib.Core.Path.{_≡_, refl, sym, ap, ap₂, _∙_, subst}
 use mathlib.Core.Bool.{Bool, true, false}
 use mathlib.Core.List.{List, [], _∷_}
@@ -11,12 +11,13 @@ use borrow.Author.Tests.{eqb-false, ne-eqb}
 use Rattle.spec_language.specs.Grammar.{Rule}
 use Rattle.spec_order.specs.Algebra.{Algebra}
 use Rattle.spec_order.specs.Candidates.{Candidate, passCandidates}
-use Rattle.spec_order.specs.Order.{Progress, Verdict, holds, broken, full, spent, Outcome, going, stopped, andThen, answer, dropped, decide, consider, walk, closeBy, close, onePass, passes, check}
+use Rattle.spec_order.specs.Order.{Progress, Verdict, holds, broken, full, spent, empty, Outcome, going, stopped, andThen, answer, dropped, decide, consider, walk, closeBy, close, onePass, passes, check}
 use Rattle.spec_order.specs.Truth.{length-added}
 
 -- a verdict that a larger journal and budget keep
 abbrev pub Firm : Verdict → Type 0
 Firm holds = Unit {0}
+Firm empty = Unit {0}
 Firm broken = Unit {0}
 Firm full = ⊥
 Firm spent = ⊥

@@ -1,5 +1,5 @@
 -- Where a check stops, and how many joins it has made there. The rows run out at the candidate that gives "full", the joins at the one that
--- gives "spent" (document 01, "What demand 3 compares"); a row that breaks gives "broken", and a pass that adds no row ends with "holds".
+-- gives "spent" (document 01, "What demand 3 compares"); a row that breaks gives "broken", and a pass that adds no row ends with "holds" or "empty".
 -- J is the journal's size and B the budget. Definitions only. Assumes nothing.
 use mathlib.Core.Path.{_≡_}
 use mathlib.Core.Bool.{true, false}
@@ -10,7 +10,7 @@ use Rattle.spec_language.specs.Grammar.{Rule}
 use Rattle.spec_order.specs.Algebra.{Algebra}
 use Rattle.spec_order.specs.Candidates.{Candidate, passCandidates}
 use Rattle.spec_order.specs.Journal.{absent}
-use Rattle.spec_order.specs.Order.{Progress, start, Verdict, holds, broken, full, spent, Answer, going, dropped, added, walk, onePass}
+use Rattle.spec_order.specs.Order.{Progress, start, Verdict, holds, broken, full, spent, empty, Answer, going, dropped, added, walk, finish, onePass}
 
 -- ---- the candidates of a pass
 
@@ -30,6 +30,7 @@ module _ {E : Type 0} (A : Algebra E) where
     abbrev pub Found : Verdict → ℕ → Candidate E → Progress E → Progress E → Type 0
     -- no candidate ends a check so
     Found holds i c t u = ⊥
+    Found empty i c t u = ⊥
     -- the joins so far equal the budget, and c is not formed
     Found spent i c t u = (t .joins ≡ B) × (i ≡ absent) × (u ≡ t)
     -- no live row drops c, and no row of the journal is unused
@@ -51,9 +52,10 @@ module _ {E : Type 0} (A : Algebra E) where
 
 -- ---- the passes of a check
 
--- the candidate at which a check stops is a join, unless the joins have run out there ("holds" comes at none)
+-- the candidate at which a check stops is a join, unless the joins have run out there ("holds" and "empty" come at none)
 abbrev pub lastJoin : Verdict → ℕ
 lastJoin holds = 0
+lastJoin empty = 0
 lastJoin spent = 0
 lastJoin full = 1
 lastJoin broken = 1
@@ -85,8 +87,8 @@ module _ {E : Type 0} (A : Algebra E) (rules : List Rule) (J B : ℕ) where
     pub joins-are : a .joins ≡ formed passed began begun + length (halt .before) + lastJoin v
     pub journal-is : a .journal ≡ last .rows
 
-  -- the answer a: the last pass went through all its candidates, and added no row
-  pub record Ends (a : Answer E) : Type 0 where
+  -- the answer a: the last pass went through all its candidates, and added no row; the check ends with the verdict v
+  pub record Ends (v : Verdict) (a : Answer E) : Type 0 where
     pub passed : ℕ
     pub pass-is : a .pass ≡ suc passed
     pub began : Progress E
@@ -94,6 +96,7 @@ module _ {E : Type 0} (A : Algebra E) (rules : List Rule) (J B : ℕ) where
     pub last : Progress E
     pub walked : onePass A rules J B (suc passed) began ≡ going last
     pub none-added : length (last .rows) ≡ length (began .rows)
+    pub verdict-is : finish (A .starts) (last .rows) ≡ v
     -- the candidates of all passes
     pub joins-are : a .joins ≡ formed passed began begun + length (candidatesAt A rules began)
     pub journal-is : a .journal ≡ last .rows

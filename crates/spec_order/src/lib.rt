@@ -18,6 +18,7 @@
 //     Counting                               spent: joins = budget; full: used = J; pass at most J + 1; joins at most R * J * J * (J + 1)
 //     Stability                              a longer journal or a larger budget leaves a firm answer as it is
 //     Antichain                              live rows of one nonterminal are incomparable
+//     Ending                                 each row is covered by a live row of its nonterminal: at the end a live row is there where a row is
 //     FittingRows, FittingLaws, BehindLaws   every used row fits; the word behind a row depends on the rows through it alone
 //     Example, Pins                          small plans over toy algebras, computed: what only a definition's text settles
 //

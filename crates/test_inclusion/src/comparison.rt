@@ -10,6 +10,7 @@ use test_unpruned::Found;
 use test_unpruned::LEFT;
 use test_unpruned::LENGTH;
 use test_unpruned::Numbers;
+use test_unpruned::Verdict;
 use test_unpruned::rows;
 use test_unpruned::same_relation;
 
@@ -133,19 +134,28 @@ fn shown(file: &[u8], journal: &[Numbers], told: CheckResult, buffer: &[u8]) -> 
 }
 
 // Tests whether the verdict is the one of the unpruned search, and a broken one has a word to show.
-fn right(file: &[u8], journal: &[Numbers], told: CheckResult, buffer: &[u8], broken: bool) -> bool {
-    if broken {
+fn right(
+    file: &[u8],
+    journal: &[Numbers],
+    told: CheckResult,
+    buffer: &[u8],
+    verdict: Verdict,
+) -> bool {
+    if verdict.broken {
         return (told.code == host_result::BROKEN) & shown(file, journal, told, buffer);
     }
-    told.code == host_result::HOLDS
+    if verdict.words {
+        return told.code == host_result::HOLDS;
+    }
+    told.code == host_result::EMPTY
 }
 
-// Tests whether the used rows have relations that the unpruned search found, and the live ones are an antichain; if the check holds, no relation
-// is without a live row below it, so that the live rows are the smallest relations.
+// Tests whether the used rows have relations that the unpruned search found, and the live ones are an antichain; if the check holds or is empty,
+// no relation is without a live row below it, so that the live rows are the smallest relations.
 fn accounted(journal: &[Numbers], told: CheckResult, found: &Found, count: usize) -> bool {
     let used = told.used as usize;
     let sound = rows::sound(journal, used, found, count);
-    if told.code == host_result::HOLDS {
+    if (told.code == host_result::HOLDS) | (told.code == host_result::EMPTY) {
         return sound & rows::covering(journal, used, found, count);
     }
     sound
@@ -228,8 +238,14 @@ pub struct Outcome {
     pub failing: u64,
 }
 
-// Makes the comparisons of `file`, of which the unpruned search has listed the first `count` pairs of `found`, and said whether it is `broken`.
-pub fn compare(file: &[u8], found: &Found, count: usize, broken: bool, trial: Trial) -> Outcome {
+// Makes the comparisons of `file`, of which the unpruned search has listed the first `count` pairs of `found` and given `verdict`.
+pub fn compare(
+    file: &[u8],
+    found: &Found,
+    count: usize,
+    verdict: Verdict,
+    trial: Trial,
+) -> Outcome {
     let mut buffer = [0u8; 4096];
     let old = Row::blank();
     let told = host_check::check_and_write(
@@ -246,7 +262,7 @@ pub fn compare(file: &[u8], found: &Found, count: usize, broken: bool, trial: Tr
     let small = ask(file, trial.few, old, trial.budget, 0);
     let other = trial.old;
     let failing = first_failing(
-        right(file, &journal, told, &buffer, broken),
+        right(file, &journal, told, &buffer, verdict),
         accounted(&journal, told, found, count),
         same_with_more(file, &journal, told),
         same_with_old(file, &journal, told, other),

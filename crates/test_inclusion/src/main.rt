@@ -2,18 +2,18 @@
 // test_random). The search (the crate `test_unpruned`) finds all relations of all words of each nonterminal and discards none. Of each file
 // (comparison.rt):
 //
-// 1. With 1,024 rows and a budget of 1,000,000 the file is not refused, and the verdict is holds or broken as the search says. The word
+// 1. With 1,024 rows and a budget of 1,000,000 the file is not refused, and the verdict is holds, broken or empty as the search says. The word
 //    behind a broken answer's row is as long as the row says, is turned away by judging, and has the row's relation.
-// 2. Each used row has a relation that the search found, no live row is above another of its nonterminal, and where the verdict is holds
-//    each relation that the search found is above a live row.
+// 2. Each used row has a relation that the search found, no live row is above another of its nonterminal, and where the verdict is holds or
+//    empty each relation that the search found is above a live row.
 // 3. A longer journal and a larger budget give the same verdict, joins, used rows, pass, row and journal rows.
 // 4. So does a journal with old contents that look like rows; past the used rows it keeps them.
 // 5. With 1 to 6 rows and a budget of 0 to 40 the answer is spent with as many joins as the budget has and fewer than the check makes,
 //    or full with all rows used and fewer than the check uses, or the same whole answer.
 // 6. A file with a move on a remark is refused with 12, at the first such record, and nothing else is tried on it.
 //
-// Written are the counts of files, of those that hold, of these those without a word and those in which the check keeps fewer rows than
-// there are relations, of broken ones; of full, spent and other answers under 5; of refused files; of files with more relations than the
+// Written are the counts of files, of those that hold, of empty ones, of those among these two in which the check keeps fewer rows than there
+// are relations, of broken ones; of full, spent and other answers under 5; of refused files; of files with more relations than the
 // search has room for, which are skipped; and of mismatches, each of which is also written with the file's number and the comparison that fails.
 mod comparison;
 
@@ -26,7 +26,7 @@ const FILES: u64 = 10000;
 // What is counted: the places in the tally.
 const HOLDS: usize = 0;
 
-const WORDLESS: usize = 1;
+const EMPTY: usize = 1;
 
 const PRUNED: usize = 2;
 
@@ -67,9 +67,10 @@ fn count_verdict(tally: &mut Tally, outcome: Outcome, verdict: Verdict) {
         count_one(tally, BROKEN);
         return;
     }
-    count_one(tally, HOLDS);
-    if !verdict.words {
-        count_one(tally, WORDLESS);
+    if outcome.verdict == host_result::EMPTY {
+        count_one(tally, EMPTY);
+    } else {
+        count_one(tally, HOLDS);
     }
     if outcome.used < verdict.relations {
         count_one(tally, PRUNED);
@@ -115,7 +116,7 @@ fn try_file(number: u64, buffer: &[u8; 192], size: usize, trial: Trial, tally: &
         return;
     }
     let verdict = test_unpruned::decide(file, &found, count);
-    let outcome = comparison::compare(file, &found, count, verdict.broken, trial);
+    let outcome = comparison::compare(file, &found, count, verdict, trial);
     count_verdict(tally, outcome, verdict);
     count_small(tally, outcome.small);
     count_mismatch(tally, number, outcome.failing);
@@ -139,7 +140,7 @@ fn try_all(tally: &mut Tally) {
 fn report_checks(tally: Tally) {
     line(b"files ", FILES);
     line(b"holds ", tally[HOLDS]);
-    line(b"without a word ", tally[WORDLESS]);
+    line(b"empty ", tally[EMPTY]);
     line(b"pruned ", tally[PRUNED]);
     line(b"broken ", tally[BROKEN]);
 }

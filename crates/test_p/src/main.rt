@@ -1,5 +1,5 @@
 // The cases that document 01 marks P, as far as the library can be given rows and a budget, each as the check program prints it.
-// The stored output is what document 01 asks for; test_judging compares the judged runs.
+// The stored output is what document 01 asks for, and for plans without runs what C-15 of document 02 does; test_judging compares the judged runs.
 use libc::STDOUT_FILENO;
 use relation::Relation;
 use spec_calls::Options;
@@ -154,6 +154,9 @@ const LONE: [u8; 8] = [1, 0, 0, 0, 0, 0, 0, 0];
 
 const LONE_FINAL: [u8; 16] = [1, 0, 0, 0, 0, 0, 0, 0, 3, 0, 0, 0, 0, 0, 0, 0];
 
+// The rules "0 gives 1 (procedure 0)" and "1 gives nothing": procedure 0 never ends.
+const ENDLESS: [u8; 16] = [1, 0, 2, 1, 128, 0, 0, 0, 1, 1, 0, 0, 0, 0, 0, 0];
+
 // Symbols 191 and 192; two equal records.
 const SYMBOL_191: [u8; 8] = [1, 0, 1, 191, 0, 0, 0, 0];
 
@@ -223,6 +226,20 @@ fn small_files() {
     with_1024(&last, 1000000);
 }
 
+// Plans without runs: the answer is empty, unless the rows or the joins run out first.
+fn without_runs() {
+    let endless = ENDLESS;
+    with_1024(&endless, 1000000);
+    print(&endless, 1, sevens(), 2);
+    with_1024(&endless, 1);
+    let plan = PLAN_A;
+    let headless = &plan[8..];
+    with_1024(headless, 1000000);
+    with_rows(headless, 3);
+    with_rows(headless, 2);
+    with_1024(headless, 8);
+}
+
 fn symbols() {
     let high = SYMBOL_191;
     with_1024(&high, 1000000);
@@ -236,5 +253,6 @@ fn main() {
     plan_a();
     plan_b();
     small_files();
+    without_runs();
     symbols();
 }

@@ -1,4 +1,4 @@
-//! Document 01, with C-11 and C-12 of document 02, in plain Rust: reading, judging, the check in its working order, run writing, and the
+//! Document 01, with C-11, C-12 and C-15 of document 02, in plain Rust: reading, judging, the check in its working order, run writing, and the
 //! recognizing of runs.
 //!
 //! It is written from the papers alone and shares nothing with the proved library. The tests of the crate `bolfrega` compare

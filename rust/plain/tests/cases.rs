@@ -5,6 +5,7 @@ use plain::{check, judge, read, Answer, Refusal, Verdict, ABSENT, FIRST_REMARK};
 const PLAN_A: &[u8] = include_bytes!("../../../samples/plan-a.plan");
 const PLAN_B: &[u8] = include_bytes!("../../../samples/plan-b.plan");
 const REMARKS: &[u8] = include_bytes!("../../../samples/remarks.plan");
+const ENDLESS: &[u8] = include_bytes!("../../../samples/endless.plan");
 const ONLY_NOTHING: [u8; 8] = [1, 0, 0, 0, 0, 0, 0, 0];
 
 fn answer(file: &[u8], rows: usize, budget: u64) -> Answer {
@@ -42,10 +43,20 @@ fn plan_b() {
 
 #[test]
 fn small_files() {
-    assert_eq!(answer(&[], 1, 0), said(Verdict::Holds, 0, 0, 1));
+    assert_eq!(answer(&[], 1, 0), said(Verdict::Empty, 0, 0, 1));
     assert_eq!(answer(&ONLY_NOTHING, 1_024, 1_000_000), said(Verdict::Broken, 1, 1, 1));
     let finishing = [ONLY_NOTHING, [3, 0, 0, 0, 0, 0, 0, 0]].concat();
     assert_eq!(answer(&finishing, 1_024, 1_000_000), said(Verdict::Holds, 2, 1, 2));
+}
+
+#[test]
+fn plans_without_runs() {
+    assert_eq!(answer(ENDLESS, 1_024, 1_000_000), said(Verdict::Empty, 8, 3, 3));
+    assert_eq!(answer(&PLAN_A[8..], 3, 9), said(Verdict::Empty, 9, 3, 4));
+    assert_eq!(answer(&PLAN_A[8..], 2, 9), said(Verdict::Full, 5, 2, 3));
+    assert_eq!(answer(&PLAN_A[8..], 3, 8), said(Verdict::Spent, 8, 3, 4));
+    // 0 gives (procedure 63), which has no rule.
+    assert_eq!(answer(&[1, 0, 1, 191, 0, 0, 0, 0], 1, 0), said(Verdict::Empty, 0, 0, 1));
 }
 
 #[test]

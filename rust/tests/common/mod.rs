@@ -112,6 +112,7 @@ fn plainly(file: &[u8], rows: usize, budget: u64, buffer: &mut [u8]) -> (u64, De
         plain::Verdict::Broken => 101,
         plain::Verdict::Full => 102,
         plain::Verdict::Spent => 103,
+        plain::Verdict::Empty => 104,
     };
     let counts = [0, said.joins, said.used as u64, said.pass.into()];
     let shown = [said.row.into(), pairs.into(), length.into(), refused.into()];
@@ -135,6 +136,8 @@ fn spelled(answer: &Result<Answer, Refusal>) -> (u64, Details) {
         }
         Verdict::Full => (102, [65_535, 0, 0, 0]),
         Verdict::Spent => (103, [65_535, 0, 0, 0]),
+        Verdict::Empty => (104, [65_535, 0, 0, 0]),
+        other => panic!("{other:?}"),
     };
     (code, [0, answer.joins, answer.used, answer.pass, row, pairs, length, refused])
 }
@@ -171,20 +174,28 @@ pub fn valid_file(numbers: &mut Numbers, size: Size) -> Vec<u8> {
     // Half of the files use eight stages, as all did before C-14, and half all sixteen.
     let stages = numbers.pick(&[8, 16]);
     let mut moves = size.moves;
-    if numbers.once_in(3) {
-        // Each code leads somewhere from each stage, as far as 1,024 moves go. There is room for what is left of them.
+    if numbers.once_in(2) {
+        // Each code leads somewhere from each stage, as far as 1,024 moves go: at random, or each the same way round, which makes few effects.
         let whole = size.codes.min(1_024 / stages);
+        let round = numbers.once_in(2);
         for code in 0..whole {
             for from in 0..stages {
-                making.step(from as u8, code as u8, numbers.byte(stages));
+                let to = if round {
+                    (from + code) % stages
+                } else {
+                    numbers.below(stages)
+                };
+                making.step(from as u8, code as u8, to as u8);
             }
         }
-        moves = moves.min(1_024 - stages * whole);
+        // There is room for what is left of the moves.
+        moves = if round { 0 } else { moves.min(1_024 - stages * whole) };
     }
     for _ in 0..moves {
         making.step(numbers.byte(stages), numbers.byte(size.codes), numbers.byte(stages));
     }
-    let finishing = numbers.pick(&[0, 1, 3, 20, 40]);
+    // Of many draws no stage is left out: with the sheet above every run is accepted.
+    let finishing = numbers.pick(&[0, 1, 3, 30, 200, 200]);
     (0..finishing).for_each(|_| {
         making.finishing(numbers.byte(stages));
     });

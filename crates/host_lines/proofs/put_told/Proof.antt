@@ -8,7 +8,7 @@ use Rattle.host_page.specs.Page.{Page, page, puts}
 use Rattle.host_result.specs.declared.CheckResult.{CheckResult}
 use Rattle.host_lines.specs.Lines.{toldText}
 use Rattle.host_lines.specs.LengthLaws.{Machine, told-long}
-use Rattle.host_lines.specs.LineLaws.{told-holds, told-full, told-spent, told-broken, told-refused}
+use Rattle.host_lines.specs.LineLaws.{told-holds, told-full, told-spent, told-empty, told-broken, told-refused}
 use borrow.Author.Needs.{needs}
 use Rattle.host_lines.proofs.put_told.Statement.{statement}
 use Rattle.host_lines.proofs.put_told.Tie as tie
@@ -62,19 +62,29 @@ returns-3 c =
 
 returns-4 : tie.Need-returns-4
 returns-4 c =
-    let fourth = c .before .before .before .before in
+    let fourth = c .before .before .before .before .before in
     let third = fourth .before .before in
     let second = third .before .before in
     let first = second .before .before in
-    answers (first .before) (c .before .before .put-broken .ensures) (told-broken _ _ (first .if1 .left) (second .if2 .left) (third .if3 .left) (fourth .if4 .taken))
+    answers (first .before) (c .before .before .put-totals4 .ensures) (told-empty _ _ (first .if1 .left) (second .if2 .left) (third .if3 .left) (fourth .if4 .taken))
 
 returns-5 : tie.Need-returns-5
 returns-5 c =
-    let fourth = c .before .before .before .before in
+    let fifth = c .before .before .before .before in
+    let fourth = fifth .before .before in
     let third = fourth .before .before in
     let second = third .before .before in
     let first = second .before .before in
-    answers (first .before) (c .before .before .put-refused .ensures) (told-refused _ _ (first .if1 .left) (second .if2 .left) (third .if3 .left) (fourth .if4 .left))
+    answers (first .before) (c .before .before .put-broken .ensures) (told-broken _ _ (first .if1 .left) (second .if2 .left) (third .if3 .left) (fourth .if4 .left) (fifth .if5 .taken))
+
+returns-6 : tie.Need-returns-6
+returns-6 c =
+    let fifth = c .before .before .before .before in
+    let fourth = fifth .before .before in
+    let third = fourth .before .before in
+    let second = third .before .before in
+    let first = second .before .before in
+    answers (first .before) (c .before .before .put-refused .ensures) (told-refused _ _ (first .if1 .left) (second .if2 .left) (third .if3 .left) (fourth .if4 .left) (fifth .if5 .left))
 
 pub put-told-spec : {M : Type 1} → statement M
 put-told-spec =
@@ -92,9 +102,13 @@ put-told-spec =
     (λ c κs. search needs)
     (λ c. search needs)
     returns-3
+    (λ c. search needs)
     (λ c κs. search needs)
     (λ c. search needs)
     returns-4
     (λ c κs. search needs)
     (λ c. search needs)
-    returns-5)
+    returns-5
+    (λ c κs. search needs)
+    (λ c. search needs)
+    returns-6)

@@ -18,14 +18,15 @@ use Rattle.spec_calls.specs.ReplyLaws.{reply-first}
 use Rattle.spec_file.specs.RefusalLaws.{number-some}
 use Rattle.spec_calls.specs.Replies.{Reply, refused, answered, unless}
 use Rattle.spec_calls.specs.Rows.{rowOf, Journal}
+use Rattle.spec_calls.specs.declared.Row.{Row as LentRow}
 use Rattle.search_state.specs.declared.State.{State}
 use Rattle.search_state.specs.declared.Terms.{Terms}
 use Rattle.search_links.specs.Rows.{rowsRead}
 use Rattle.search_laws.specs.Contracts as search
 use Rattle.search_laws.specs.Contracts.{orderOf}
-use Rattle.search_laws.specs.Problems.{Letters, RuleBytes, Problem, problemIn}
-use Rattle.search_laws.specs.Meanings.{firstRows, answerIn, answerOf, totalsIn}
-use Rattle.search_laws.specs.Running.{Ran}
+use Rattle.search_laws.specs.OnRelations.{Letters, problemIn, Ran}
+use Rattle.search_laws.specs.Problems.{RuleBytes, Problem}
+use Rattle.search_laws.specs.Meanings.{answerIn, answerOf, totalsIn}
 use Rattle.search_laws.specs.declared.Answer.{Answer}
 use Rattle.search_laws.specs.declared.Answer.the-variants.{Ended, Broken}
 use Rattle.call_check.specs.declared.Checked.{Checked}
@@ -39,20 +40,20 @@ use Rattle.call_refusals.proofs.Refusals.{none-refused}
 
 -- ---- what an answer says of the journal
 
-answer-used : (a : Answer) (j : Journal) → answerOf a j .used ≡ totalsIn a .used
+answer-used : (a : Answer) (j : Journal) → answerOf rowOf a j .used ≡ totalsIn a .used
 answer-used (Ended v n) j = refl
 answer-used (Broken i n) j = refl
 
-answer-journal : (a : Answer) (j : Journal) → answerOf a j .journal ≡ firstRows (totalsIn a .used) j
+answer-journal : (a : Answer) (j : Journal) → answerOf rowOf a j .journal ≡ rowsRead rowOf (totalsIn a .used) j
 answer-journal (Ended v n) j = refl
 answer-journal (Broken i n) j = refl
 
 -- rows used, and then those that are as they were
-front-rest : (u : ℕ) (old new : Journal) → drop u new ≡ drop u old → map rowOf new ≡ firstRows u new ++ drop u (map rowOf old)
+front-rest : (u : ℕ) (old new : Journal) → drop u new ≡ drop u old → map rowOf new ≡ rowsRead rowOf u new ++ drop u (map rowOf old)
 unfolding rowsRead
 front-rest u old new e =
     ap (map rowOf) (sym (take-append-drop u new)) ∙ map-append rowOf (take u new) (drop u new)
-    ∙ ap (λ (l : List (Row ℕ)). firstRows u new ++ l) (ap (map rowOf) e ∙ sym (drop-map rowOf u old))
+    ∙ ap (λ (l : List (Row ℕ)). rowsRead rowOf u new ++ l) (ap (map rowOf) e ∙ sym (drop-map rowOf u old))
 
 module _ (bs : List ℕ) (o : Options) (old : Journal) where
   abbrev g : Settings
@@ -81,9 +82,9 @@ module _ (bs : List ℕ) (o : Options) (old : Journal) where
       }
 
   -- the answer, where the passes gave it
-  answers : (a : Answer) (new : Journal) → search.Checked (orderOn bs g) old new a → checkOf bs g ≡ answered (orderOn bs g) → Checks bs o old new (checked.Answered a)
+  answers : (a : Answer) (new : Journal) → search.Checked rowOf (orderOn bs g) old new a → checkOf bs g ≡ answered (orderOn bs g) → Checks bs o old new (checked.Answered a)
   answers a new x e =
-      checks (answered (answerOf a new)) (e ∙ ap answered (sym (x .answer))) new (checked.Answered a) refl
+      checks (answered (answerOf rowOf a new)) (e ∙ ap answered (sym (x .answer))) new (checked.Answered a) refl
       (front-rest (totalsIn a .used) old new (x .beyond) ∙ sym (ap₂ (λ (l : List (Row ℕ)) (u : ℕ). l ++ drop u (map rowOf old)) (answer-journal a new) (answer-used a new)))
       (subst (λ (u : ℕ). drop u new ≡ drop u old) (sym (answer-used a new)) (x .beyond))
 
@@ -91,13 +92,13 @@ module _ (bs : List ℕ) (o : Options) (old : Journal) where
     abbrev s : State
     s = r .state
 
-    abbrev P : Problem
+    abbrev P : Problem ℕ LentRow
     P = problemOf bs letters (take (s .rules) rules)
 
     -- ---- something refused: the search did nothing
     module _ (z : r .refusal .number ≡ 0 → ⊥) where
       same : new ≡ old
-      same = ran .1 .idle (subst (λ (b : Bool). T (not b)) (sym (h .refused z)) tt) .1
+      same = ran .1 .search .idle (subst (λ (b : Bool). T (not b)) (sym (h .refused z)) tt) .1
 
       refuses : Checks bs o old new (checked.Refused (r .refusal))
       refuses =
@@ -109,18 +110,18 @@ module _ (bs : List ℕ) (o : Options) (old : Journal) where
     -- ---- nothing refused
     module _ (z : r .refusal .number ≡ 0) where
       -- it ended, or it did not begin
-      ended : search.Checked (orderOf P (g .rows) (g .budget)) old new (answerIn last)
+      ended : search.Checked rowOf (orderOf P (g .rows) (g .budget)) old new (answerIn last)
       ended = by (s .going) refl
         where
-          by : (b : Bool) → s .going ≡ b → search.Checked (orderOf P (g .rows) (g .budget)) old new (answerIn last)
+          by : (b : Bool) → s .going ≡ b → search.Checked rowOf (orderOf P (g .rows) (g .budget)) old new (answerIn last)
           by true e =
               let on : T (s .going) = subst T (sym e) tt in
               let stood = h .begins z .stands old refl in
-              subst (λ (x : Terms). search.Checked (orderOf (problemIn x letters (take (s .rules) rules)) (g .rows) (x .budget)) old new (answerIn last)) (stood .goes on .begun .terms) (ran .1 .stands on .ends (ran .0))
+              subst (λ (x : Terms). search.Checked rowOf (orderOf (problemIn (x .finals) letters (take (s .rules) rules)) (g .rows) (x .budget)) old new (answerIn last)) (stood .goes on .begun .terms) (ran .1 .search .stands on .ends (ran .0))
           by false e =
               let off : T (not (s .going)) = subst (λ (b : Bool). T (not b)) (sym e) tt in
-              let i = ran .1 .idle off in
-              subst₂ (λ (x : State) (j : Journal). search.Checked (orderOf P (g .rows) (g .budget)) old j (answerIn x)) (sym (i .0)) (sym (i .1)) (h .begins z .stands old refl .ends off)
+              let i = ran .1 .search .idle off in
+              subst₂ (λ (x : State) (j : Journal). search.Checked rowOf (orderOf P (g .rows) (g .budget)) old j (answerIn x)) (sym (i .0)) (sym (i .1)) (h .begins z .stands old refl .ends off)
 
       on-file : orderOf P (g .rows) (g .budget) ≡ orderOn bs g
       on-file =
@@ -129,7 +130,7 @@ module _ (bs : List ℕ) (o : Options) (old : Journal) where
 
       answered-so : Checks bs o old new (checked.Answered (answerIn last))
       answered-so =
-          answers (answerIn last) new (subst (λ (a : order.Answer ℕ). search.Checked a old new (answerIn last)) on-file ended)
+          answers (answerIn last) new (subst (λ (a : order.Answer ℕ). search.Checked rowOf a old new (answerIn last)) on-file ended)
           (reply ∙ ap (λ (n : ℕ). byNumber n (refused refusal) (answered (orderOn bs g))) (sym (ap (λ (x : refusals.Refusal). x .number) (h .refusal)) ∙ z))
 
     pub checks-by : (c : Checked) → c ≡ checkedBy (r .refusal) (answerIn last) → Checks bs o old new c

@@ -5,7 +5,7 @@ use Rattle.spec_file.specs.Answers.{refusalOf}
 use Rattle.spec_file.specs.declared.Refusal.{Refusal}
 use Rattle.spec_order.specs.Order as order
 use Rattle.spec_calls.specs.Replies.{Reply, refused, answered}
-use Rattle.spec_calls.specs.Rows.{Journal}
+use Rattle.spec_calls.specs.Rows.{rowOf, Journal}
 use Rattle.search_laws.specs.Meanings.{answerOf}
 use Rattle.search_laws.specs.declared.Answer.{Answer}
 use Rattle.call_check.specs.declared.Checked.{Checked}
@@ -18,7 +18,7 @@ checkedBy r a = byNumber (r .number) (checked.Refused r) (checked.Answered a)
 -- the answer, over the journal as it stands then
 abbrev pub checkedOf : Checked → Journal → Reply (order.Answer ℕ)
 checkedOf (checked.Refused r) j = refused (refusalOf r)
-checkedOf (checked.Answered a) j = answered (answerOf a j)
+checkedOf (checked.Answered a) j = answered (answerOf rowOf a j)
 
 -- the rows that a reply uses; none on a refusal
 abbrev pub usedIn : Reply (order.Answer ℕ) → ℕ

@@ -11,6 +11,7 @@ use Rattle.spec_basics.specs.Tests.{fails, and-fst, and-snd}
 use Rattle.spec_basics.specs.Elements.{In}
 use Rattle.spec_basics.specs.Lists.{any-of}
 use Rattle.relation.specs.DigitLaws.{bit-number}
+use Rattle.relation.specs.Digits.{number}
 use Rattle.relation.specs.Relation.{states, table}
 use Rattle.relation.specs.RelationLaws.{table-lt, has-table, has-empty, ext-has}
 use Rattle.relation.specs.Representation.{value}
@@ -65,5 +66,5 @@ module _ (bs : List ℕ) (v : fault bs .number ≡ 0) where
   pub order-same : (rules : RuleBytes) → map entryOf rules ≡ rulesOf bs → (g : Settings) → orderOf (problemOf bs (letterTable states (transitionsOf bs)) rules) (g .rows) (g .budget) ≡ orderOn bs g
   unfolding orderOn
   order-same rules e g =
-      order-on (automatonOf bs) (problemOf bs (letterTable states (transitionsOf bs)) rules) (g .rows) (g .budget) letters-all (bit-number states (isFinal (automatonOf bs)))
+      order-on (automatonOf bs) (number states (isFinal (automatonOf bs))) (letterTable states (transitionsOf bs)) rules (g .rows) (g .budget) letters-all (bit-number states (isFinal (automatonOf bs)))
       ∙ ap (λ (x : List Rule). check (base states (automatonOf bs)) x (g .rows) (g .budget)) e

@@ -21,6 +21,7 @@ use Rattle.spec_calls.specs.Checking.{Settings, journalLimit, journalFault, che
 use Rattle.spec_file.specs.Entries.{entryOf}
 use Rattle.spec_calls.specs.Rows.{rowOf, blank, Journal}
 use Rattle.search_rows.specs.Base.{Row}
+use Rattle.spec_calls.specs.declared.Row.{Row as LentRow}
 use Rattle.search_state.specs.Layout.{tableCells, end}
 use Rattle.search_links.specs.CoverLaws.{covering-none}
 use Rattle.search_links.specs.Covers.{Covering}
@@ -28,9 +29,11 @@ use Rattle.search_links.specs.RowLaws.{rows-none}
 use Rattle.search_state.specs.declared.State.{State}
 use Rattle.search_state.specs.declared.Terms.{Terms}
 use Rattle.search_laws.specs.Passes.{pass-first}
-use Rattle.search_laws.specs.Problems.{Letters, RuleBytes, Problem, problemIn}
+use Rattle.search_laws.specs.OnRelations.{Letters, problemIn, Running, OpensPass}
+use Rattle.search_laws.specs.ProblemLaws.{problem-laws}
+use Rattle.search_laws.specs.Problems.{RuleBytes, Problem}
 use Rattle.search_laws.specs.Steps.{MayOpen}
-use Rattle.search_laws.specs.Running.{SearchAt, Running, OpensPass, Onward}
+use Rattle.search_laws.specs.Running.{SearchAt, Onward}
 use Rattle.search_laws.specs.States.{startLinked, opening}
 use Rattle.search_laws.specs.declared.Reached.{Reached}
 use Rattle.file_tables.specs.Tables.{letterTable, RuleTable}
@@ -70,8 +73,8 @@ module _ (bs : List ℕ) (g : Settings) where
 
   module _ (letters : Letters) (el : letters ≡ letterTable states (transitionsOf bs)) (finals : ℕ) (ef : finals ≡ number states (isFinal (automatonOf bs))) (before rules : RuleBytes) (n : ℕ) (en : RuleTable bs before rules n) (t t′ : List ℕ)
       (et : t ≡ replicate tableCells end) (w : State) (ew : w ≡ waiting g n finals) (x : Reached) (o : OpensPass rules t n (w .terms) (w .counts) t′ x) (nonempty : Bool) (em : nonempty ≡ startLinked t′) (s : State) (es : s ≡ opening w (w .terms) x nonempty) (r : Refusal) (e : refusalOf r ≡ firstOf (checkRefusals bs J)) (z : r .number ≡ 0) where
-    abbrev P : Problem
-    P = problemIn (waiting g n finals .terms) letters (take n rules)
+    abbrev P : Problem ℕ LentRow
+    P = problemIn finals letters (take n rules)
 
     quiet : (fault bs .number ≡ 0) × (journalFault J ≡ 0)
     quiet = none-refused bs J r e z
@@ -80,7 +83,7 @@ module _ (bs : List ℕ) (g : Settings) where
     opened j l =
         let k = journal-size J (quiet .1) in
         subst (λ (y : State). Onward P B j (record { used = 0; joins = 0; added = 0 }) y j t′) (sym (es ∙ ap (opening w (w .terms) x) em ∙ ap (λ (y : State). opening y (y .terms) x (startLinked t′)) ew))
-        (subst (λ (y : State). OpensPass rules t n (y .terms) (y .counts) t′ x) ew o P B j j 1 0 (waiting g n finals) refl (record { all = omega (arith, ap length el, letters-length states (transitionsOf bs)); some = omega (arith, l, k .0); limit = omega (arith, l, k .1) }) (sym l) (pass-first P B j) refl (λ q. absurd (omega (arith, q)))
+        (subst (λ (y : State). OpensPass rules t n (y .terms) (y .counts) t′ x) ew o P (problem-laws finals letters (take n rules)) B j j 1 0 (waiting g n finals) refl (record { some = omega (arith, l, k .0); limit = omega (arith, l, k .1) }) (sym l) (pass-first P B j) refl (λ q. absurd (omega (arith, q)))
         (subst (λ (rows : List Row). Covering rows t) (sym (rows-none rowOf j)) (no-links t et)))
 
     fit : n ≤ length rules
@@ -97,7 +100,7 @@ module _ (bs : List ℕ) (g : Settings) where
         relations = el;
         whole = subst (λ (k : ℕ). k ≤ length rules) count fit;
         entries = subst (λ (k : ℕ). map entryOf (take k rules) ≡ rulesOf bs) count (rules-in bs (quiet .0) before rules n en);
-        stands = λ j l. subst (λ (k : ℕ). SearchAt (problemOf bs letters (take k rules)) B j s j t′) count (subst (λ (f : ℕ). SearchAt (problemIn (waiting g n f .terms) letters (take n rules)) B j s j t′) ef (opened j l .stands));
+        stands = λ j l. subst (λ (k : ℕ). SearchAt (problemOf bs letters (take k rules)) B j s j t′) count (subst (λ (f : ℕ). SearchAt (problemIn f letters (take n rules)) B j s j t′) ef (opened j l .stands));
       };
     }
 
@@ -114,11 +117,14 @@ module _ (bs : List ℕ) (g : Settings) where
             let b = h .begins z in
             let k = journal-size J (none-refused bs J (r .refusal) (h .refusal) z .1) in
             record {
-              idle = λ _. (refl, refl);
-              sized = λ _. record { all = omega (arith, ap length (b .relations), letters-length states (transitionsOf bs)); some = omega (arith, l, k .0); limit = omega (arith, l, k .1) };
-              whole = λ _. b .whole;
-              stands = λ g. subst (λ (x : Terms). SearchAt (problemIn x letters (take (s .rules) rules)) (x .budget) j s j t) (sym (b .stands j l .goes g .begun .terms)) (b .stands j l);
+              all = λ _. omega (arith, ap length (b .relations), letters-length states (transitionsOf bs));
+              search = record {
+                idle = λ _. (refl, refl);
+                sized = λ _. record { some = omega (arith, l, k .0); limit = omega (arith, l, k .1) };
+                whole = λ _. b .whole;
+                stands = λ g. subst (λ (x : Terms). SearchAt (problemIn (x .finals) letters (take (s .rules) rules)) (x .budget) j s j t) (sym (b .stands j l .goes g .begun .terms)) (b .stands j l);
+              };
             }
         by (suc k) z =
             let none : T (s .going) → ⊥ = λ g. subst T (h .refused (λ q. let y : ⊥ = omega (arith, sym z ∙ q) in y)) g in
-            record { idle = λ _. (refl, refl); sized = λ g. absurd (none g); whole = λ g. absurd (none g); stands = λ g. absurd (none g) }
+            record { all = λ g. absurd (none g); search = record { idle = λ _. (refl, refl); sized = λ g. absurd (none g); whole = λ g. absurd (none g); stands = λ g. absurd (none g) } }

@@ -13,8 +13,10 @@ use Rattle.spec_file.specs.Refusals.{firstOf}
 use Rattle.spec_calls.specs.Checking.{Settings, checkRefusals}
 use Rattle.spec_file.specs.Entries.{entryOf}
 use Rattle.spec_calls.specs.Rows.{Journal}
+use Rattle.spec_calls.specs.declared.Row.{Row}
 use Rattle.search_state.specs.declared.State.{State}
-use Rattle.search_laws.specs.Problems.{Letters, RuleBytes, Problem}
+use Rattle.search_laws.specs.OnRelations.{Letters, problemIn}
+use Rattle.search_laws.specs.Problems.{RuleBytes, Problem}
 use Rattle.search_laws.specs.Running.{SearchAt}
 use Rattle.file_tables.specs.Tables.{letterTable}
 use Rattle.call_check_start.specs.declared.Start.{Start}
@@ -36,8 +38,8 @@ waiting g n finals =
     }
 
 -- what a check of the file bs works on, with these tables
-abbrev pub problemOf : List ℕ → Letters → RuleBytes → Problem
-problemOf bs letters rules = record { letters = letters; rules = rules; finals = number states (isFinal (automatonOf bs)) }
+abbrev pub problemOf : List ℕ → Letters → RuleBytes → Problem ℕ Row
+problemOf bs letters rules = problemIn (number states (isFinal (automatonOf bs))) letters rules
 
 -- the tables are the file's, and over every journal of g's number of rows the search stands in s
 pub record FirstPass (bs : List ℕ) (g : Settings) (letters : Letters) (rules : RuleBytes) (t : List ℕ) (s : State) : Type 0 where

@@ -1,6 +1,7 @@
 -- How a pass ends: the code's end of a pass is the working order's. Assumes nothing.
 use mathlib.Core.Path.{_≡_, refl, sym, ap, _∙_}
 use mathlib.Core.Bool.{Bool, true, false}
+use mathlib.Core.List.{List}
 use Prim.Native.Nat.{ℕ, _+_, _≤_}
 use native.Mathlib.Omega.{arith}
 use lib.Dec.{eqb}
@@ -8,11 +9,11 @@ use lib.ListN.{length}
 use borrow.Author.Tests.{eqb-true, eqb-false, eq-eqb}
 use Rattle.spec_basics.specs.Elements.{any}
 use Rattle.spec_basics.specs.Tests.{iff-equal}
-use Rattle.spec_order.specs.Journal.{absent}
+use Rattle.spec_order.specs.Journal.{Row, absent}
 use Rattle.spec_order.specs.Order.{Verdict, broken, answer as answerWith, finishBy, startRow, closeBy, close}
-use Rattle.search_rows.specs.Base as order
-use Rattle.spec_calls.specs.Rows.{rowOf, Journal}
-use Rattle.search_laws.specs.Meanings.{firstRows, progressOf, verdictOf, finishedBy, outcomeOf, countsIn, totalsOf, answerBy, answerOf, totalsIn, answerTo}
+use Rattle.spec_order.specs.Order as order
+use Rattle.search_links.specs.Rows.{rowsRead}
+use Rattle.search_laws.specs.Meanings.{progressOf, verdictOf, finishedBy, outcomeOf, countsIn, totalsOf, answerBy, answerOf, totalsIn, answerTo}
 use Rattle.search_links.specs.RowLaws.{rows-length}
 use Rattle.search_laws.specs.declared.Answer.the-variants as answer
 use Rattle.search_laws.specs.declared.Answer.{Answer}
@@ -20,7 +21,6 @@ use Rattle.search_state.specs.declared.Counts.{Counts}
 use Rattle.search_laws.specs.declared.Outcome.the-variants as outcome
 use Rattle.search_laws.specs.declared.Outcome.{Outcome}
 use Rattle.search_laws.specs.declared.Stop.the-variants as stop
-use Rattle.search_laws.specs.declared.Unbroken.the-variants as unbroken
 
 -- a pass is followed by another, or by the answer
 pub data PassEnd : Type 0 where
@@ -38,9 +38,10 @@ endOf nonempty k (outcome.Going w) = endBy (eqb (w .added) 0) nonempty w k
 endOf nonempty k (outcome.Stopped x) = Done (answerTo k x)
 
 -- the answer of a pass that ends so, where N is the rest of the check
-abbrev pub endAnswer : PassEnd → Journal → (order.Progress → order.Answer) → order.Answer
-endAnswer (Again w) j N = N (progressOf w j)
-endAnswer (Done a) j N = answerOf a j
+module _ {E R : Type 0} (rowOf : R → Row E) where
+  abbrev pub endAnswer : PassEnd → List R → (order.Progress E → order.Answer E) → order.Answer E
+  endAnswer (Again w) j N = N (progressOf rowOf w j)
+  endAnswer (Done a) j N = answerOf rowOf a j
 
 abbrev pub endUsed : PassEnd → ℕ
 endUsed (Again w) = w .used
@@ -51,28 +52,28 @@ added-none : (n u m : ℕ) → n ≡ u + m → eqb m 0 ≡ eqb n u
 added-none n u m e = iff-equal (eqb m 0) (eqb n u) (λ p. eq-eqb n u (omega (arith, e, eqb-true m 0 p))) (λ p. eq-eqb m 0 (omega (arith, e, eqb-true n u p)))
 
 -- pass k began with u rows
-module _ (starts : ℕ → Bool) (u k : ℕ) (j : Journal) (N : order.Progress → order.Answer) where
-  answer-given : (v : Verdict) (i : ℕ) (w : Counts) → w .used ≤ length j → answerBy v i (totalsOf w k) j ≡ answerWith v k i (progressOf w j)
+module _ {E R : Type 0} (rowOf : R → Row E) (starts : ℕ → Bool) (u k : ℕ) (j : List R) (N : order.Progress E → order.Answer E) where
+  answer-given : (v : Verdict) (i : ℕ) (w : Counts) → w .used ≤ length j → answerBy rowOf v i (totalsOf w k) j ≡ answerWith v k i (progressOf rowOf w j)
   unfolding answerWith
-  answer-given v i w h = ap (λ (n : ℕ). record { verdict = v; joins = w .joins; used = n; pass = k; row = i; journal = firstRows (w .used) j }) (sym (rows-length rowOf (w .used) j h))
+  answer-given v i w h = ap (λ (n : ℕ). record { verdict = v; joins = w .joins; used = n; pass = k; row = i; journal = rowsRead rowOf (w .used) j }) (sym (rows-length rowOf (w .used) j h))
 
   -- the verdict of the last pass
-  finish-given : (nonempty : Bool) (w : Counts) → w .used ≤ length j → answerBy (verdictOf (finishedBy nonempty)) absent (totalsOf w k) j ≡ answerWith (finishBy nonempty) k absent (progressOf w j)
+  finish-given : (nonempty : Bool) (w : Counts) → w .used ≤ length j → answerBy rowOf (verdictOf (finishedBy nonempty)) absent (totalsOf w k) j ≡ answerWith (finishBy nonempty) k absent (progressOf rowOf w j)
   finish-given true w h = answer-given (finishBy true) absent w h
   finish-given false w h = answer-given (finishBy false) absent w h
 
   -- that it added no row is that it used no row more
   pub close-end : (r : Outcome) → countsIn r .used ≤ length j → countsIn r .used ≡ u + countsIn r .added
-      → endAnswer (endOf (any (startRow starts) (firstRows (countsIn r .used) j)) k r) j N ≡ close starts k u N (outcomeOf r j)
+      → endAnswer rowOf (endOf (any (startRow starts) (rowsRead rowOf (countsIn r .used) j)) k r) j N ≡ close starts k u N (outcomeOf rowOf r j)
   close-end (outcome.Stopped (stop.Ended v w)) h a = answer-given (verdictOf v) absent w h
   close-end (outcome.Stopped (stop.Broken i w)) h a = answer-given broken i w h
   close-end (outcome.Going w) h a =
       split (eqb (w .added) 0)
-      ∙ ap (λ (b : Bool). closeBy starts b k N (progressOf w j)) (added-none (w .used) u (w .added) a)
-      ∙ ap (λ (n : ℕ). closeBy starts (eqb n u) k N (progressOf w j)) (sym (rows-length rowOf (w .used) j h))
+      ∙ ap (λ (b : Bool). closeBy starts b k N (progressOf rowOf w j)) (added-none (w .used) u (w .added) a)
+      ∙ ap (λ (n : ℕ). closeBy starts (eqb n u) k N (progressOf rowOf w j)) (sym (rows-length rowOf (w .used) j h))
     where
-      split : (b : Bool) → endAnswer (endBy b (any (startRow starts) (firstRows (w .used) j)) w k) j N ≡ closeBy starts b k N (progressOf w j)
-      split true = finish-given (any (startRow starts) (firstRows (w .used) j)) w h
+      split : (b : Bool) → endAnswer rowOf (endBy b (any (startRow starts) (rowsRead rowOf (w .used) j)) w k) j N ≡ closeBy starts b k N (progressOf rowOf w j)
+      split true = finish-given (any (startRow starts) (rowsRead rowOf (w .used) j)) w h
       split false = refl
 
 pub close-used : (nonempty : Bool) (k : ℕ) (r : Outcome) → endUsed (endOf nonempty k r) ≡ countsIn r .used

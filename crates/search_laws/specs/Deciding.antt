@@ -8,14 +8,12 @@ use native.Mathlib.Omega.{arith}
 use lib.Dec.{eqb}
 use lib.ListN.{length}
 use borrow.Author.Tests.{eq-eqb, ne-eqb}
-use Rattle.relation.specs.Relation.{contained}
-use Rattle.spec_order.specs.Journal.{absent}
-use Rattle.spec_order.specs.Order.{broken, full, going, stopped, dropped, added, decide, consider}
-use Rattle.search_rows.specs.Base.{Row, Candidate, Progress, Outcome}
-use Rattle.spec_calls.specs.Rows.{rowOf, Journal}
+use Rattle.spec_order.specs.Candidates.{Candidate}
+use Rattle.spec_order.specs.Journal.{Row, absent}
+use Rattle.spec_order.specs.Order.{Progress, Outcome, broken, full, going, stopped, dropped, added, decide, consider}
 use Rattle.search_links.specs.Rows.{Stored}
-use Rattle.search_laws.specs.Meanings.{firstRows, progressOf, withJoin, withRow, bornBy}
-use Rattle.search_laws.specs.Problems.{breakingIn}
+use Rattle.search_laws.specs.Meanings.{progressOf, withJoin, withRow, bornBy}
+use Rattle.search_laws.specs.Problems.{Problem, firstRows}
 use Rattle.search_laws.specs.Walks.{considerIn}
 use Rattle.search_laws.specs.Contracts.{Answers}
 use Rattle.search_links.specs.RowLaws.{rows-length}
@@ -25,23 +23,26 @@ use Rattle.search_laws.specs.declared.Stop.the-variants.{Ended}
 use Rattle.search_laws.specs.declared.Unbroken.the-variants.{Full, Spent}
 use Rattle.search_state.specs.declared.Terms.{Terms}
 
-module _ (t : Terms) (c : Candidate) (w : Counts) (j : Journal) (hu : w .used ≤ length j) (hb : w .joins ≤ t .budget) where
-  abbrev rs : List Row
-  rs = firstRows (w .used) j
+module _ {E R : Type 0} (P : Problem E R) (t : Terms) (c : Candidate E) (w : Counts) (j : List R) (hu : w .used ≤ length j) (hb : w .joins ≤ t .budget) where
+  abbrev rs : List (Row E)
+  rs = firstRows P (w .used) j
 
-  abbrev given : Outcome
-  given = considerIn t (length j) c (progressOf w j)
+  abbrev at : Progress E
+  at = progressOf (P .rowOf) w j
 
-  decided : (s d f b : Bool) → eqb (w .joins) (t .budget) ≡ s → dropped contained c rs ≡ d → eqb (length rs) (length j) ≡ f → breakingIn t c ≡ b
-      → given ≡ decide contained s d f b (t .pass) c (progressOf w j)
+  abbrev given : Outcome E
+  given = considerIn P t (length j) c at
+
+  decided : (s d f b : Bool) → eqb (w .joins) (t .budget) ≡ s → dropped (P .below) c rs ≡ d → eqb (length rs) (length j) ≡ f → P .breaks (c .head) (c .effect) ≡ b
+      → given ≡ decide (P .below) s d f b (t .pass) c at
   unfolding consider
   decided s d f b p q r x = cc
 
   -- the code's sum
-  one-more : (l : List Row) → _≡_ {A = Progress} (record { rows = l; joins = w .joins + 1 }) (record { rows = l; joins = suc (w .joins) })
-  one-more l = ap {B = Progress} (λ (n : ℕ). record { rows = l; joins = n }) (add-one (w .joins))
+  one-more : (l : List (Row E)) → _≡_ {A = Progress E} (record { rows = l; joins = w .joins + 1 }) (record { rows = l; joins = suc (w .joins) })
+  one-more l = ap {B = Progress E} (λ (n : ℕ). record { rows = l; joins = n }) (add-one (w .joins))
 
-  pub answers-spent : w .joins ≡ t .budget → Answers (t .budget) given w j j (Stopped (Ended Spent w))
+  pub answers-spent : w .joins ≡ t .budget → Answers (P .rowOf) (t .budget) given w j j (Stopped (Ended Spent w))
   unfolding decide
   answers-spent p =
       record {
@@ -54,7 +55,7 @@ module _ (t : Terms) (c : Candidate) (w : Counts) (j : Journal) (hu : w .used �
       }
 
   module _ (p : w .joins ≡ t .budget → ⊥) where
-    pub answers-dropped : dropped contained c rs ≡ true → Answers (t .budget) given w j j (Going (withJoin w))
+    pub answers-dropped : dropped (P .below) c rs ≡ true → Answers (P .rowOf) (t .budget) given w j j (Going (withJoin w))
     unfolding decide
     answers-dropped q =
         record {
@@ -66,14 +67,14 @@ module _ (t : Terms) (c : Candidate) (w : Counts) (j : Journal) (hu : w .used �
           paid = omega arith;
         }
 
-    module _ (q : dropped contained c rs ≡ false) where
-      pub answers-full : w .used ≡ length j → Answers (t .budget) given w j j (Stopped (Ended Full (withJoin w)))
+    module _ (q : dropped (P .below) c rs ≡ false) where
+      pub answers-full : w .used ≡ length j → Answers (P .rowOf) (t .budget) given w j j (Stopped (Ended Full (withJoin w)))
       unfolding decide
       answers-full e =
           record {
             answer =
                 ap (stopped full absent) (one-more rs)
-                ∙ sym (decided false false true _ (ne-eqb (w .joins) (t .budget) p) q (eq-eqb (length rs) (length j) (rows-length rowOf (w .used) j hu ∙ e)) refl);
+                ∙ sym (decided false false true _ (ne-eqb (w .joins) (t .budget) p) q (eq-eqb (length rs) (length j) (rows-length (P .rowOf) (w .used) j hu ∙ e)) refl);
             beyond = refl;
             grows = omega arith;
             adds = refl;
@@ -81,16 +82,16 @@ module _ (t : Terms) (c : Candidate) (w : Counts) (j : Journal) (hu : w .used �
             paid = omega arith;
           }
 
-      module _ (e : w .used ≡ length j → ⊥) (new : Journal) (s : Stored rowOf (w .used + 1) (added contained (t .pass) c rs) j new) where
-        fresh : (b : Bool) → breakingIn t c ≡ b → given ≡ decide contained false false false b (t .pass) c (progressOf w j)
+      module _ (e : w .used ≡ length j → ⊥) (new : List R) (s : Stored (P .rowOf) (w .used + 1) (added (P .below) (t .pass) c rs) j new) where
+        fresh : (b : Bool) → P .breaks (c .head) (c .effect) ≡ b → given ≡ decide (P .below) false false false b (t .pass) c at
         fresh b x =
-            decided false false false b (ne-eqb (w .joins) (t .budget) p) q (ne-eqb (length rs) (length j) (λ h. e (sym (rows-length rowOf (w .used) j hu) ∙ h))) x
+            decided false false false b (ne-eqb (w .joins) (t .budget) p) q (ne-eqb (length rs) (length j) (λ h. e (sym (rows-length (P .rowOf) (w .used) j hu) ∙ h))) x
 
-        grown : _≡_ {A = Progress} (record { rows = firstRows (w .used + 1) new; joins = w .joins + 1 }) (record { rows = added contained (t .pass) c rs; joins = suc (w .joins) })
-        grown = ap {B = Progress} (λ (l : List Row). record { rows = l; joins = w .joins + 1 }) (s .front) ∙ one-more (added contained (t .pass) c rs)
+        grown : _≡_ {A = Progress E} (record { rows = firstRows P (w .used + 1) new; joins = w .joins + 1 }) (record { rows = added (P .below) (t .pass) c rs; joins = suc (w .joins) })
+        grown = ap {B = Progress E} (λ (l : List (Row E)). record { rows = l; joins = w .joins + 1 }) (s .front) ∙ one-more (added (P .below) (t .pass) c rs)
 
-        pub answers-new : (b : Bool) → breakingIn t c ≡ b → Answers (t .budget) given w j new (bornBy b (w .used) (withRow (withJoin w)))
+        pub answers-new : (b : Bool) → P .breaks (c .head) (c .effect) ≡ b → Answers (P .rowOf) (t .budget) given w j new (bornBy b (w .used) (withRow (withJoin w)))
         unfolding decide
         answers-new true x =
-            record { answer = ap₂ (stopped broken) (sym (rows-length rowOf (w .used) j hu)) grown ∙ sym (fresh true x); beyond = s .beyond; grows = omega arith; adds = omega arith; room = omega arith; paid = omega arith }
+            record { answer = ap₂ (stopped broken) (sym (rows-length (P .rowOf) (w .used) j hu)) grown ∙ sym (fresh true x); beyond = s .beyond; grows = omega arith; adds = omega arith; room = omega arith; paid = omega arith }
         answers-new false x = record { answer = ap going grown ∙ sym (fresh false x); beyond = s .beyond; grows = omega arith; adds = omega arith; room = omega arith; paid = omega arith }

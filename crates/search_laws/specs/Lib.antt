@@ -1,5 +1,4 @@
 pub mod Problems
-pub mod ProblemLaws
 pub mod Meanings
 pub mod States
 pub mod Walks
@@ -11,9 +10,11 @@ pub mod Remaining
 pub mod Passing
 pub mod Closing
 pub mod Passes
-pub mod OnAutomaton
 pub mod Running
 pub mod PassingOver
 pub mod RunningLaws
 pub mod RunLaws
 pub mod Advancing
+pub mod OnRelations
+pub mod ProblemLaws
+pub mod OnAutomaton

@@ -3,11 +3,10 @@ use mathlib.Core.Bool.{Bool, true, false, cond}
 use mathlib.Core.List.{List}
 use Prim.Native.Nat.{ℕ, _+_}
 use lib.Dec.{eqb}
-use Rattle.spec_order.specs.Journal.{absent}
+use Rattle.spec_order.specs.Journal.{Row, absent}
 use Rattle.spec_order.specs.Order.{Verdict, holds, broken, full, spent, empty, going, stopped}
 use Rattle.spec_calls.specs.Codes.{holdsCode, brokenCode, fullCode, emptyCode, verdictCode}
-use Rattle.search_rows.specs.Base as order
-use Rattle.spec_calls.specs.Rows.{rowOf, Journal}
+use Rattle.spec_order.specs.Order as order
 use Rattle.search_links.specs.Rows.{rowsRead}
 use Rattle.search_state.specs.declared.Counts.{Counts}
 use Rattle.search_state.specs.declared.Fate.{Fate}
@@ -22,27 +21,33 @@ use Rattle.search_laws.specs.declared.Totals.{Totals}
 use Rattle.search_laws.specs.declared.Unbroken.the-variants as unbroken
 use Rattle.search_laws.specs.declared.Unbroken.{Unbroken}
 
--- the first u rows of the lent journal
-abbrev pub firstRows : ℕ → Journal → List order.Row
-firstRows = rowsRead rowOf
-
-abbrev pub progressOf : Counts → Journal → order.Progress
-progressOf w j = record { rows = firstRows (w .used) j; joins = w .joins }
-
 abbrev pub verdictOf : Unbroken → Verdict
 verdictOf unbroken.Holds = holds
 verdictOf unbroken.Full = full
 verdictOf unbroken.Spent = spent
 verdictOf unbroken.Empty = empty
 
--- its row is absent unless broken
-abbrev pub stopOf : Stop → Journal → order.Outcome
-stopOf (stop.Ended v w) j = stopped (verdictOf v) absent (progressOf w j)
-stopOf (stop.Broken i w) j = stopped broken i (progressOf w j)
+-- over a journal j of rows that `rowOf` reads
+module _ {E R : Type 0} (rowOf : R → Row E) where
+  abbrev pub progressOf : Counts → List R → order.Progress E
+  progressOf w j = record { rows = rowsRead rowOf (w .used) j; joins = w .joins }
 
-abbrev pub outcomeOf : Outcome → Journal → order.Outcome
-outcomeOf (outcome.Going w) j = going (progressOf w j)
-outcomeOf (outcome.Stopped x) j = stopOf x j
+  -- its row is absent unless broken
+  abbrev pub stopOf : Stop → List R → order.Outcome E
+  stopOf (stop.Ended v w) j = stopped (verdictOf v) absent (progressOf w j)
+  stopOf (stop.Broken i w) j = stopped broken i (progressOf w j)
+
+  abbrev pub outcomeOf : Outcome → List R → order.Outcome E
+  outcomeOf (outcome.Going w) j = going (progressOf w j)
+  outcomeOf (outcome.Stopped x) j = stopOf x j
+
+  abbrev pub answerBy : Verdict → ℕ → Totals → List R → order.Answer E
+  answerBy v i n j = record { verdict = v; joins = n .joins; used = n .used; pass = n .pass; row = i; journal = rowsRead rowOf (n .used) j }
+
+  -- the answer over the journal as it stands then; its row is absent unless broken
+  abbrev pub answerOf : Answer → List R → order.Answer E
+  answerOf (answer.Ended v n) j = answerBy (verdictOf v) absent n j
+  answerOf (answer.Broken i n) j = answerBy broken i n j
 
 abbrev pub countsAt : Stop → Counts
 countsAt (stop.Ended v w) = w
@@ -90,14 +95,6 @@ decidedIn s f = decidedBy (f .covered) (f .full) (f .breaks) (withJoin (s .count
 
 abbrev pub totalsOf : Counts → ℕ → Totals
 totalsOf w k = record { joins = w .joins; used = w .used; pass = k }
-
-abbrev pub answerBy : Verdict → ℕ → Totals → Journal → order.Answer
-answerBy v i n j = record { verdict = v; joins = n .joins; used = n .used; pass = n .pass; row = i; journal = firstRows (n .used) j }
-
--- the answer over the journal as it stands then; its row is absent unless broken
-abbrev pub answerOf : Answer → Journal → order.Answer
-answerOf (answer.Ended v n) j = answerBy (verdictOf v) absent n j
-answerOf (answer.Broken i n) j = answerBy broken i n j
 
 abbrev pub totalsIn : Answer → Totals
 totalsIn (answer.Ended v n) = n

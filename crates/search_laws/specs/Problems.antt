@@ -1,55 +1,55 @@
--- What a search works on, as the code holds it, and what that stands for in the working order. Definitions only. Assumes nothing.
+-- What a search works on, whatever an effect is, and what that stands for in the working order. Definitions only. Assumes nothing.
 use mathlib.Core.Bool.{Bool}
-use mathlib.Core.List.{List, [], map}
+use mathlib.Core.List.{List, map}
 use Prim.Native.Nat.{ℕ}
 use Rattle.spec_language.specs.Grammar.{Rule}
 use Rattle.spec_order.specs.Algebra.{Algebra}
+use Rattle.spec_order.specs.Journal.{Row}
+use Rattle.spec_calls.specs.Base.{starts}
 use Rattle.spec_file.specs.Entries.{entryOf}
-use Rattle.search_rows.specs.Base.{Candidate}
-use Rattle.search_rows.specs.Meanings.{composingOf, baseOf}
-use Rattle.search_state.specs.Forming.{Composing}
+use Rattle.search_state.specs.Forming.{Composing, formsFrom}
 use Rattle.search_state.specs.declared.Terms.{Terms}
+use Rattle.search_links.specs.Rows.{rowsRead}
 
--- the table of letters, word by word, and the four bytes of each rule
-abbrev pub Letters : Type 0
-Letters = List ℕ
-
+-- the four bytes of each rule
 abbrev pub RuleBytes : Type 0
 RuleBytes = List (List ℕ)
 
--- `letters` has the relation of each terminal, `rules` the rules, and `finals` the final states
-pub record Problem : Type 0 where
-  pub letters : Letters
+-- of effects E, in a journal of rows R. `composing` says what bodies form, `below` which effects are contained in which, `breaks` which new rows
+-- break the check. `rowOf` reads a row of the journal, and `blank` stands past its end. `finals` is the number by which the terms of a search
+-- know what breaks: the laws only say that it stays
+pub record Problem (E R : Type 0) : Type 0 where
+  pub composing : Composing E
+  pub below : E → E → Bool
+  pub breaks : ℕ → E → Bool
+  pub rowOf : R → Row E
+  pub blank : R
   pub rules : RuleBytes
   pub finals : ℕ
 
--- ---- what it stands for
+module _ {E R : Type 0} (P : Problem E R) where
+  -- ---- what it stands for
 
--- its algebra: what its bodies form, which nonterminals start, and which new rows break the check
-abbrev pub algebraOf : Problem → Algebra ℕ
-algebraOf P = baseOf (P .letters) (P .finals)
+  abbrev pub algebraOf : Algebra E
+  algebraOf = record { forms = formsFrom (P .composing); below = P .below; starts = starts; breaks = P .breaks }
 
--- what its bodies form
-abbrev pub composingIn : Problem → Composing ℕ
-composingIn P = composingOf (P .letters)
+  abbrev pub rulesIn : List Rule
+  rulesIn = map entryOf (P .rules)
 
-abbrev pub rulesIn : Problem → List Rule
-rulesIn P = map entryOf (P .rules)
+  -- the first u rows of the journal
+  abbrev pub firstRows : ℕ → List R → List (Row E)
+  firstRows = rowsRead (P .rowOf)
 
--- ---- where the code holds it
+  -- a row that is never read
+  abbrev pub unread : Row E
+  unread = P .rowOf (P .blank)
 
--- the same problem with other rules
-abbrev pub withRules : Problem → RuleBytes → Problem
-withRules P rules = record { letters = P .letters; rules = rules; finals = P .finals }
+  -- ---- where the code holds it
 
--- the problem of a search under the terms b, with these tables
-abbrev pub problemIn : Terms → Letters → RuleBytes → Problem
-problemIn b letters rules = record { letters = letters; rules = rules; finals = b .finals }
+  -- the same problem with other rules
+  abbrev pub withRules : RuleBytes → Problem E R
+  withRules rules = record { composing = P .composing; below = P .below; breaks = P .breaks; rowOf = P .rowOf; blank = P .blank; rules = rules; finals = P .finals }
 
--- and its terms in pass k, which began with u rows, after one that began with n, where B joins may be made
-abbrev pub termsOf : Problem → ℕ → ℕ → ℕ → ℕ → Terms
-termsOf P B k u n = record { budget = B; finals = P .finals; pass = k; present = u; old = n }
-
--- as a new row the candidate breaks the check, under the terms b
-abbrev pub breakingIn : Terms → Candidate → Bool
-breakingIn b c = algebraOf (problemIn b [] []) .breaks (c .head) (c .effect)
+  -- the terms of a search on it in pass k, which began with u rows, after one that began with n, where B joins may be made
+  abbrev pub termsOf : ℕ → ℕ → ℕ → ℕ → Terms
+  termsOf B k u n = record { budget = B; finals = P .finals; pass = k; present = u; old = n }

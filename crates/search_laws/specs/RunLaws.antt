@@ -1,28 +1,29 @@
--- What the invariant says of a search that is going, and after a candidate. Assumes nothing.
-use mathlib.Core.Path.{_≡_, refl, sym, ap, _∙_, subst}
-use mathlib.Core.Bool.{Bool, true, false, not}
-use mathlib.Core.List.{List}
+-- What the invariant says of a search that is going, and of the candidate of its place. Assumes nothing.
+use mathlib.Core.Path.{_≡_, refl, sym, ap, ap₂, _∙_, subst}
+use mathlib.Core.Bool.{Bool, true, false, not, cond}
+use mathlib.Core.List.{List, []}
 use Prim.Native.Nat.{ℕ, _≤_, _<_}
 use native.Mathlib.Omega.{arith}
-use lib.Dec.{T}
-use lib.ListN.{length, take, length-take}
-use Rattle.spec_file.specs.Limits.{letterWords}
-use Rattle.search_rows.specs.declared.Candidate.{Candidate}
+use lib.Dec.{T, ltb}
+use lib.ListN.{length, getD, length-take}
+use lib.Seq.{getD-take}
+use Rattle.spec_language.specs.Grammar.{Rule}
+use Rattle.spec_order.specs.Candidates.{Candidate}
+use Rattle.spec_file.specs.Entries.{entryOf}
+use Rattle.search_state.specs.Forming.{entryAt, formedBy}
 use Rattle.search_state.specs.Layout.{rowCells}
-use Rattle.spec_calls.specs.Rows.{rowOf, Journal}
-use Rattle.search_links.specs.RowLaws.{rows-length}
-use Rattle.search_state.specs.PositionLaws.{position-inside}
-use Rattle.search_state.specs.declared.Fate.{Fate}
+use Rattle.search_links.specs.RowLaws.{rows-length, among-row}
+use Rattle.search_state.specs.PositionLaws.{position-inside, position-row}
+use Rattle.search_state.specs.Positions.{positionRow}
 use Rattle.search_state.specs.declared.State.{State}
-use Rattle.search_cover.specs.SeekLaws.{seek-finds}
-use Rattle.search_cover.specs.declared.CoverCursor.{CoverCursor}
-use Rattle.search_laws.specs.Problems.{Letters, RuleBytes, Problem}
-use Rattle.search_laws.specs.Running.{problemAt, InLimits, Goes, SearchAt, Running, MayFind, CoverFound, fateFor, MayInsert}
+use Rattle.search_laws.specs.Problems.{RuleBytes, Problem, firstRows, unread}
+use Rattle.search_laws.specs.Walks.{candidateIn}
+use Rattle.search_laws.specs.Running.{InLimits, Goes, SearchAt, MayFind, problemAt, Running}
 
-module _ {letters : Letters} {rules : RuleBytes} {start : State} {j₀ : Journal} {s : State} {j : Journal} {t : List ℕ} (r : Running letters rules start j₀ s j t) (g : T (s .going)) where
+module _ {E R : Type 0} {P : Problem E R} {rules : RuleBytes} {start : State} {j₀ : List R} {s : State} {j : List R} {t : List ℕ} (r : Running P rules start j₀ s j t) (g : T (s .going)) where
   -- what it works on
-  abbrev pub works-on : Problem
-  works-on = problemAt letters rules start
+  abbrev pub works-on : Problem E R
+  works-on = problemAt P rules start
 
   pub started : T (start .going)
   started = by (start .going) refl
@@ -37,7 +38,7 @@ module _ {letters : Letters} {rules : RuleBytes} {start : State} {j₀ : Journal
   pub goes-on : Goes works-on (start .terms .budget) j₀ s j t
   goes-on = stands-on .goes g
 
-  pub sized : InLimits works-on (start .terms .budget) j₀
+  pub sized : InLimits j₀
   sized = r .sized started
 
   pub used-fits : s .counts .used ≤ length j
@@ -55,23 +56,30 @@ module _ {letters : Letters} {rules : RuleBytes} {start : State} {j₀ : Journal
   pub right-inside : s .«right_row» < length j
   right-inside = subst (λ (n : ℕ). n < length j) (sym (goes-on .right)) (position-inside (s .place .right) (s .counts .used) (length j) used-fits some-row)
 
-  pub may-form : (letterWords ≤ length letters) × (s .place .rule < length rules)
-  may-form = (sized .all, omega (arith, goes-on .here, length-take (start .rules) rules))
+  pub rule-inside : s .place .rule < length rules
+  rule-inside = omega (arith, goes-on .here, length-take (start .rules) rules)
 
-  pub may-find : MayFind s j t
-  may-find = (used-fits, some-row, record { covering = goes-on .in-pass .covering; size = rows-length rowOf (s .counts .used) j used-fits; limit = omega (arith, used-fits, limit) })
+  pub may-find : MayFind P s j t
+  may-find = (used-fits, some-row, record { covering = goes-on .in-pass .covering; size = rows-length (P .rowOf) (s .counts .used) j used-fits; limit = omega (arith, used-fits, limit) })
 
   pub pass-some : 0 < s .terms .pass
   pass-some = omega (arith, goes-on .begun .at-pass .first, ap (λ (x : _). x .pass) (goes-on .begun .terms))
 
-  pub may-insert : {c : Candidate} {f : Fate} {l : CoverCursor} → CoverFound s c j t l → f ≡ fateFor s c (l .covers) → MayInsert s c f l j t
-  may-insert h e =
-      record {
-        fate = e;
-        pass = pass-some;
-        rows = stands-on .rows ∙ sym (stands-on .size);
-        room = used-fits;
-        limit = limit;
-        covering = goes-on .in-pass .covering;
-        finds = seek-finds (h .0) (h .1);
-      }
+  -- ---- the candidate of the place
+
+  row-there : (p i : ℕ) → i ≡ positionRow p (s .counts .used) → P .rowOf (cond (ltb p (s .counts .used)) (getD j i (P .blank)) (P .blank)) ≡ getD (firstRows P (s .counts .used) j) p (unread P)
+  row-there p i e =
+      among-row (P .rowOf) (P .blank) (s .counts .used) j used-fits p (getD j i (P .blank)) (λ h. ap (λ (n : ℕ). getD j n (P .blank)) (e ∙ position-row p (s .counts .used) h))
+
+  rule-there : entryAt rules (s .place .rule) ≡ entryAt (works-on .rules) (s .place .rule)
+  rule-there = ap entryOf (sym (getD-take (start .rules) rules (s .place .rule) [] (omega (arith, goes-on .here, length-take (start .rules) rules))))
+
+  -- from a row of the journal, if it is one of the used rows, and else from `blank`
+  abbrev pub formedFrom : Rule → R → R → Candidate E
+  formedFrom x left right =
+      formedBy (P .composing) x (s .place) (P .rowOf (cond (ltb (s .place .left) (s .counts .used)) left (P .blank))) (P .rowOf (cond (ltb (s .place .right) (s .counts .used)) right (P .blank)))
+
+  pub formed-there : formedFrom (entryAt rules (s .place .rule)) (getD j (s .«left_row») (P .blank)) (getD j (s .«right_row») (P .blank)) ≡ candidateIn works-on (firstRows P (s .counts .used) j) (s .place)
+  formed-there =
+      ap (λ (x : Rule). formedFrom x (getD j (s .«left_row») (P .blank)) (getD j (s .«right_row») (P .blank))) rule-there
+      ∙ ap₂ (formedBy (P .composing) (entryAt (works-on .rules) (s .place .rule)) (s .place)) (row-there (s .place .left) (s .«left_row») (goes-on .left)) (row-there (s .place .right) (s .«right_row») (goes-on .right))

@@ -1,18 +1,13 @@
--- The invariant of the search between candidates, and what each step keeps of it, for every journal. The letters are those at the head of
--- src/lib.rt. Definitions only. Assumes nothing.
+-- The invariant of the search between candidates, and what each step keeps of it, for every journal, whatever an effect is. The letters are
+-- those at the head of src/lib.rt. Definitions only. Assumes nothing.
 use mathlib.Core.Path.{_≡_}
 use mathlib.Core.Bool.{Bool, not, cond}
 use mathlib.Core.List.{List}
 use Prim.Native.Nat.{ℕ, suc, _-_, _≤_, _<_}
 use lib.Dec.{T}
-use lib.ListN.{length, getD, take}
-use Rattle.spec_file.specs.Limits.{letterWords}
-use Rattle.relation.specs.Relation.{contained}
-use Rattle.spec_calls.specs.Rows.{rowOf, blank, Journal}
-use Rattle.search_rows.specs.Base as order
-use Rattle.search_rows.specs.Forming.{formedIn}
-use Rattle.search_rows.specs.Meanings.{candidateOf}
-use Rattle.search_rows.specs.declared.Candidate.{Candidate}
+use lib.ListN.{length, take}
+use Rattle.spec_order.specs.Candidates.{Candidate}
+use Rattle.spec_order.specs.Order as order
 use Rattle.search_state.specs.declared.Place.{Place}
 use Rattle.search_state.specs.Layout.{rowCells, listsIn}
 use Rattle.search_order.specs.Places as places
@@ -27,43 +22,42 @@ use Rattle.search_state.specs.declared.Fate.{Fate}
 use Rattle.search_state.specs.declared.State.{State}
 use Rattle.search_state.specs.declared.Terms.{Terms}
 use Rattle.search_laws.specs.Contracts.{Answers, Checked, orderOf}
-use Rattle.search_laws.specs.Meanings.{firstRows, answerIn}
+use Rattle.search_laws.specs.Meanings.{answerIn}
 use Rattle.search_laws.specs.Passes.{AtPass}
 use Rattle.search_laws.specs.Passing.{InPass}
-use Rattle.search_laws.specs.Problems.{Letters, RuleBytes, Problem, withRules, problemIn, termsOf, breakingIn}
+use Rattle.search_laws.specs.Problems.{RuleBytes, Problem, firstRows, withRules, termsOf}
 use Rattle.search_laws.specs.States.{startLinked, opening}
-use Rattle.search_laws.specs.Walks.{candidatesIn, passIn, Known}
+use Rattle.search_laws.specs.Walks.{candidateIn, passIn, KnownFrom}
 use Rattle.search_laws.specs.declared.Outcome.the-variants.{Going}
 use Rattle.search_laws.specs.declared.Reached.{Reached}
 
 -- ---- the invariant
 
+-- the journal has a row and not too many
+pub record InLimits {R : Type 0} (j₀ : List R) : Type 0 where
+  pub some : 0 < length j₀
+  pub limit : length j₀ ≤ rowCells
+
 -- of a search on the problem P, with a budget of B joins, that began over the journal j₀
-module _ (P : Problem) (B : ℕ) (j₀ : Journal) where
+module _ {E R : Type 0} (P : Problem E R) (B : ℕ) (j₀ : List R) where
   -- the answer that the search must come to
-  abbrev pub target : order.Answer
+  abbrev pub target : order.Answer E
   target = orderOf P (length j₀) B
 
-  -- the table of letters is whole, and the journal has a row and not too many
-  pub record InLimits : Type 0 where
-    pub all : letterWords ≤ length (P .letters)
-    pub some : 0 < length j₀
-    pub limit : length j₀ ≤ rowCells
-
   -- the search is in pass `pass`, which began with the counts w over the journal j; `before` is the rows used when the pass before began
-  pub record PassBegun (s : State) (w : Counts) (j : Journal) : Type 0 where
+  pub record PassBegun (s : State) (w : Counts) (j : List R) : Type 0 where
     pub pass : ℕ
     pub before : ℕ
     pub at-pass : AtPass P B target j₀ w j pass
     pub fits : before ≤ rowCells
-    pub known : Known before (candidatesIn P (firstRows (w .used) j)) (firstRows (w .used) j)
+    pub known : KnownFrom P before (w .used) j
     pub terms : s .terms ≡ termsOf P B pass (w .used) before
 
   -- the search is at a place of the pass: `first` and `journal` are the counts and the journal when the pass began, the candidates from the
   -- place on give the answer, and the budget leaves a join
-  pub record Goes (s : State) (j : Journal) (t : List ℕ) : Type 0 where
+  pub record Goes (s : State) (j : List R) (t : List ℕ) : Type 0 where
     pub first : Counts
-    pub journal : Journal
+    pub journal : List R
     pub begun : PassBegun s first journal
     pub in-pass : InPass (s .terms) P first journal t (s .counts) j (s .place)
     pub here : s .place .rule < length (P .rules)
@@ -72,84 +66,78 @@ module _ (P : Problem) (B : ℕ) (j₀ : Journal) where
     pub unspent : s .counts .joins < B
 
   -- the search is at a place, or has ended with the answer that it must come to
-  pub record SearchAt (s : State) (j : Journal) (t : List ℕ) : Type 0 where
+  pub record SearchAt (s : State) (j : List R) (t : List ℕ) : Type 0 where
     pub size : length j ≡ length j₀
     pub rows : s .rows ≡ length j₀
     pub count : s .rules ≡ length (P .rules)
     pub goes : T (s .going) → Goes s j t
-    pub ends : T (not (s .going)) → Checked target j₀ j (answerIn s)
+    pub ends : T (not (s .going)) → Checked (P .rowOf) target j₀ j (answerIn s)
 
--- the problem of a search that begins in start, from its tables
-abbrev pub problemAt : Letters → RuleBytes → State → Problem
-problemAt letters rules start = problemIn (start .terms) letters (take (start .rules) rules)
+  -- what every step between candidates keeps: the invariant `SearchAt`, at least the joins of `w`, the same budget
+  pub record Onward (w : Counts) (r : State) (j : List R) (t : List ℕ) : Type 0 where
+    pub stands : SearchAt r j t
+    pub joins : w .joins ≤ r .counts .joins
+    pub budget : r .terms .budget ≡ B
 
--- the invariant of the loop: the search that began in the state `start` over the journal j₀ is now in s, over j and t
-pub record Running (letters : Letters) (rules : RuleBytes) (start : State) (j₀ : Journal) (s : State) (j : Journal) (t : List ℕ) : Type 0 where
-  -- a search that had ended before it began leaves all as it is
-  pub idle : T (not (start .going)) → (s ≡ start) × (j ≡ j₀)
-  pub sized : T (start .going) → InLimits (problemAt letters rules start) (start .terms .budget) j₀
-  pub whole : T (start .going) → start .rules ≤ length rules
-  pub stands : T (start .going) → SearchAt (problemAt letters rules start) (start .terms .budget) j₀ s j t
+module _ {E R : Type 0} (P : Problem E R) where
+  -- ---- a candidate
 
--- the search has run to its end
-abbrev pub Ran : Letters → RuleBytes → State → Journal → Journal → List ℕ → State → Type 0
-Ran letters rules start j₀ j t r = T (not (r .going)) × Running letters rules start j₀ r j t
+  -- what looking for a cover asks: the used rows are within the journal, it has a row to read, and the links lead over the live rows
+  abbrev pub MayFind : State → List R → List ℕ → Type 0
+  MayFind s j t = (s .counts .used ≤ length j) × (0 < length j) × Leads (firstRows P (s .counts .used) j) (s .counts .used) t
 
--- ---- a candidate
+  -- looking for a cover of the candidate c has ended at the cursor l
+  abbrev pub CoverFound : State → Candidate E → List R → List ℕ → CoverCursor → Type 0
+  CoverFound s c j t l = Seeking (P .below) c (firstRows P (s .counts .used) j) (s .counts .used) t l × T (not (l .active))
 
--- what looking for a cover asks: the used rows are within the journal, it has a row to read, and the links lead over the live rows
-abbrev pub MayFind : State → Journal → List ℕ → Type 0
-MayFind s j t = (s .counts .used ≤ length j) × (0 < length j) × Leads (firstRows (s .counts .used) j) (s .counts .used) t
+  -- the candidate c has become a row, unless a row covers it or the journal is full: j and t were the journal and the table before, j′ and t′
+  -- are those after
+  abbrev pub CandidateInserted : State → Candidate E → CoverCursor → List R → List ℕ → List R → List ℕ → Type 0
+  CandidateInserted s c l j t j′ t′ = Inserted (P .below) (P .rowOf) (P .blank) (s .terms .pass) c (s .counts .used) l j t j′ t′
 
--- looking for a cover has ended at the cursor l
-abbrev pub CoverFound : State → Candidate → Journal → List ℕ → CoverCursor → Type 0
-CoverFound s c j t l = Seeking contained (candidateOf c) (firstRows (s .counts .used) j) (s .counts .used) t l × T (not (l .active))
+  -- what becomes of the candidate c, where a row covers it or not
+  abbrev pub fateFor : State → Candidate E → Bool → Fate
+  fateFor s c covered = fateIn s (c .head) covered (P .breaks (c .head) (c .effect))
 
--- the candidate c has become a row, unless a row covers it or the journal is full: j and t were the journal and the table before, j′ and t′ are
--- those after
-abbrev pub CandidateInserted : State → Candidate → CoverCursor → Journal → List ℕ → Journal → List ℕ → Type 0
-CandidateInserted s c l j t j′ t′ = Inserted contained rowOf blank (s .terms .pass) (candidateOf c) (s .counts .used) l j t j′ t′
-
--- what becomes of the candidate c, where a row covers it or not
-abbrev pub fateFor : State → Candidate → Bool → Fate
-fateFor s c covered = fateIn s (c .head) covered (breakingIn (s .terms) (candidateOf c))
-
--- what inserting the candidate c asks
-pub record MayInsert (s : State) (c : Candidate) (f : Fate) (l : CoverCursor) (j : Journal) (t : List ℕ) : Type 0 where
-  pub fate : f ≡ fateFor s c (l .covers)
-  pub pass : 0 < s .terms .pass
-  pub rows : s .rows ≡ length j
-  pub room : s .counts .used ≤ length j
-  pub limit : length j ≤ rowCells
-  pub covering : Covering (firstRows (s .counts .used) j) t
-  pub finds : Finds contained (candidateOf c) (firstRows (s .counts .used) j) (s .counts .used) t l
-
--- the candidate of the place has been formed, looked for, and inserted where no row covers it and there is room
-pub record Considered (letters : Letters) (rules : RuleBytes) (start : State) (j₀ : Journal) (s : State) (c : Candidate) (f : Fate) (l : CoverCursor) (j : Journal) (t : List ℕ) : Type 0 where
-  pub before : Journal
-  pub table : List ℕ
-  pub running : Running letters rules start j₀ s before table
-  pub going : T (s .going)
-  pub formed : candidateOf c ≡ formedIn letters rules s (getD before (s .«left_row») blank) (getD before (s .«right_row») blank)
-  pub found : CoverFound s c before table l
-  pub fate : f ≡ fateFor s c (l .covers)
-  pub inserted : CandidateInserted s c l before table j t
+  -- what inserting the candidate c asks
+  pub record MayInsert (s : State) (c : Candidate E) (f : Fate) (l : CoverCursor) (j : List R) (t : List ℕ) : Type 0 where
+    pub fate : f ≡ fateFor s c (l .covers)
+    pub pass : 0 < s .terms .pass
+    pub rows : s .rows ≡ length j
+    pub room : s .counts .used ≤ length j
+    pub limit : length j ≤ rowCells
+    pub covering : Covering (firstRows P (s .counts .used) j) t
+    pub finds : Finds (P .below) c (firstRows P (s .counts .used) j) (s .counts .used) t l
 
 -- the measure of the loop: at most this many candidates are left, since each is one join
 abbrev pub candidatesLeft : State → ℕ
 candidatesLeft s = cond (s .going) (suc (s .terms .budget - s .counts .joins)) 0
 
--- ---- steps
+-- ---- the loop
 
--- what every step between candidates keeps: the invariant `SearchAt`, at least the joins of `w`, the same budget
-pub record Onward (P : Problem) (B : ℕ) (j₀ : Journal) (w : Counts) (r : State) (j : Journal) (t : List ℕ) : Type 0 where
-  pub stands : SearchAt P B j₀ r j t
-  pub joins : w .joins ≤ r .counts .joins
-  pub budget : r .terms .budget ≡ B
+-- on the problem P with the first ones of these rules, as many as the state `start` says
+module _ {E R : Type 0} (P : Problem E R) (rules : RuleBytes) where
+  abbrev pub problemAt : State → Problem E R
+  problemAt start = withRules P (take (start .rules) rules)
 
--- the candidate of x is done, with its counts: the invariant of the pass holds at the place after it
-abbrev pub DoneAt : Terms → Problem → Counts → Journal → List ℕ → Journal → Reached → Type 0
-DoneAt b P first j₁ t j x = (q : Place) → places.NextPlace (listsIn t) (P .rules) (x .place) q → InPass b P first j₁ t (x .counts) j q
+  -- the invariant of the loop: the search that began in the state `start` over the journal j₀ is now in s, over j and t
+  pub record Running (start : State) (j₀ : List R) (s : State) (j : List R) (t : List ℕ) : Type 0 where
+    -- a search that had ended before it began leaves all as it is
+    pub idle : T (not (start .going)) → (s ≡ start) × (j ≡ j₀)
+    pub sized : T (start .going) → InLimits j₀
+    pub whole : T (start .going) → start .rules ≤ length rules
+    pub stands : T (start .going) → SearchAt (problemAt start) (start .terms .budget) j₀ s j t
+
+  -- the candidate c of the place has been looked for, and inserted where no row covers it and there is room
+  pub record Considered (start : State) (j₀ : List R) (s : State) (c : Candidate E) (f : Fate) (l : CoverCursor) (j : List R) (t : List ℕ) : Type 0 where
+    pub before : List R
+    pub table : List ℕ
+    pub running : Running start j₀ s before table
+    pub going : T (s .going)
+    pub formed : c ≡ candidateIn (problemAt start) (firstRows P (s .counts .used) before) (s .place)
+    pub found : CoverFound P s c before table l
+    pub fate : f ≡ fateFor P s c (l .covers)
+    pub inserted : CandidateInserted P s c l before table j t
 
 -- ---- the steps between candidates
 
@@ -157,36 +145,41 @@ DoneAt b P first j₁ t j x = (q : Place) → places.NextPlace (listsIn t) (P .r
 -- the counts when the pass began; j, w: those now. k: the pass; m: the rows used when the pass before began. t, t′: the table before and after
 -- the step; s, r: the state
 
--- opening a pass over the first n rules with the counts w, which has come to x: the invariant holds of the state there
-abbrev pub OpensPass : RuleBytes → List ℕ → ℕ → Terms → Counts → List ℕ → Reached → Type 0
-OpensPass rules t n b w t′ x =
-    (P : Problem) (B : ℕ) (j₀ j : Journal) (k m : ℕ) (s : State) → let Q = withRules P (take n rules) in s .rules ≡ n → InLimits Q B j₀ → s .rows ≡ length j₀
-    → AtPass Q B (target Q B j₀) j₀ w j k → b ≡ termsOf P B k (w .used) m
-    → Known m (candidatesIn Q (firstRows (w .used) j)) (firstRows (w .used) j) → Covering (firstRows (w .used) j) t → Onward Q B j₀ w (opening s b x (startLinked t′)) j t′
+-- under the terms b the candidate of x is done, with its counts: the invariant of the pass holds at the place after it
+abbrev pub DoneAt : {E R : Type 0} → Terms → Problem E R → Counts → List R → List ℕ → List R → Reached → Type 0
+DoneAt b Q first j₁ t j x = (q : Place) → places.NextPlace (listsIn t) (Q .rules) (x .place) q → InPass b Q first j₁ t (x .counts) j q
 
--- closing the pass of s, which is over with the counts w: the invariant holds of r, in the next pass or at the end
-abbrev pub Closes : RuleBytes → List ℕ → State → Counts → List ℕ → State → Type 0
-Closes rules t s w t′ r =
-    (P : Problem) (B : ℕ) (j₀ : Journal) (first : Counts) (j₁ j : Journal) → let Q = withRules P (take (s .rules) rules) in InLimits Q B j₀ → s .rows ≡ length j₀
-    → PassBegun Q B j₀ s first j₁ → length j ≡ length j₁ → Answers B (passIn (s .terms) Q first j₁) first j₁ j (Going w)
-    → Covering (firstRows (w .used) j) t → Onward Q B j₀ w r j t′
+module _ {E R : Type 0} (P : Problem E R) where
+  -- opening a pass over the first n rules with the counts w, which has come to x: the invariant holds of the state there
+  abbrev pub OpensPass : RuleBytes → List ℕ → ℕ → Terms → Counts → List ℕ → Reached → Type 0
+  OpensPass rules t n b w t′ x =
+      (B : ℕ) (j₀ j : List R) (k m : ℕ) (s : State) → let Q = withRules P (take n rules) in s .rules ≡ n → InLimits j₀ → s .rows ≡ length j₀
+      → AtPass Q B (target Q B j₀) j₀ w j k → b ≡ termsOf P B k (w .used) m
+      → KnownFrom Q m (w .used) j → Covering (firstRows Q (w .used) j) t → Onward Q B j₀ w (opening s b x (startLinked t′)) j t′
 
--- from the place x that the pass of s has come to: the invariant holds of r, at x, at a later place or past the pass
-abbrev pub GoesFrom : RuleBytes → List ℕ → State → Reached → List ℕ → State → Type 0
-GoesFrom rules t s x t′ r =
-    (P : Problem) (B : ℕ) (j₀ : Journal) (first : Counts) (j₁ j : Journal) → let Q = withRules P (take (s .rules) rules) in InLimits Q B j₀ → s .rows ≡ length j₀ → PassBegun Q B j₀ s first j₁
-    → InPass (s .terms) Q first j₁ t (x .counts) j (x .place) → Onward Q B j₀ (x .counts) r j t′
+  -- closing the pass of s, which is over with the counts w: the invariant holds of r, in the next pass or at the end
+  abbrev pub Closes : RuleBytes → List ℕ → State → Counts → List ℕ → State → Type 0
+  Closes rules t s w t′ r =
+      (B : ℕ) (j₀ : List R) (first : Counts) (j₁ j : List R) → let Q = withRules P (take (s .rules) rules) in InLimits j₀ → s .rows ≡ length j₀
+      → PassBegun Q B j₀ s first j₁ → length j ≡ length j₁ → Answers (Q .rowOf) B (passIn Q (s .terms) first j₁) first j₁ j (Going w)
+      → Covering (firstRows Q (w .used) j) t → Onward Q B j₀ w r j t′
 
--- after the candidate of s, which is done with the counts w: the invariant holds of r
-abbrev pub GoesOnOver : RuleBytes → List ℕ → State → Counts → List ℕ → State → Type 0
-GoesOnOver rules t s w t′ r =
-    (P : Problem) (B : ℕ) (j₀ : Journal) (first : Counts) (j₁ j : Journal) → let Q = withRules P rules in InLimits Q B j₀ → s .rows ≡ length j₀ → s .place .rule < length rules → PassBegun Q B j₀ s first j₁
-    → DoneAt (s .terms) Q first j₁ t j (record { counts = w; place = s .place }) → Onward Q B j₀ w r j t′
+  -- from the place x that the pass of s has come to: the invariant holds of r, at x, at a later place or past the pass
+  abbrev pub GoesFrom : RuleBytes → List ℕ → State → Reached → List ℕ → State → Type 0
+  GoesFrom rules t s x t′ r =
+      (B : ℕ) (j₀ : List R) (first : Counts) (j₁ j : List R) → let Q = withRules P (take (s .rules) rules) in InLimits j₀ → s .rows ≡ length j₀ → PassBegun Q B j₀ s first j₁
+      → InPass (s .terms) Q first j₁ t (x .counts) j (x .place) → Onward Q B j₀ (x .counts) r j t′
 
-abbrev pub GoesOn : RuleBytes → List ℕ → State → Counts → List ℕ → State → Type 0
-GoesOn rules t s w t′ r = GoesOnOver (take (s .rules) rules) t s w t′ r
+  -- after the candidate of s, which is done with the counts w: the invariant holds of r
+  abbrev pub GoesOnOver : RuleBytes → List ℕ → State → Counts → List ℕ → State → Type 0
+  GoesOnOver rules t s w t′ r =
+      (B : ℕ) (j₀ : List R) (first : Counts) (j₁ j : List R) → let Q = withRules P rules in InLimits j₀ → s .rows ≡ length j₀ → s .place .rule < length rules → PassBegun Q B j₀ s first j₁
+      → DoneAt (s .terms) Q first j₁ t j (record { counts = w; place = s .place }) → Onward Q B j₀ w r j t′
 
--- after a candidate c that was considered: the invariant of the loop holds of r, and its measure has fallen
-abbrev pub Advances : RuleBytes → List ℕ → State → Fate → CoverCursor → List ℕ → State → Type 0
-Advances rules t s f l t′ r =
-    (letters : Letters) (start : State) (j₀ j : Journal) (c : Candidate) → Considered letters rules start j₀ s c f l j t → Running letters rules start j₀ r j t′ × (candidatesLeft r < candidatesLeft s)
+  abbrev pub GoesOn : RuleBytes → List ℕ → State → Counts → List ℕ → State → Type 0
+  GoesOn rules t s w t′ r = GoesOnOver (take (s .rules) rules) t s w t′ r
+
+  -- after a candidate c that was considered: the invariant of the loop holds of r, and its measure has fallen
+  abbrev pub Advances : RuleBytes → List ℕ → State → Fate → CoverCursor → List ℕ → State → Type 0
+  Advances rules t s f l t′ r =
+      (start : State) (j₀ j : List R) (c : Candidate E) → Considered P rules start j₀ s c f l j t → Running P rules start j₀ r j t′ × (candidatesLeft r < candidatesLeft s)

@@ -9,10 +9,11 @@ use lib.Dec.{ltb}
 use lib.ListN.{length}
 use borrow.Author.Tests.{leb-true, leb-false, eq-eqb, ne-eqb, ltb-true, ltb-false}
 use Rattle.spec_language.specs.Grammar.{initial}
+use Rattle.spec_order.specs.Algebra.{Laws}
+use Rattle.spec_order.specs.Candidates.{Candidate}
 use Rattle.spec_order.specs.Journal.{liveOf}
 use Rattle.spec_order.specs.Order.{startRow}
 use Rattle.spec_calls.specs.Codes.{spentCode}
-use Rattle.search_rows.specs.Base as order
 use Rattle.search_state.specs.declared.Place.{Place}
 use Rattle.search_state.specs.Layout.{rowCells, listsIn}
 use Rattle.search_order.specs.Lists.{Listed}
@@ -22,7 +23,6 @@ use Rattle.search_order.specs.PlacesLeftLaws.{places-first}
 use Rattle.search_links.specs.CoverLaws.{linked-live}
 use Rattle.search_links.specs.Covers.{Covering}
 use Rattle.search_links.specs.Listing.{Gathered, gathered-listed, gathered-covering}
-use Rattle.spec_calls.specs.Rows.{rowOf, Journal}
 use Rattle.search_links.specs.RowLaws.{rows-length}
 use Rattle.search_state.specs.Budgets.{isSpent}
 use Rattle.search_state.specs.declared.Counts.{Counts}
@@ -31,8 +31,8 @@ use Rattle.search_state.specs.declared.Terms.{Terms}
 use Rattle.search_laws.specs.Closing.{Again, Done, endBy, endOf}
 use Rattle.search_laws.specs.Contracts.{PassReady, Answers, Checked}
 use Rattle.search_laws.specs.Deciding.{answers-spent}
-use Rattle.search_laws.specs.Meanings.{firstRows, countsIn, inNextPass, totalsOf, answerAt, finishedBy, codeOf, answerIn}
-use Rattle.search_laws.specs.Problems.{RuleBytes, Problem, termsOf}
+use Rattle.search_laws.specs.Meanings.{countsIn, inNextPass, totalsOf, answerAt, finishedBy, codeOf, answerIn}
+use Rattle.search_laws.specs.Problems.{RuleBytes, Problem, algebraOf, firstRows, termsOf}
 use Rattle.search_laws.specs.Passes.{AtPass, pass-done, pass-again, pass-known}
 use Rattle.search_laws.specs.Passing.{InPass, pass-start, pass-end, pass-stopped}
 use Rattle.search_laws.specs.Steps.{LinksAlong, PassesOver}
@@ -40,7 +40,7 @@ use Rattle.search_laws.specs.StepLaws.{over-counted}
 use Rattle.search_laws.specs.PassingOver.{over-stands}
 use Rattle.search_laws.specs.Running.{target, InLimits, PassBegun, Onward}
 use Rattle.search_laws.specs.States.{ended, standingBy, standing, startLinked, finished, openingBy, opening}
-use Rattle.search_laws.specs.Walks.{candidatesIn, candidateIn, passIn, nonemptyIn, Known}
+use Rattle.search_laws.specs.Walks.{candidateIn, passIn, nonemptyIn, KnownFrom}
 use Rattle.search_laws.specs.declared.Answer.the-variants as answer
 use Rattle.search_laws.specs.declared.Answer.{Answer}
 use Rattle.search_laws.specs.declared.Outcome.the-variants as outcome
@@ -52,9 +52,9 @@ use Rattle.search_laws.specs.declared.Unbroken.the-variants as unbroken
 use Rattle.search_laws.specs.declared.Unbroken.{Unbroken}
 
 -- the list of the nonterminal whose words count has a row exactly where such a nonterminal has a live row
-start-linked : (P : Problem) (u : ℕ) (j : Journal) (t : List ℕ) → length (firstRows u j) ≤ rowCells → Covering (firstRows u j) t → startLinked t ≡ nonemptyIn P u j
+start-linked : {E R : Type 0} (P : Problem E R) (u : ℕ) (j : List R) (t : List ℕ) → length (firstRows P u j) ≤ rowCells → Covering (firstRows P u j) t → startLinked t ≡ nonemptyIn P u j
 unfolding startRow liveOf
-start-linked P u j t few c = linked-live (firstRows u j) t few c initial (omega arith)
+start-linked P u j t few c = linked-live (firstRows P u j) t few c initial (omega arith)
 
 -- a verdict's number gives the verdict back
 pub unbroken-back : (v : Unbroken) (n : Totals) → answerAt (codeOf v) 0 n ≡ answer.Ended v n
@@ -69,37 +69,37 @@ opens-place {u} {t} {t′} l h g o =
     let few : length (l .rows) ≤ rowCells = omega (arith, l .size, h) in
     places-first (l .rows) few (gathered-listed (l .rows) few t t′ (l .covering) (subst (λ (n : ℕ). Gathered n t t′) (sym (l .size)) g)) o
 
-module _ (P : Problem) (B : ℕ) (j₀ : Journal) (s : State) (rows : s .rows ≡ length j₀) (count : s .rules ≡ length (P .rules)) where
+module _ {E R : Type 0} (P : Problem E R) (B : ℕ) (j₀ : List R) (s : State) (rows : s .rows ≡ length j₀) (count : s .rules ≡ length (P .rules)) where
   -- the terms of pass k, which began at w, after one that began with n rows
   abbrev pub at : ℕ → ℕ → Counts → Terms
   at k n w = termsOf P B k (w .used) n
 
   -- an end
-  over : (w : Counts) (b : Terms) (v i : ℕ) (j : Journal) (t : List ℕ) → length j ≡ length j₀ → b .budget ≡ B → Checked (target P B j₀) j₀ j (answerIn (ended s b w v i)) → Onward P B j₀ w (ended s b w v i) j t
+  over : (w : Counts) (b : Terms) (v i : ℕ) (j : List R) (t : List ℕ) → length j ≡ length j₀ → b .budget ≡ B → Checked (P .rowOf) (target P B j₀) j₀ j (answerIn (ended s b w v i)) → Onward P B j₀ w (ended s b w v i) j t
   over w b v i j t e f c = record { stands = record { size = e; rows = rows; count = count; goes = λ z. absurd z; ends = λ _. c }; joins = le-refl (w .joins); budget = f }
 
-  pub onward-from : {w₀ w : Counts} {r : State} {j : Journal} {t : List ℕ} → w₀ .joins ≤ w .joins → Onward P B j₀ w r j t → Onward P B j₀ w₀ r j t
+  pub onward-from : {w₀ w : Counts} {r : State} {j : List R} {t : List ℕ} → w₀ .joins ≤ w .joins → Onward P B j₀ w r j t → Onward P B j₀ w₀ r j t
   onward-from h o = record { stands = o .stands; joins = le-trans h (o .joins); budget = o .budget }
 
-  module _ {first : Counts} {j₁ : Journal} {k : ℕ} (a : AtPass P B (target P B j₀) j₀ first j₁ k) (n : ℕ) where
+  module _ {first : Counts} {j₁ : List R} {k : ℕ} (a : AtPass P B (target P B j₀) j₀ first j₁ k) (n : ℕ) where
     -- an outcome that ends everything
-    pub stops : {j : Journal} → length j ≡ length j₁ → (o : Outcome) {y : Answer} → Answers B (passIn (at k n first) P first j₁) first j₁ j o
-        → endOf (nonemptyIn P (countsIn o .used) j) k o ≡ Done y → Checked (target P B j₀) j₀ j y
+    pub stops : {j : List R} → length j ≡ length j₁ → (o : Outcome) {y : Answer} → Answers (P .rowOf) B (passIn P (at k n first) first j₁) first j₁ j o
+        → endOf (nonemptyIn P (countsIn o .used) j) k o ≡ Done y → Checked (P .rowOf) (target P B j₀) j₀ j y
     stops e o x d = pass-done a e {r = o} x d
 
     -- ---- at a place
 
-    module _ (fits : n ≤ rowCells) (known : Known n (candidatesIn P (firstRows (first .used) j₁)) (firstRows (first .used) j₁)) {t : List ℕ} {w : Counts} {j : Journal} {p : Place} (g : InPass (at k n first) P first j₁ t w j p) where
+    module _ (fits : n ≤ rowCells) (known : KnownFrom P n (first .used) j₁) {t : List ℕ} {w : Counts} {j : List R} {p : Place} (g : InPass (at k n first) P first j₁ t w j p) where
       size : length j ≡ length j₀
       size = g .left .same ∙ a .same
 
       -- the budget is spent there
-      spent-there : p .rule < length (P .rules) → w .joins ≡ B → Checked (target P B j₀) j₀ j (answer.Ended unbroken.Spent (totalsOf w k))
+      spent-there : p .rule < length (P .rules) → w .joins ≡ B → Checked (P .rowOf) (target P B j₀) j₀ j (answer.Ended unbroken.Spent (totalsOf w k))
       spent-there h e =
-          let c : order.Candidate = candidateIn P (firstRows (w .used) j) p in
+          let c : Candidate E = candidateIn P (firstRows P (w .used) j) p in
           stops (g .left .same) (outcome.Stopped (stop.Ended unbroken.Spent w))
           (pass-stopped g h {c = c} refl refl {r = outcome.Stopped (stop.Ended unbroken.Spent w)}
-          (answers-spent (at k n first) c w j (omega (arith, g .left .room, g .left .same)) (g .left .paid) e) (λ i K. refl)) refl
+          (answers-spent P (at k n first) c w j (omega (arith, g .left .room, g .left .same)) (g .left .paid) e) (λ i K. refl)) refl
 
       pub stand-there : p .rule < length (P .rules) → Onward P B j₀ w (standing s (at k n first) w p) j t
       stand-there h = by (isSpent B (w .joins)) refl
@@ -130,17 +130,17 @@ module _ (P : Problem) (B : ℕ) (j₀ : Journal) (s : State) (rows : s .rows �
 
     -- ---- after the last place
 
-    module _ {j : Journal} (e : length j ≡ length j₁) {w : Counts} (x : Answers B (passIn (at k n first) P first j₁) first j₁ j (outcome.Going w)) where
+    module _ {j : List R} (e : length j ≡ length j₁) {w : Counts} (x : Answers (P .rowOf) B (passIn P (at k n first) first j₁) first j₁ j (outcome.Going w)) where
       abbrev nonempty : Bool
       nonempty = nonemptyIn P (w .used) j
 
-      pub close-last : length j₀ ≤ rowCells → (t : List ℕ) → Covering (firstRows (w .used) j) t → w .added ≡ 0 → Onward P B j₀ w (finished s (at k n first) w (startLinked t)) j t
+      pub close-last : length j₀ ≤ rowCells → (t : List ℕ) → Covering (firstRows P (w .used) j) t → w .added ≡ 0 → Onward P B j₀ w (finished s (at k n first) w (startLinked t)) j t
       close-last few t c u =
-          let fits : length (firstRows (w .used) j) ≤ rowCells = omega (arith, rows-length rowOf (w .used) j (omega (arith, x .room, e)), x .room, a .same, few) in
+          let fits : length (firstRows P (w .used) j) ≤ rowCells = omega (arith, rows-length (P .rowOf) (w .used) j (omega (arith, x .room, e)), x .room, a .same, few) in
           let done : endOf nonempty k (outcome.Going w) ≡ Done (answer.Ended (finishedBy nonempty) (totalsOf w k)) = ap (λ (b : Bool). endBy b nonempty w k) (eq-eqb (w .added) 0 u) in
           subst (λ (b : Bool). Onward P B j₀ w (finished s (at k n first) w b) j t) (sym (start-linked P (w .used) j t fits c))
           (over w (at k n first) (codeOf (finishedBy nonempty)) 0 j t (e ∙ a .same) refl
-          (subst (Checked (target P B j₀) j₀ j) (sym (unbroken-back (finishedBy nonempty) (totalsOf w k))) (stops e (outcome.Going w) x done)))
+          (subst (Checked (P .rowOf) (target P B j₀) j₀ j) (sym (unbroken-back (finishedBy nonempty) (totalsOf w k))) (stops e (outcome.Going w) x done)))
 
       again : (w .added ≡ 0 → ⊥) → endOf nonempty k (outcome.Going w) ≡ Again w
       again z = ap (λ (b : Bool). endBy b nonempty w k) (ne-eqb (w .added) 0 z)
@@ -148,11 +148,11 @@ module _ (P : Problem) (B : ℕ) (j₀ : Journal) (s : State) (rows : s .rows �
       pub close-again : (w .added ≡ 0 → ⊥) → AtPass P B (target P B j₀) j₀ (inNextPass w) j (k + 1)
       close-again z = pass-again a e {r = outcome.Going w} x (again z)
 
-      pub close-known : (w .added ≡ 0 → ⊥) → length j₀ ≤ rowCells → Known (first .used) (candidatesIn P (firstRows (w .used) j)) (firstRows (w .used) j)
-      close-known z few = pass-known a e {r = outcome.Going w} x (again z) few
+      pub close-known : Laws (algebraOf P) → (w .added ≡ 0 → ⊥) → length j₀ ≤ rowCells → KnownFrom P (first .used) (w .used) j
+      close-known L z few = pass-known a e {r = outcome.Going w} x (again z) L few
 
   -- where the pass has begun
-  pub stand-on : {first : Counts} {j₁ : Journal} (y : PassBegun P B j₀ s first j₁) {t : List ℕ} {w : Counts} {j : Journal} {p : Place}
+  pub stand-on : {first : Counts} {j₁ : List R} (y : PassBegun P B j₀ s first j₁) {t : List ℕ} {w : Counts} {j : List R} {p : Place}
       → InPass (s .terms) P first j₁ t w j p → p .rule < length (P .rules) → Onward P B j₀ w (standing s (s .terms) w p) j t
   stand-on {first} {j₁} y {t} {w} {j} {p} g h =
       subst (λ (b : Terms). Onward P B j₀ w (standing s b w p) j t) (sym (y .terms))
@@ -160,27 +160,27 @@ module _ (P : Problem) (B : ℕ) (j₀ : Journal) (s : State) (rows : s .rows �
 
   -- ---- a pass begins
 
-  module _ (z : InLimits P B j₀) {w : Counts} {j : Journal} {k : ℕ} (a : AtPass P B (target P B j₀) j₀ w j k) (n : ℕ) (fits : n ≤ rowCells) (known : Known n (candidatesIn P (firstRows (w .used) j)) (firstRows (w .used) j)) {t t′ : List ℕ} (c : Covering (firstRows (w .used) j) t) (g : Gathered (w .used) t t′) where
-    size-first : length (firstRows (w .used) j) ≡ w .used
-    size-first = rows-length rowOf (w .used) j (omega (arith, a .room, a .same))
+  module _ (L : Laws (algebraOf P)) (z : InLimits j₀) {w : Counts} {j : List R} {k : ℕ} (a : AtPass P B (target P B j₀) j₀ w j k) (n : ℕ) (fits : n ≤ rowCells) (known : KnownFrom P n (w .used) j) {t t′ : List ℕ} (c : Covering (firstRows P (w .used) j) t) (g : Gathered (w .used) t t′) where
+    size-first : length (firstRows P (w .used) j) ≡ w .used
+    size-first = rows-length (P .rowOf) (w .used) j (omega (arith, a .room, a .same))
 
-    few : length (firstRows (w .used) j) ≤ rowCells
+    few : length (firstRows P (w .used) j) ≤ rowCells
     few = omega (arith, size-first, a .room, z .limit)
 
-    g′ : Gathered (length (firstRows (w .used) j)) t t′
+    g′ : Gathered (length (firstRows P (w .used) j)) t t′
     g′ = subst (λ (m : ℕ). Gathered m t t′) (sym size-first) g
 
-    listed : Listed (firstRows (w .used) j) (listsIn t′)
-    listed = gathered-listed (firstRows (w .used) j) few t t′ c g′
+    listed : Listed (firstRows P (w .used) j) (listsIn t′)
+    listed = gathered-listed (firstRows P (w .used) j) few t t′ c g′
 
-    ready : PassReady (at k n w) w j t′
+    ready : PassReady (P .rowOf) (at k n w) w j t′
     ready =
-        record { room = omega (arith, a .room, a .same); limit = omega (arith, z .limit, a .same); paid = a .paid; pass = omega (arith, a .first); covering = gathered-covering (firstRows (w .used) j) few t t′ c g′ }
+        record { room = omega (arith, a .room, a .same); limit = omega (arith, z .limit, a .same); paid = a .paid; pass = omega (arith, a .first); covering = gathered-covering (firstRows P (w .used) j) few t t′ c g′ }
 
     -- at its first place, and then at one that is reached from there
     module _ (p : Place) (o : places.FirstPlace (listsIn t′) (P .rules) 0 p) {r : Reached} (v : PassesOver (P .rules) t′ (at k n w) (record { counts = w; place = p }) r) where
       reached : InPass (at k n w) P w j t′ (r .counts) j (r .place)
-      reached = over-stands v (pass-start listed ready known o)
+      reached = over-stands L v (pass-start listed ready known o)
 
       pub open-reached : Onward P B j₀ w (opening s (at k n w) r (startLinked t′)) j t′
       open-reached = onward-from (over-counted (P .rules) t′ (at k n w) v .joins) (by (ltb (r .place .rule) (s .rules)) refl)

@@ -46,7 +46,7 @@ use Rattle.search_retire.specs.declared.RetireCursor.{RetireCursor}
 use Rattle.search_retire.proofs.begin as retire-begin
 use Rattle.search_retire.proofs.step as retire-step
 use Rattle.search_laws.specs.Steps.{MayAdvance}
-use Rattle.search_laws.specs.Running.{MayFind, CoverFound, CandidateInserted, fateFor, MayInsert, Advances}
+use Rattle.search_laws.specs.OnRelations.{MayFind, CoverFound, CandidateInserted, fateFor, MayInsert, Advances}
 use Rattle.search_passes.proofs.advance as advance
 use Rattle.search_loops.proofs.find as find
 use Rattle.search_loops.proofs.insert as insert

@@ -6,7 +6,7 @@ use search_rows::Candidate;
 use search_state::Fate;
 use search_state::State;
 use spec_calls::Row;
-ghost use Rattle.search_laws.specs.Running.{MayFind, CoverFound, MayInsert, CandidateInserted, Running, Ran};
+ghost use Rattle.search_laws.specs.OnRelations.{MayFind, CoverFound, MayInsert, CandidateInserted, Running, Ran};
 
 // Looks for a live row that covers `candidate`, until one is found or none is left: at the row of its nonterminal that covered last, at the
 // row that its hint names, and then along the linked rows. Any that covers will do: the contract is whether there is one.

@@ -16,7 +16,7 @@ ghost use lib.ListN.{length};
 ghost use Rattle.search_state.specs.Layout.{tableCells};
 ghost use Rattle.search_laws.specs.States.{startLinked};
 ghost use Rattle.search_laws.specs.Steps.{MayPass, MayOpen, MayGoOn, MayAdvance};
-ghost use Rattle.search_laws.specs.Running.{OpensPass, Closes, GoesFrom, GoesOn, Advances};
+ghost use Rattle.search_laws.specs.OnRelations.{OpensPass, Closes, GoesFrom, GoesOn, Advances};
 
 // A pass over n rules begins: the lists first, then its first place that needs work. The state is not here: a call that is handed one, or
 // gives one, made the compiler copy its padding for each candidate.

@@ -60,7 +60,7 @@ use Rattle.search_state.proofs.State as S
 use Rattle.search_state.proofs.State.Laws as S′
 use Rattle.search_state.specs.Layout.{tableCells, end}
 use Rattle.search_laws.specs.Meanings.{answerIn}
-use Rattle.search_laws.specs.Running.{Running, Ran}
+use Rattle.search_laws.specs.OnRelations.{Running, Ran}
 use Rattle.search_loops.proofs.run as running
 use Rattle.search_loops.proofs.run.Symbol as running-def
 use Rattle.search_loops.proofs.run.Met as running-thm

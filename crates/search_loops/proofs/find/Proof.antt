@@ -43,6 +43,7 @@ use Rattle.search_state.specs.declared.Comparison.{Comparison}
 use Rattle.search_state.specs.Layout.{rowCells, slotCells, tableCells}
 use Rattle.search_links.specs.Covers.{coversAt}
 use Rattle.search_links.specs.RowLaws.{rows-is-at}
+use Rattle.search_links.specs.Rows.{rowsRead}
 use Rattle.search_state.specs.PositionLaws.{position-inside}
 use Rattle.search_state.specs.Positions.{positionRow}
 use Rattle.search_state.specs.Comparing.{isBelow, ComparedAt}
@@ -68,8 +69,7 @@ use Rattle.search_cover.proofs.begin.Met as cover-begin-thm
 use Rattle.search_cover.proofs.step as cover-step
 use Rattle.search_cover.proofs.step.Symbol as cover-step-def
 use Rattle.search_cover.proofs.step.Met as cover-step-thm
-use Rattle.search_laws.specs.Meanings.{firstRows}
-use Rattle.search_laws.specs.Running.{MayFind, CoverFound}
+use Rattle.search_laws.specs.OnRelations.{MayFind, CoverFound}
 use Rattle.walk_kit.proofs.Closing.{locals-of, keeping, closing}
 use Rattle.walk_kit.proofs.Parameters.{Param, shared, datum, stays, spells, typed-all}
 use Rattle.walk_kit.proofs.Functions.{Callee, callee, Function, Knows, WalkAsking, walked-asking}
@@ -133,7 +133,7 @@ module _ {M : Type 1} (𝓤 : URA M) (H : Heap 𝓤) (A : Atoms 𝓤) (W : Given
 
   -- ---- the loop's variable: the cursor
   abbrev Within : CoverCursor → Type 0
-  Within = Seeking contained (candidateOf c) (firstRows (s .counts .used) j) (s .counts .used) t
+  Within = Seeking contained (candidateOf c) (rowsRead rowOf (s .counts .used) j) (s .counts .used) t
 
   record X : Type 0 where
     l : CoverCursor
@@ -149,7 +149,7 @@ module _ {M : Type 1} (𝓤 : URA M) (H : Heap 𝓤) (A : Atoms 𝓤) (W : Given
     last-inside = subst (λ (n : ℕ). n < length j) (sym e) (position-inside (lastNoted t (c .head)) (s .counts .used) (length j) (may .0) (may .1))
 
   -- what comparing row i gave is said of row i of the used ones
-  covers-there : (i : ℕ) → i < s .counts .used → (m : Comparison) → Compared c (getD j i blank) m → m .covers ≡ coversAt contained (candidateOf c) (firstRows (s .counts .used) j) i
+  covers-there : (i : ℕ) → i < s .counts .used → (m : Comparison) → Compared c (getD j i blank) m → m .covers ≡ coversAt contained (candidateOf c) (rowsRead rowOf (s .counts .used) j) i
   covers-there i h m k = k .0 ∙ sym (rows-is-at rowOf blank (s .counts .used) j (may .0) i h (isBelow contained (candidateOf c)))
 
   begun : (i : ℕ) (m : Comparison) → Compared c (getD j i blank) m → (n : ℕ) → n < slotCells → (r : CoverCursor) → Means cover-cursor r → r ≡ begunAt t (s .counts .used) (c .head) i (m .covers) n → X

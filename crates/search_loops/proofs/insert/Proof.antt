@@ -59,7 +59,7 @@ use Rattle.search_retire.proofs.begin.Met as retire-begin-thm
 use Rattle.search_retire.proofs.step as retire-step
 use Rattle.search_retire.proofs.step.Symbol as retire-step-def
 use Rattle.search_retire.proofs.step.Met as retire-step-thm
-use Rattle.search_laws.specs.Running.{MayInsert, CandidateInserted}
+use Rattle.search_laws.specs.OnRelations.{MayInsert, CandidateInserted}
 use Rattle.walk_kit.proofs.Closing.{locals-of, keeping, closing}
 use Rattle.walk_kit.proofs.Parameters.{Param, lent, datum, stays, spells, typed-all}
 use Rattle.walk_kit.proofs.Functions.{Callee, callee, Function, Knows, WalkAsking, walked-asking}

@@ -55,8 +55,10 @@ use Rattle.search_loops.proofs.find.Met as find-thm
 use Rattle.search_loops.proofs.insert as insert
 use Rattle.search_loops.proofs.insert.Symbol as insert-def
 use Rattle.search_loops.proofs.insert.Met as insert-thm
-use Rattle.search_laws.specs.Running.{Running, Ran, CoverFound, CandidateInserted, fateFor, Considered, Advances, candidatesLeft}
-use Rattle.search_laws.specs.RunLaws.{left-inside, right-inside, may-form, may-find, may-insert}
+use Rattle.search_laws.specs.OnRelations.{CoverFound, fateFor, CandidateInserted, Running, Ran, Considered, Advances, problemIn}
+use Rattle.search_laws.specs.ProblemLaws.{problem-laws, may-form, may-insert, considered}
+use Rattle.search_laws.specs.Running.{candidatesLeft}
+use Rattle.search_laws.specs.RunLaws.{left-inside, right-inside, may-find}
 use Rattle.search_laws.specs.Advancing.{may-advance}
 use Rattle.walk_kit.proofs.Closing.{locals-of, keeping, closing}
 use Rattle.walk_kit.proofs.Parameters.{Param, shared, lent, datum, stays, spells, typed-all}
@@ -139,12 +141,14 @@ module _ {M : Type 1} (𝓤 : URA M) (H : Heap 𝓤) (A : Atoms 𝓤) (W : Given
   -- after a turn at x: the candidate c is formed, looked for, inserted or not, and left behind
   module _ (x : X) (y : T (x .s .going)) (c : Candidate) (h : candidateOf c ≡ formedIn letters rules (x .s) (getD (x .j) (x .s .«left_row») blank) (getD (x .j) (x .s .«right_row») blank)) (l : CoverCursor) (h₁ : CoverFound (x .s) c (x .j) (x .t) l) (w : Fate) (hw : w ≡ fateFor (x .s) c (l .covers)) (j : Journal) (t : List ℕ)
       (h₂ : CandidateInserted (x .s) c l (x .j) (x .t) j t) where
-    considered : Considered letters rules s₀ j₀ (x .s) c w l j t
-    considered = record { before = x .j; table = x .t; running = x .running; going = y; formed = h; found = h₁; fate = hw; inserted = h₂ }
+    considered-here : Considered letters rules s₀ j₀ (x .s) c w l j t
+    considered-here = considered (x .running) y c h₁ hw h h₂
 
     module _ (r : State) (t′ : List ℕ) (h₃ : Advances rules t (x .s) w l t′ r) where
       advanced : Running letters rules s₀ j₀ r j t′ × (candidatesLeft r < candidatesLeft (x .s))
-      advanced = h₃ letters s₀ j₀ j c considered
+      advanced =
+          let a = h₃ (problemIn (s₀ .terms .finals) letters rules) (problem-laws (s₀ .terms .finals) letters rules) s₀ j₀ j (candidateOf c) considered-here in
+          (record { all = x .running .all; search = a .0 }, a .1)
 
       next : Means state r → length j ≡ length j₀ → length t′ ≡ length t₀ → X
       next is e e′ = record { s = r; j = j; t = t′; s-is = is; even = e; long = e′; running = advanced .0 }
@@ -169,8 +173,8 @@ module _ {M : Type 1} (𝓤 : URA M) (H : Heap 𝓤) (A : Atoms 𝓤) (W : Given
       turn-at x =
           tests ! (of-opd ! (field-of ! 52 refl refl refl)) (init ! 34 refl (tt, tt)) (its ! 34 refl)
           (λ y.
-          let i = left-inside (x .running) y in
-          let i′ = right-inside (x .running) y in
+          let i = left-inside (x .running .search) y in
+          let i′ = right-inside (x .running .search) y in
           -- the two rows
           sets ! (of-opd ! (field-of ! 52 refl refl refl)) (init ! 50 refl (tt, record { fits = left-fits (x .s) (x .s-is) })) $
           points ! (mem (RowOf row) .size) tt (off x i) (its ! 50 refl) (init ! 32 refl (tt, record { fits = off x i })) (field-of ! 62 refl refl refl) (its ! 32 refl) (init ! 30 refl (tt, tt)) $
@@ -186,7 +190,7 @@ module _ {M : Type 1} (𝓤 : URA M) (H : Heap 𝓤) (A : Atoms 𝓤) (W : Given
           land ! (from ! (stop !)) (init ! 42 refl (typed candidate 𝓤 H A W c c-is)) $ move ! (2 ∷ 3 ∷ []) $
           -- looked for
           relends ! 62 24 22 refl refl refl tt refl refl refl tt (j-room .0) $ relends ! 60 20 18 refl refl refl tt refl refl refl tt (t-room .0) $
-          calls-handing ! fm (known .1 .0) (to-find 𝓤 H A mem′ run (x .s) (x .s-is) c c-is J P (x .j) (x .even) (x .t) (x .long) (may-find (x .running) y))
+          calls-handing ! fm (known .1 .0) (to-find 𝓤 H A mem′ run (x .s) (x .s-is) c c-is J P (x .j) (x .even) (x .t) (x .long) (may-find (x .running .search) y))
           (λ cs. and-then ! (its ! 20 refl) (and-then ! (its ! 16 refl) (and-then ! (its ! 50 refl) (and-then ! (its ! 40 refl) (no-more !))))) (λ cs l ws h₁ l′-is _.
           land ! (from ! (stop !)) (init ! 40 refl (typed cover-cursor 𝓤 H A W l l′-is)) $
           -- its fate decided
@@ -195,12 +199,12 @@ module _ {M : Type 1} (𝓤 : URA M) (H : Heap 𝓤) (A : Atoms 𝓤) (W : Given
           land ! (from ! (stop !)) (init ! 36 refl (typed fate 𝓤 H A W w w-is)) $
           -- inserted
           relends ! 62 14 12 refl refl refl tt refl refl refl tt (j-room .0) $ relends ! 60 10 8 refl refl refl tt refl refl refl tt (t-room .0) $
-          calls-handing ! fm (known .1 .1 .1 .0) (to-insert 𝓤 H A mem′ run (x .s) (x .s-is) c c-is J P (x .j) (x .even) (x .t) (x .long) w w-is l l′-is (may-insert (x .running) y h₁ hw))
+          calls-handing ! fm (known .1 .1 .1 .0) (to-insert 𝓤 H A mem′ run (x .s) (x .s-is) c c-is J P (x .j) (x .even) (x .t) (x .long) w w-is l l′-is (may-insert (x .running) y c h₁ hw))
           (λ cs. and-then ! (its ! 10 refl) (and-then ! (its ! 6 refl) (and-then ! (its ! 50 refl) (and-then ! (its ! 40 refl) (and-then ! (its ! 34 refl) (and-then ! (its ! 38 refl) (no-more !))))))) (λ cs u ws h₂ u-is long.
           land ! (from ! (stop !)) (init ! 16 refl (tt, tt)) $
           -- and left behind
           relends ! 60 6 4 refl refl refl tt refl refl refl tt (t-room .0) $
-          move ! (3 ∷ 1 ∷ []) $ calls-handing-last ! fm (known .1 .1 .1 .1 .0) (to-advance 𝓤 H A mem′ run (x .s) (x .s-is) U P rules (ws .1 .0) (long .1 .0) w w-is l l′-is (may-advance (considered x y c h l h₁ w hw (ws .0) (ws .1 .0) h₂)))
+          move ! (3 ∷ 1 ∷ []) $ calls-handing-last ! fm (known .1 .1 .1 .1 .0) (to-advance 𝓤 H A mem′ run (x .s) (x .s-is) U P rules (ws .1 .0) (long .1 .0) w w-is l l′-is (may-advance (considered-here x y c h l h₁ w hw (ws .0) (ws .1 .0) h₂)))
           (λ cs. and-then ! (its ! 54 refl) (and-then ! (its ! 2 refl) (and-then ! (its ! 50 refl) (and-then ! (its ! 34 refl) (and-then ! (its ! 38 refl) (no-more !)))))) (λ cs′ r ws′ h₃ is long′.
           land-last ! (from ! (stop !)) (store ! 52 refl (typed state 𝓤 H A W r is)) $ move ! (2 ∷ 1 ∷ 3 ∷ 0 ∷ []) $ keeping ! En 4 7 refl $
           again ! (Falls left) Inv x (next x y c h l h₁ w hw (ws .0) (ws .1 .0) h₂ r (ws′ .1 .0) h₃ is (long .0) (long′ .1 .0)) (advanced x y c h l h₁ w hw (ws .0) (ws .1 .0) h₂ r (ws′ .1 .0) h₃ .1)))))))))

@@ -33,11 +33,11 @@ go-on-requires c κs =
     )
 
 returns : tie.Need-returns
-returns c letters start j₀ j d x =
-    going-running x _ (c .before .before .before .before .before .before .before .before .before .before .remember-hint .ensures) (sym (c .before .before .before .before .before .outcome .given .1) ∙ c .before .before .before .before .before .before .before .decide .ensures ∙ decided-so x) (c .before .before .go-on .ensures)
+returns c P L start j₀ j d x =
+    going-running x L _ (c .before .before .before .before .before .before .before .before .before .before .remember-hint .ensures) (sym (c .before .before .before .before .before .outcome .given .1) ∙ c .before .before .before .before .before .before .before .decide .ensures ∙ decided-so x) (c .before .before .go-on .ensures P L)
 
 returns-2 : tie.Need-returns-2
-returns-2 c letters start j₀ j d x =
+returns-2 c P L start j₀ j d x =
     let o = c .before .before .before .before .decide in
     rw (c .stop .ensures) (stopped-running x _ (subst (Right x) (sym (o .ensures ∙ decided-so x) ∙ c .before .before .outcome2 .given .1) (decided-right x)) _)
 

@@ -21,7 +21,7 @@ asked c κs =
     record { table = gathered .ensures .size ∙ s .pre .table; count = s .pre .count; old = s .pre .old; places = opens-place (s .pre .links) (s .pre .used) (gathered .ensures) (c .before .first-in .ensures) }
 
 returns : tie.Need-returns
-returns c P B j₀ j k m st count z rows a e known g =
+returns c P L B j₀ j k m st count z rows a e known g =
     let o = c .pass-over in
     let p = c .before .before .first-in in
     let gathered = c .before .before .before .before .before .before .gather in
@@ -29,7 +29,7 @@ returns c P B j₀ j k m st count z rows a e known g =
     let rs = take (s .args .n) (s .args .rules .now) in
     let Q = withRules P rs in
     subst (λ (b : Terms). Onward Q B j₀ (s .args .counts) (opening st b (o .result) (startLinked (gathered .last .0))) j (gathered .last .0)) (sym e)
-    (open-reached Q B j₀ st rows (count ∙ sym (length-take-le (s .args .n) (s .args .rules .now) (s .pre .count))) z a m (subst (λ (b : Terms). b .old ≤ rowCells) e (s .pre .old)) known g (gathered .ensures) (p .result) (p .ensures)
+    (open-reached Q B j₀ st rows (count ∙ sym (length-take-le (s .args .n) (s .args .rules .now) (s .pre .count))) L z a m (subst (λ (b : Terms). b .old ≤ rowCells) e (s .pre .old)) known g (gathered .ensures) (p .result) (p .ensures)
     (subst (λ (b : Terms). PassesOver rs (gathered .last .0) b (record { counts = s .args .counts; place = p .result }) (o .result)) e (o .ensures)))
 
 pub open-pass-spec : {M : Type 1} → statement M

@@ -1,16 +1,15 @@
 -- What the invariant says of a search that is going, and of the candidate of its place. Assumes nothing.
 use mathlib.Core.Path.{_≡_, refl, sym, ap, ap₂, _∙_, subst}
-use mathlib.Core.Bool.{Bool, true, false, not, cond}
+use mathlib.Core.Bool.{Bool, true, false, not}
 use mathlib.Core.List.{List, []}
 use Prim.Native.Nat.{ℕ, _≤_, _<_}
 use native.Mathlib.Omega.{arith}
-use lib.Dec.{T, ltb}
+use lib.Dec.{T}
 use lib.ListN.{length, getD, length-take}
 use lib.Seq.{getD-take}
 use Rattle.spec_language.specs.Grammar.{Rule}
-use Rattle.spec_order.specs.Candidates.{Candidate}
 use Rattle.spec_file.specs.Entries.{entryOf}
-use Rattle.search_state.specs.Forming.{entryAt, formedBy}
+use Rattle.search_state.specs.Forming.{entryAt, formedBy, amongFirst, formedFrom}
 use Rattle.search_state.specs.Layout.{rowCells}
 use Rattle.search_links.specs.RowLaws.{rows-length, among-row}
 use Rattle.search_state.specs.PositionLaws.{position-inside, position-row}
@@ -67,19 +66,14 @@ module _ {E R : Type 0} {P : Problem E R} {rules : RuleBytes} {start : State} {j
 
   -- ---- the candidate of the place
 
-  row-there : (p i : ℕ) → i ≡ positionRow p (s .counts .used) → P .rowOf (cond (ltb p (s .counts .used)) (getD j i (P .blank)) (P .blank)) ≡ getD (firstRows P (s .counts .used) j) p (unread P)
+  row-there : (p i : ℕ) → i ≡ positionRow p (s .counts .used) → P .rowOf (amongFirst (P .blank) (getD j i (P .blank)) p (s .counts .used)) ≡ getD (firstRows P (s .counts .used) j) p (unread P)
   row-there p i e =
       among-row (P .rowOf) (P .blank) (s .counts .used) j used-fits p (getD j i (P .blank)) (λ h. ap (λ (n : ℕ). getD j n (P .blank)) (e ∙ position-row p (s .counts .used) h))
 
   rule-there : entryAt rules (s .place .rule) ≡ entryAt (works-on .rules) (s .place .rule)
   rule-there = ap entryOf (sym (getD-take (start .rules) rules (s .place .rule) [] (omega (arith, goes-on .here, length-take (start .rules) rules))))
 
-  -- from a row of the journal, if it is one of the used rows, and else from `blank`
-  abbrev pub formedFrom : Rule → R → R → Candidate E
-  formedFrom x left right =
-      formedBy (P .composing) x (s .place) (P .rowOf (cond (ltb (s .place .left) (s .counts .used)) left (P .blank))) (P .rowOf (cond (ltb (s .place .right) (s .counts .used)) right (P .blank)))
-
-  pub formed-there : formedFrom (entryAt rules (s .place .rule)) (getD j (s .«left_row») (P .blank)) (getD j (s .«right_row») (P .blank)) ≡ candidateIn works-on (firstRows P (s .counts .used) j) (s .place)
+  pub formed-there : formedFrom (P .composing) (P .rowOf) (P .blank) (entryAt rules (s .place .rule)) s (getD j (s .«left_row») (P .blank)) (getD j (s .«right_row») (P .blank)) ≡ candidateIn works-on (firstRows P (s .counts .used) j) (s .place)
   formed-there =
-      ap (λ (x : Rule). formedFrom x (getD j (s .«left_row») (P .blank)) (getD j (s .«right_row») (P .blank))) rule-there
+      ap (λ (x : Rule). formedFrom (P .composing) (P .rowOf) (P .blank) x s (getD j (s .«left_row») (P .blank)) (getD j (s .«right_row») (P .blank))) rule-there
       ∙ ap₂ (formedBy (P .composing) (entryAt (works-on .rules) (s .place .rule)) (s .place)) (row-there (s .place .left) (s .«left_row») (goes-on .left)) (row-there (s .place .right) (s .«right_row») (goes-on .right))

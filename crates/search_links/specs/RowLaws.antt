@@ -13,6 +13,7 @@ use borrow.Author.Tests.{ltb-true, ltb-false}
 use Rattle.spec_basics.specs.Elements.{any}
 use Rattle.spec_basics.specs.Lists.{drop-later-same}
 use Rattle.spec_order.specs.Journal.{Row}
+use Rattle.search_state.specs.Forming.{amongFirst}
 use Rattle.search_links.specs.Rows.{holdsAt, IsAt, rowsRead, Stored}
 
 -- ---- one element of a list
@@ -104,7 +105,7 @@ module _ {E R : Type 0} (rowOf : R → Row E) where
         is-at (rowOf blank) (rowsRead rowOf u j) i (subst (λ (n : ℕ). i < n) (sym (rows-length u j h)) l) f ∙ ap f (rows-at i l)
 
     -- what is read for position i, if it is one of the rows, and else `blank`
-    pub among-row : u ≤ length j → (i : ℕ) (r : R) → (i < u → r ≡ getD j i blank) → rowOf (cond (ltb i u) r blank) ≡ getD (rowsRead rowOf u j) i (rowOf blank)
+    pub among-row : u ≤ length j → (i : ℕ) (r : R) → (i < u → r ≡ getD j i blank) → rowOf (amongFirst blank r i u) ≡ getD (rowsRead rowOf u j) i (rowOf blank)
     among-row h i r e = by (ltb i u) refl
       where
         by : (b : Bool) → ltb i u ≡ b → rowOf (cond b r blank) ≡ getD (rowsRead rowOf u j) i (rowOf blank)

@@ -6,7 +6,6 @@ use Rattle.relation.specs.Digits.{bit}
 use Rattle.relation.specs.Relation.{states, compose, rejects}
 use Rattle.spec_order.specs.Candidates as candidates
 use Rattle.spec_order.specs.Journal as journal
-use Rattle.spec_order.specs.Order as order
 use Rattle.spec_calls.specs.Base.{formsBy, breaksBy}
 
 abbrev pub Row : Type 0
@@ -17,15 +16,6 @@ Choice = candidates.Choice ℕ
 
 abbrev pub Candidate : Type 0
 Candidate = candidates.Candidate ℕ
-
-abbrev pub Progress : Type 0
-Progress = order.Progress ℕ
-
-abbrev pub Outcome : Type 0
-Outcome = order.Outcome ℕ
-
-abbrev pub Answer : Type 0
-Answer = order.Answer ℕ
 
 -- of an empty body, in rule r of the nonterminal x; no letter is read
 abbrev pub emptyBody : ℕ → ℕ → Candidate

@@ -4,8 +4,6 @@ use Prim.Native.Nat.{ℕ}
 use Rattle.relation.specs.Relation.{states, identity, compose}
 use Rattle.relation.specs.Representation.{value}
 use Rattle.relation.specs.Stored.{relationIn}
-use Rattle.spec_order.specs.Algebra.{Algebra}
-use Rattle.spec_calls.specs.Base.{baseBy}
 use Rattle.search_state.specs.Forming.{Composing}
 use Rattle.search_rows.specs.Base as order
 use Rattle.search_rows.specs.declared.Candidate.{Candidate}
@@ -14,9 +12,6 @@ use Rattle.search_rows.specs.declared.Choice.{Choice}
 -- what bodies form, where a terminal has its relation in the table of letters
 abbrev pub composingOf : List ℕ → Composing ℕ
 composingOf letters = record { ofEmpty = identity states; ofTerminal = λ c. value (relationIn letters c); compose = compose states }
-
-abbrev pub baseOf : List ℕ → ℕ → Algebra ℕ
-baseOf letters finals = baseBy states (λ c. value (relationIn letters c)) (order.rejecting finals)
 
 abbrev pub candidateOf : Candidate → order.Candidate
 candidateOf c = record { head = c .head; rule = c .rule; effect = value (c .relation); left = c .left; right = c .right; len = c .len }

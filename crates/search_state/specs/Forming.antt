@@ -1,7 +1,9 @@
 -- A candidate formed at one place of a pass, from the rule and the two rows of that place, whatever an effect is. Definitions only. Assumes
 -- nothing.
+use mathlib.Core.Bool.{cond}
 use mathlib.Core.List.{List, [], _∷_}
 use Prim.Native.Nat.{ℕ}
+use lib.Dec.{ltb}
 use lib.ListN.{getD}
 use Rattle.spec_language.specs.Grammar.{Symbol, terminal, nonterminal, Body, empty, one, two, Rule}
 use Rattle.spec_file.specs.Entries.{entryOf}
@@ -9,6 +11,7 @@ use Rattle.spec_order.specs.Algebra.{Forms}
 use Rattle.spec_order.specs.Candidates.{Choice, Candidate, bare, sole, paired}
 use Rattle.spec_order.specs.Journal.{Row, absent}
 use Rattle.search_state.specs.declared.Place.{Place}
+use Rattle.search_state.specs.declared.State.{State}
 
 -- ---- the parts of a body
 
@@ -75,3 +78,14 @@ module _ {E : Type 0} (F : Composing E) where
   abbrev pub formedBy : Rule → Place → Row E → Row E → Candidate E
   formedBy x p left right =
       combined (x .head) (p .rule) (x .body) (partChoice (leftPart (x .body)) (p .left) left) (partChoice (rightPart (x .body)) (p .right) right)
+
+-- ---- from rows of a journal, as the code has them: `rowOf` reads one, and `blank` stands where there is none
+
+-- the row r at position i, if that is one of the first n
+abbrev pub amongFirst : {R : Type 0} → R → R → ℕ → ℕ → R
+amongFirst blank r i n = cond (ltb i n) r blank
+
+-- the candidate of the place of s in the rule x, from the used rows
+abbrev pub formedFrom : {E R : Type 0} → Composing E → (R → Row E) → R → Rule → State → R → R → Candidate E
+formedFrom F rowOf blank x s left right =
+    formedBy F x (s .place) (rowOf (amongFirst blank left (s .place .left) (s .counts .used))) (rowOf (amongFirst blank right (s .place .right) (s .counts .used)))

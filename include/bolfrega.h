@@ -12,8 +12,8 @@
  *
  * What every call asks of its caller:
  * - A pointer and the length after it are those of one area of memory. With length 0 the pointer may be null.
- * - `record` and `details` are not null.
- * - `record`, `details`, `buffer` and `table` overlap neither each other nor the file or the run.
+ * - `record`, `entries` and `details` are not null.
+ * - `record`, `entries`, `details`, `buffer`, `table` and `list` overlap neither each other nor the file or the run.
  *
  * Numbers that a call refuses with:
  *    1  The file's length is no multiple of 8.
@@ -29,6 +29,7 @@
  *   12  A move is on a remark: its code is 120 or above.
  *   13  A run given to be recognized has more than 64 steps.
  *   14  The table for a run to be recognized does not have 2,145 cells.
+ *   15  The buffer for the list of gaps and doubles has fewer than 5,760 bytes.
  * 1 and 2 are tested first, then 3, 4, 5, 12, 6, 7 record by record: the earliest record wins, and within it the earliest of these.
  */
 #ifndef BOLFREGA_H
@@ -59,6 +60,13 @@ extern "C" {
 /* The table of bolfrega_recognize: its number of cells, and the cell of the stretch from step i up to step j, 0 <= i <= j <= 64. */
 #define BOLFREGA_CELLS 2145
 #define BOLFREGA_CELL(i, j) ((size_t)(i) * (131 - (size_t)(i)) / 2 + ((size_t)(j) - (size_t)(i)))
+
+/* What bolfrega_list returns, unless it refuses. */
+#define BOLFREGA_LISTED 114
+
+/* The list of bolfrega_list: the bytes that its buffer has at least, and of each entry: stage, code, number of moves. */
+#define BOLFREGA_LIST_BYTES 5760
+#define BOLFREGA_ENTRY_BYTES 3
 
 /* The places of bolfrega_check's details. */
 #define BOLFREGA_RECORD 0  /* the record that is refused */
@@ -105,6 +113,23 @@ uint64_t bolfrega_judge(const uint8_t *file, size_t file_length, const uint8_t *
  */
 uint64_t bolfrega_recognize(const uint8_t *file, size_t file_length, const uint8_t *run, size_t run_length, uint64_t *record,
                             uint64_t *table, size_t cells);
+
+/*
+ * Lists the gaps and doubles of the order sheet in a file: the pairs of a stage and a code whose number of moves is not one. The stages are 0
+ * and every stage in a move or finishing record, the codes are those that moves are on.
+ *
+ * Returns 1 to 7 or 12 if the file is refused; else 15 if the list has fewer than BOLFREGA_LIST_BYTES bytes, however many entries there are;
+ * else BOLFREGA_LISTED.
+ * Sets *record as bolfrega_refusal does: to 0 if it returns anything but 3 to 7 or 12. Sets *entries to the number of entries, and to 0 if it
+ * refuses.
+ *
+ * Each entry is three bytes: stage, code, number of moves (0, or 2 to 16). The first 3 * *entries bytes of the list become the entries; stages
+ * rise, then codes. All other bytes of the list keep their values, and so do all of them if the call is refused. If there is no entry, a run of
+ * codes that moves are on has exactly one path from each of the stages.
+ *
+ * It keeps tables of about 4 KiB on the stack.
+ */
+uint64_t bolfrega_list(const uint8_t *file, size_t file_length, uint64_t *record, uint64_t *entries, uint8_t *list, size_t list_length);
 
 /*
  * Checks a file's plan against its order sheet, with a journal of `rows` rows and a budget of `budget` joins.

@@ -49,10 +49,12 @@
 #![deny(unsafe_code)]
 #![warn(missing_docs)]
 
+mod gaps;
 pub mod raw;
 mod recognizing;
 mod refusal;
 
+pub use gaps::{gaps, Gap, Gaps, LIST_BYTES};
 pub use recognizing::{recognize, Derivations, CELLS, MOST_STEPS};
 pub use refusal::Refusal;
 

@@ -26,6 +26,8 @@ pub const TURNED_AWAY: u64 = 111;
 pub const DERIVED: u64 = 112;
 /// [`recognize`]: procedure 0 does not derive the run.
 pub const NOT_DERIVED: u64 = 113;
+/// [`list`]: the gaps and doubles are listed.
+pub const LISTED: u64 = 114;
 
 /// What a check fills in: record, joins, used, pass, row, pairs, length, refused.
 pub type Details = [u64; 8];
@@ -45,6 +47,14 @@ mod c {
             record: *mut u64,
             table: *mut u64,
             cells: usize,
+        ) -> u64;
+        pub fn bolfrega_list(
+            file: *const u8,
+            file_length: usize,
+            record: *mut u64,
+            entries: *mut u64,
+            list: *mut u8,
+            list_length: usize,
         ) -> u64;
         pub fn bolfrega_check(
             file: *const u8,
@@ -81,6 +91,14 @@ pub fn recognize(file: &[u8], run: &[u8], record: &mut u64, table: &mut [u64]) -
     let (cells, count) = (table.as_mut_ptr(), table.len());
     // SAFETY: each pointer and length are those of one slice, and `record` and `table` are lent to this call alone.
     unsafe { c::bolfrega_recognize(file.as_ptr(), file.len(), run.as_ptr(), run.len(), record, cells, count) }
+}
+
+/// [`LISTED`] or the number of a refusal; `record` becomes the record's number, `entries` the number of entries, and the front of `list` the
+/// entries.
+pub fn list(file: &[u8], record: &mut u64, entries: &mut u64, list: &mut [u8]) -> u64 {
+    let (pointer, length) = (list.as_mut_ptr(), list.len());
+    // SAFETY: each pointer and length are those of one slice, and `record`, `entries` and `list` are lent to this call alone.
+    unsafe { c::bolfrega_list(file.as_ptr(), file.len(), record, entries, pointer, length) }
 }
 
 /// [`HOLDS`], [`BROKEN`], [`FULL`], [`SPENT`], [`EMPTY`] or the number of a refusal; fills in `details`, and writes the run of a broken

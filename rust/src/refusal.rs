@@ -6,7 +6,7 @@ use std::fmt;
 /// Why a call refused. Each case is one of document 01's numbers, or C-11's 12; 3 to 7 and 12 name the first record at fault,
 /// counted from 0.
 ///
-/// The numbers 9, 15 and above belong to calls that this library doesn't have.
+/// The numbers 9, 16 and above belong to calls that this library doesn't have.
 ///
 /// ```
 /// use bolfrega::Refusal;
@@ -47,6 +47,8 @@ pub enum Refusal {
     LongRun,
     /// 14: the table for a run to be recognized does not have 2,145 cells.
     Table,
+    /// 15: the buffer for the list of gaps and doubles has fewer than 5,760 bytes.
+    List,
 }
 
 impl Refusal {
@@ -66,6 +68,7 @@ impl Refusal {
             Refusal::Remark { .. } => 12,
             Refusal::LongRun => 13,
             Refusal::Table => 14,
+            Refusal::List => 15,
         }
     }
 
@@ -84,7 +87,8 @@ impl Refusal {
             | Refusal::Room
             | Refusal::Run
             | Refusal::LongRun
-            | Refusal::Table => None,
+            | Refusal::Table
+            | Refusal::List => None,
         }
     }
 
@@ -104,6 +108,7 @@ impl Refusal {
             12 => Refusal::Remark { record },
             13 => Refusal::LongRun,
             14 => Refusal::Table,
+            15 => Refusal::List,
             _ => return None,
         })
     }
@@ -124,6 +129,7 @@ impl Refusal {
             Refusal::Remark { .. } => "it is a move on a remark, a code of 120 or above",
             Refusal::LongRun => "the run has more than 64 steps",
             Refusal::Table => "the table does not have 2,145 cells",
+            Refusal::List => "the buffer for the list has fewer than 5,760 bytes",
         }
     }
 }

@@ -135,6 +135,36 @@ static void recognitions(void)
     EXPECT(bolfrega_recognize(NULL, 0, NULL, 0, &record, table, BOLFREGA_CELLS) == BOLFREGA_NOT_DERIVED && record == 0);
 }
 
+static void lists(void)
+{
+    static uint8_t list[BOLFREGA_LIST_BYTES + 1];
+    /* The moves of stage 0 on code 1 are two, stage 1 has none on code 2, and no move is from stage 3, which is finishing. */
+    static const uint8_t edited[40] = {2, 0, 1, 0, 0, 0, 0, 0, 2, 0, 1, 1, 0, 0, 0, 0, 2, 0, 2, 1, 0, 0, 0, 0,
+                                       2, 1, 1, 0, 0, 0, 0, 0, 3, 3, 0, 0, 0, 0, 0, 0};
+    static const uint8_t expected[12] = {0, 1, 2, 1, 2, 0, 3, 1, 0, 3, 2, 0};
+    static const uint8_t twice[16] = {3, 0, 0, 0, 0, 0, 0, 0, 3, 0, 0, 0, 0, 0, 0, 0};
+    uint64_t record = 77, entries = 77;
+    memset(list, 0xee, sizeof list);
+    EXPECT(bolfrega_list(edited, 7, &record, &entries, list, 0) == 1 && record == 0 && entries == 0);
+    EXPECT(bolfrega_list(twice, 16, &record, &entries, list, 0) == 6 && record == 1 && entries == 0);
+    record = entries = 77;
+    EXPECT(bolfrega_list(edited, sizeof edited, &record, &entries, list, BOLFREGA_LIST_BYTES - 1) == 15 && record == 0 && entries == 0);
+    EXPECT(bolfrega_list(NULL, 0, &record, &entries, NULL, 0) == 15 && record == 0 && entries == 0);
+    for (size_t i = 0; i < sizeof list; i++)
+        EXPECT(list[i] == 0xee);
+
+    record = entries = 77;
+    EXPECT(bolfrega_list(NULL, 0, &record, &entries, list, BOLFREGA_LIST_BYTES) == BOLFREGA_LISTED && record == 0 && entries == 0);
+    EXPECT(list[0] == 0xee);
+    record = 77;
+    EXPECT(bolfrega_list(edited, sizeof edited, &record, &entries, list, BOLFREGA_LIST_BYTES) == BOLFREGA_LISTED && record == 0);
+    EXPECT(entries * BOLFREGA_ENTRY_BYTES == sizeof expected && memcmp(list, expected, sizeof expected) == 0);
+    for (size_t i = sizeof expected; i < sizeof list; i++)
+        EXPECT(list[i] == 0xee);
+    EXPECT(bolfrega_list(SHEET, SHEET_LENGTH, &record, &entries, list, sizeof list) == BOLFREGA_LISTED && record == 0 && entries == 6);
+    EXPECT(list[0] == 0 && list[1] == 2 && list[2] == 0 && list[17] == 0 && list[18] == 0xee);
+}
+
 static void checks(void)
 {
     uint8_t plan_a[sizeof plan_b - 8];
@@ -188,6 +218,7 @@ int main(void)
     refusals();
     judgements();
     recognitions();
+    lists();
     checks();
     return failures != 0;
 }

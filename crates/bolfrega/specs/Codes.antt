@@ -33,6 +33,20 @@ abbrev pub derivationCode : Bool → ℕ
 derivationCode true = derivedCode
 derivationCode false = notDerivedCode
 
+-- ---- the list of a sheet's gaps and doubles
+
+abbrev pub listedCode : ℕ
+listedCode = 114
+
+-- the same number for every count of entries
+abbrev pub listingCode : ℕ → ℕ
+listingCode n = listedCode
+
+-- the count of entries; 0 where the call is refused
+abbrev pub entriesIn : Reply ℕ → ℕ
+entriesIn (refused r) = 0
+entriesIn (answered n) = n
+
 -- ---- replies
 
 -- the number of the refused record; 0 where no record is refused

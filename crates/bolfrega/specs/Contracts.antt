@@ -8,10 +8,11 @@ use Rattle.spec_order.specs.Journal.{Row}
 use Rattle.spec_calls.specs.Checking.{Settings, journalAfter}
 use Rattle.spec_calls.specs.Judging.{judgeOf, JudgementMeans}
 use Rattle.spec_calls.specs.Recognizing.{recognizeOf, RecognizeMeans}
+use Rattle.spec_calls.specs.Listing.{listOf, listAfter, ListMeans}
 use Rattle.spec_calls.specs.Codes.{codeBy}
 use Rattle.host_check.specs.Details.{zeroRow}
 use Rattle.host_check.specs.Contracts.{ChecksBy}
-use Rattle.bolfrega.specs.Codes.{judgementCode, derivationCode, placeIn}
+use Rattle.bolfrega.specs.Codes.{judgementCode, derivationCode, listingCode, entriesIn, placeIn}
 
 -- r is the number that refuses the file bs, or 0, and i the number of the refused record
 pub record Refuses (bs : List ℕ) (r i : ℕ) : Type 0 where
@@ -31,6 +32,16 @@ pub record Recognizes (bs w before after : List ℕ) (r i : ℕ) : Type 0 where
   pub place : i ≡ placeIn (recognizeOf bs w (length before) after)
   -- yes exactly where the initial symbol derives the run, and the table shows every stretch; a refused call leaves the table as it was
   pub meaning : RecognizeMeans bs w before after (recognizeOf bs w (length before) after)
+
+-- the gaps and doubles of the sheet, told as the number r, the record's number i and the count n, with the buffer before and after the call
+pub record ListsGaps (bs old new : List ℕ) (r i n : ℕ) : Type 0 where
+  pub code : r ≡ codeBy listingCode (listOf bs (length old))
+  pub place : i ≡ placeIn (listOf bs (length old))
+  pub entries : n ≡ entriesIn (listOf bs (length old))
+  -- the entries, and then the old bytes; the old bytes whole on a refusal
+  pub buffer : new ≡ listAfter bs old
+  -- just the gaps and doubles of the sheet, in their order, and one path where there is none
+  pub meaning : ListMeans bs old new (listOf bs (length old))
 
 -- J rows of zeros
 unfoldable pub zeroRows : ℕ → List (Row ℕ)

@@ -21,10 +21,11 @@ use Rattle.spec_calls.specs.Checking.{Settings, journalLimit, checkOf}
 use Rattle.spec_calls.specs.DemandThree.{Derivable, SomeDerivable, NoneDerivable, Counterexample, joinsBound, Extends}
 use Rattle.spec_calls.specs.Judging.{wordFault}
 use Rattle.spec_calls.specs.Recognizing.{TableShows, recognizeRefusals}
+use Rattle.spec_calls.specs.Listing.{listRefusals, ListShows}
 use Rattle.spec_calls.specs.Replies.{answered}
 use Rattle.spec_calls.specs.Writing.{longWord}
 use Rattle.spec_calls.specs.Codes.{firstAnswerCode, holdsCode, brokenCode, fullCode, spentCode, emptyCode}
-use Rattle.bolfrega.specs.Codes.{acceptedCode, turnedAwayCode, derivedCode, notDerivedCode}
+use Rattle.bolfrega.specs.Codes.{acceptedCode, turnedAwayCode, derivedCode, notDerivedCode, listedCode}
 use Rattle.bolfrega.specs.Contracts.{Judges, ChecksZeros}
 
 -- ---- what is refused
@@ -65,6 +66,19 @@ pub record RecognizeTells (bs w before after : List ℕ) (r i : ℕ) : Type 0 wh
   pub derived-exactly : firstAnswerCode ≤ r → (r ≡ derivedCode) ↔ Derivable bs w
   pub not-derived-exactly : firstAnswerCode ≤ r → (r ≡ notDerivedCode) ↔ (Derivable bs w → ⊥)
   pub table-shows : firstAnswerCode ≤ r → TableShows (productionsOf bs) w after
+
+-- ---- listing: the number r, the record i, the count n and the buffer, before and after, that bolfrega_list gave
+
+pub record ListTells (bs old new : List ℕ) (r i n : ℕ) : Type 0 where
+  -- below 100 the call was refused: by the file, else 15; nothing is counted, and the buffer is as it was
+  pub refused-exactly : (r < firstAnswerCode) ↔ (firstOf (listRefusals bs (length old)) .number ≡ 0 → ⊥)
+  pub refused-first : r < firstAnswerCode
+      → (r ≡ firstOf (listRefusals bs (length old)) .number) × (i ≡ firstOf (listRefusals bs (length old)) .place)
+  pub none-counted : r < firstAnswerCode → n ≡ 0
+  pub buffer-kept : r < firstAnswerCode → new ≡ old
+  -- from 100 on it is 114, and the buffer shows the n gaps and doubles of the sheet
+  pub listed-number : firstAnswerCode ≤ r → r ≡ listedCode
+  pub list-shows : firstAnswerCode ≤ r → ListShows bs old new n
 
 -- ---- the eight details of bolfrega_check, in the header's order
 

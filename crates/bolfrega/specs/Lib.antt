@@ -7,6 +7,7 @@ pub mod BrokenLaws
 pub mod HostReplies
 pub mod HostJudging
 pub mod HostRecognizing
+pub mod HostListing
 pub mod HostShows
 pub mod HostStays
 pub mod HostTruth

@@ -12,9 +12,12 @@ use Rattle.call_judge.specs.Answers.{judgedOf, Judging}
 use Rattle.spec_calls.specs.Recognizing.{recognizeOf, RecognizeMeans}
 use Rattle.call_member.specs.declared.Recognized.{Recognized}
 use Rattle.call_member.specs.Answers.{recognizedOf, Recognizing}
+use Rattle.spec_calls.specs.Listing.{listOf, ListMeans}
+use Rattle.call_gaps.specs.declared.Listed.{Listed}
+use Rattle.call_gaps.specs.Answers.{listedOf, Lists}
 use Rattle.spec_calls.specs.Codes.{codeBy}
-use Rattle.bolfrega.specs.Codes.{judgementCode, derivationCode, placeIn}
-use Rattle.bolfrega.specs.Contracts.{Refuses, Judges, Recognizes}
+use Rattle.bolfrega.specs.Codes.{judgementCode, derivationCode, listingCode, entriesIn, placeIn}
+use Rattle.bolfrega.specs.Contracts.{Refuses, Judges, Recognizes, ListsGaps}
 
 -- the file's refusal
 pub refuses : (bs : List ℕ) (x : RefusalAnswer) → refusalOf x ≡ fault bs → Refuses bs (x .number) (x .place)
@@ -32,3 +35,10 @@ pub recognizes : (bs w before after : List ℕ) (x y : Recognized) → Recognizi
 recognizes bs w before after x y j q =
     let e : recognizedOf y ≡ recognizeOf bs w (length before) after = ap recognizedOf (sym q) ∙ j .answer in
     record { code = ap (codeBy derivationCode) e; place = ap placeIn e; meaning = subst (RecognizeMeans bs w before after) (j .answer) (j .meaning) }
+
+-- the answer x on the sheet, which is y
+pub lists-gaps : (bs old new : List ℕ) (x y : Listed) → Lists bs old new x → x ≡ y
+    → ListsGaps bs old new (codeBy listingCode (listedOf y)) (placeIn (listedOf y)) (entriesIn (listedOf y))
+lists-gaps bs old new x y j q =
+    let e : listedOf y ≡ listOf bs (length old) = ap listedOf (sym q) ∙ j .answer in
+    record { code = ap (codeBy listingCode) e; place = ap placeIn e; entries = ap entriesIn e; buffer = j .buffer; meaning = subst (ListMeans bs old new) (j .answer) (j .meaning) }

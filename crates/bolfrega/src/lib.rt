@@ -1,6 +1,7 @@
 // The library for hosts in C and Rust: the calls of document 01 as functions on numbers and lent bytes. No function asks anything of
 // its caller. A result below 100 is the number that refused the call; from 100 on it is an answer (the verdicts' numbers are in
 // `host_result`). `include/bolfrega.h` says the same to C.
+use call_gaps::Listed;
 use call_judge::Judged;
 use call_member::Recognized;
 use host_result::CheckResult;
@@ -9,7 +10,7 @@ use spec_calls::Row;
 ghost use mathlib.Core.Path.{_≡_};
 ghost use Rattle.host_result.specs.Results.{numbersIn};
 ghost use Rattle.bolfrega.specs.Codes.{version};
-ghost use Rattle.bolfrega.specs.Contracts.{Refuses, Judges, Recognizes, ChecksZeros};
+ghost use Rattle.bolfrega.specs.Contracts.{Refuses, Judges, Recognizes, ListsGaps, ChecksZeros};
 
 const VERSION: u64 = 1;
 
@@ -20,6 +21,8 @@ const TURNED_AWAY: u64 = 111;
 const DERIVED: u64 = 112;
 
 const NOT_DERIVED: u64 = 113;
+
+const LISTED: u64 = 114;
 
 // Returns the version of this interface.
 #[no_mangle]
@@ -85,6 +88,33 @@ pub extern "C" fn bolfrega_recognize(
         }
         Recognized::Refused(found) => {
             *place = found.place as u64;
+            found.number
+        }
+    }
+}
+
+// Lists the gaps and doubles of the sheet in `file`: returns LISTED, or the number that refuses the call, with `place` as above. Stores their
+// count in `entries`, 0 for a refused call, and writes them to the front of `list`, each as stage, code and number of moves. The other bytes
+// of `list` keep their values, and a refused call leaves all of them as they were.
+#[no_mangle]
+pub extern "C" fn bolfrega_list(
+    file: &[u8],
+    place: &mut u64,
+    entries: &mut u64,
+    list: &mut [u8],
+) -> u64
+    ensures { λ r. ⌜ ListsGaps (now (file .entry)) (now (list .entry)) (now (list .exit)) r (now (place .exit)) (now (entries .exit)) ⌝ }
+{
+    let listed = call_gaps::list(file, list);
+    match listed {
+        Listed::Entries(n) => {
+            *place = 0;
+            *entries = n as u64;
+            LISTED
+        }
+        Listed::Refused(found) => {
+            *place = found.place as u64;
+            *entries = 0;
             found.number
         }
     }

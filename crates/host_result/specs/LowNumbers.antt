@@ -18,6 +18,7 @@ use Rattle.spec_file.specs.Refusals.{Refusal, refuse, orNext, firstHolding, rec
 use Rattle.spec_calls.specs.Checking.{Settings, journalLimit, journalFault, checkRefusals, checkOf}
 use Rattle.spec_calls.specs.Judging.{wordLimit, wordFault, judgeRefusals, judgeOf}
 use Rattle.spec_calls.specs.Recognizing.{runLimit, stretchCells, runFault, tableFault, recognizeRefusals, recognizeOf}
+use Rattle.spec_calls.specs.Listing.{listBytes, listFault, listRefusals, listOf}
 use Rattle.spec_calls.specs.Replies.{Reply, refused, answered, unless, reply}
 use Rattle.spec_calls.specs.Codes.{firstAnswerCode}
 
@@ -160,3 +161,7 @@ recognize-low bs w cells after =
     let run = number-low (ltb runLimit (length w)) 13 (omega arith) in
     let table = number-low (not (eqb cells stretchCells)) 14 (omega arith) in
     reply-low (recognizeRefusals bs w cells) _ (fault-low bs, (word, (run, (table, tt))))
+
+pub list-low : (bs : List ℕ) (room : ℕ) → LowIn (listOf bs room)
+unfolding listOf listFault
+list-low bs room = reply-low (listRefusals bs room) _ (fault-low bs, (number-low (ltb room listBytes) 15 (omega arith), tt))

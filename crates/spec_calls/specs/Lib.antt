@@ -6,6 +6,8 @@ pub mod Rows
 pub mod Checking
 pub mod Judging
 pub mod Recognizing
+pub mod Gaps
+pub mod Listing
 pub mod Writing
 pub mod Printing
 pub mod BaseLaws
@@ -18,6 +20,10 @@ pub mod JournalTruth
 pub mod JudgingTruth
 pub mod StrikingTruth
 pub mod WritingTruth
+pub mod MoveCounts
+pub mod GapLists
+pub mod OnePath
+pub mod ListingTruth
 pub mod Cases
 pub mod Examples
 pub mod Pins

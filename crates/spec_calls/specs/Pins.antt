@@ -1,4 +1,4 @@
--- Numbers 1 to 14 at their edges, computed or stated of every word: limits, the order of the tests, bytes that are used and bytes that are not.
+-- Numbers 1 to 15 at their edges, computed or stated of every word: limits, the order of the tests, bytes that are used and bytes that are not.
 -- They settle what neither a theorem nor a P case says. Assumes nothing.
 use mathlib.Core.Path.{_≡_, refl}
 use mathlib.Core.Bool.{true, false}
@@ -6,17 +6,20 @@ use mathlib.Core.List.{List, [], _∷_, _++_}
 use Prim.Native.Nat.{ℕ, zero, suc, _+_, _%_, _≤_, _<_}
 use native.Mathlib.Omega.{arith}
 use lib.Dec.{leb, ltb}
-use lib.ListN.{length, replicate}
+use lib.ListN.{length, take, replicate}
 use borrow.Author.Tests.{eq-eqb, lt-ltb, le-ltb, le-leb, lt-leb}
 use Rattle.spec_basics.specs.Elements.{any}
 use Rattle.spec_basics.specs.Tests.{or-right}
 use Rattle.spec_file.specs.Records.{recordCount, recordAt, ruleRecord, recordOf, countIn}
 use Rattle.spec_file.specs.Refusals.{Refusal, refuse, kindKnown, onRemark, risesFrom, rises, overLimit, faultAt, fault, aboveRangeIn, exceedsIn, faultAtIn, faultByIn, faultFromIn, faultIn, lengthFaultIn, strayByteIn}
 use Rattle.spec_file.specs.Reading.{ReaderStep, gives, refuses, unlessRefused, stepFrom, stepAt}
-use Rattle.spec_calls.specs.Replies.{refused}
+use Rattle.spec_file.specs.Views.{collect, transitionsOf, finalsOf}
+use Rattle.spec_calls.specs.Replies.{refused, answered}
 use Rattle.spec_calls.specs.Checking.{journalFault, checkOf}
 use Rattle.spec_calls.specs.Judging.{wordFault, judgeOf}
 use Rattle.spec_calls.specs.Recognizing.{rowStart, cell, stretchCells, runFault, tableFault, recognizeOf}
+use Rattle.spec_calls.specs.Gaps.{movesOn}
+use Rattle.spec_calls.specs.Listing.{takesState, usesLetter, gapAt, stateGaps, gapsIn, gapsOf, listFault, listOf, over, listAfter}
 use Rattle.spec_calls.specs.Writing.{roomFault}
 use Rattle.spec_calls.specs.Cases.{entry, lone}
 
@@ -238,3 +241,34 @@ pub recognize-order :
     × (recognizeOf [] (replicate 64 127) 0 [] ≡ refused (refuse 14 0))
 unfolding recognizeOf runFault tableFault wordFault faultIn lengthFaultIn faultFromIn
 recognize-order = (refl, refl, refl, refl)
+
+-- ---- C-16
+
+-- moves 0 on 5 to 0 and to 1; finishing 3
+abbrev pub doubled : List ℕ
+doubled = entry 2 0 5 0 0 (entry 2 0 5 1 0 (entry 3 3 0 0 0 []))
+
+-- a move 15 on 119 to 15
+abbrev pub far : List ℕ
+far = entry 2 15 119 15 0 []
+
+-- the double at stage 0, a gap at stage 1, to which a move leads, and one at stage 3, which is finishing; a gap at stage 0, which no record
+-- names; each time then the old bytes
+pub lists-of-two :
+    (take 10 (listAfter doubled (replicate 5760 9)) ≡ 0 ∷ 5 ∷ 2 ∷ 1 ∷ 5 ∷ 0 ∷ 3 ∷ 5 ∷ 0 ∷ 9 ∷ [])
+    × (take 4 (listAfter far (replicate 5760 9)) ≡ 0 ∷ 119 ∷ 0 ∷ 9 ∷ [])
+unfolding listAfter listOf listFault over gapsOf gapsIn stateGaps gapAt takesState usesLetter movesOn transitionsOf finalsOf collect faultIn lengthFaultIn faultFromIn faultAtIn faultByIn kindKnown aboveRangeIn strayByteIn onRemark risesFrom exceedsIn overLimit countIn
+lists-of-two = (refl, refl)
+
+-- 15 at its edge
+pub list-rooms : (listFault 5759 ≡ 15) × (listFault 5760 ≡ 0) × (listFault 5761 ≡ 0)
+unfolding listFault
+list-rooms = (refl, refl, refl)
+
+-- the file before 15, which is tested also where the list is empty
+pub list-order :
+    (listOf (1 ∷ []) 0 ≡ refused (refuse 1 0))
+    × (listOf [] 5759 ≡ refused (refuse 15 0))
+    × (listOf [] 5760 ≡ answered 0)
+unfolding listOf listFault gapsOf gapsIn stateGaps gapAt takesState usesLetter movesOn transitionsOf finalsOf collect faultIn lengthFaultIn faultFromIn
+list-order = (refl, refl, refl)

@@ -1,8 +1,10 @@
 // What each public call answers, as definitions on a file's bytes, and the theorems about them. And what the calls share in code: a row of the
 // lent journal, with its limits, and the options of a check. Definitions in specs/: Base (the order over relations), Replies (a call answers
-// or refuses), Checking, Judging, Recognizing, Writing (the four calls), DemandThree (what an answer promises), Codes (the numbers of the verdicts), Printing (the program's
-// text), Rows (how the code's rows, rules and options are read). Theorems: Promising and Truth (an answer keeps its promises), JournalTruth,
-// JudgingTruth, StrikingTruth, WritingTruth. Computed: Cases (document 01's P table, remarks), Examples, Pins (what only a definition's text settles).
+// or refuses), Checking, Judging, Recognizing, Listing, Writing (the five calls), Gaps (what is to be listed), DemandThree (what an answer
+// promises), Codes (the numbers of the verdicts), Printing (the program's text), Rows (how the code's rows, rules and options are read).
+// Theorems: Promising and Truth (an answer keeps its promises), JournalTruth, JudgingTruth, StrikingTruth, WritingTruth; ListingTruth, by
+// MoveCounts (how many transitions a pair has), GapLists (what the list has, its order, its length) and OnePath (what an empty list promises).
+// Computed: Cases (document 01's P table, remarks), Examples, Pins (what only a definition's text settles).
 use relation::Effect;
 ghost use mathlib.Core.Path.{_≡_};
 ghost use Prim.Native.Nat.{_+_};

@@ -1,5 +1,5 @@
-//! Document 01, with C-11, C-12 and C-15 of document 02, in plain Rust: reading, judging, the check in its working order, run writing, and the
-//! recognizing of runs.
+//! Document 01, with C-11, C-12 and C-14 to C-16 of document 02, in plain Rust: reading, judging, the check in its working order, run writing,
+//! the recognizing of runs, and the listing of a sheet's gaps and doubles.
 //!
 //! It is written from the papers alone and shares nothing with the proved library. The tests of the crate `bolfrega` compare
 //! the two, answer for answer, and the benchmark measures them side by side. Nothing else uses it.
@@ -18,6 +18,7 @@
 mod derivations;
 mod effect;
 mod file;
+mod gaps;
 mod judging;
 pub mod making;
 mod order;
@@ -26,6 +27,7 @@ mod writing;
 pub use derivations::recognize;
 pub use effect::Effect;
 pub use file::{read, Body, Plan, Refusal, Rule, Symbol, FIRST_REMARK};
+pub use gaps::list;
 pub use judging::judge;
 pub use order::{search, Answer, Row, Search, Verdict, ABSENT};
 pub use writing::write_run;

@@ -60,6 +60,37 @@ pub fn recognizing(file: &[u8], run: &[u8], cells: usize) -> (u64, u64, Vec<u64>
     (code, record, table)
 }
 
+/// Lists the gaps and doubles, over a buffer of `room` bytes that hold something else. Returns the code, the record, the number of entries and
+/// the buffer.
+pub fn listing(file: &[u8], room: usize) -> (u64, u64, u64, Vec<u8>) {
+    let mut list = patterned(room);
+    let (code, record, entries) = match plain::list(file, &mut list) {
+        Ok(count) => (114, 0, count as u64),
+        Err(refusal) => (refusal.number.into(), refusal.record as u64, 0),
+    };
+    let (mut their_record, mut their_entries, mut their_list) = (BEFORE, BEFORE, patterned(room));
+    let their_code = raw::list(file, &mut their_record, &mut their_entries, &mut their_list);
+    let what = || format!("listing over {room} bytes: {file:?}");
+    assert_eq!(
+        (their_code, their_record, their_entries),
+        (code, record, entries),
+        "{}",
+        what()
+    );
+    assert!(their_list == list, "the buffer after {}", what());
+    if room >= bolfrega::LIST_BYTES {
+        match bolfrega::gaps(file) {
+            Ok(gaps) => {
+                assert_eq!(gaps.len() as u64, entries, "{}", what());
+                let bytes: Vec<u8> = gaps.flat_map(|gap| [gap.stage, gap.code, gap.moves]).collect();
+                assert_eq!(bytes, list[..3 * entries as usize], "{}", what());
+            }
+            Err(refusal) => assert_eq!(shown(refusal), (code, record), "{}", what()),
+        }
+    }
+    (code, record, entries, list)
+}
+
 /// Checks a file, with a run buffer of `room` bytes. Returns the code, the details and the buffer.
 pub fn checking(file: &[u8], rows: usize, budget: u64, room: usize) -> (u64, Details, Vec<u8>) {
     let mut buffer = patterned(room);

@@ -2,21 +2,25 @@
  * Bolfrega: checks measurement plans against order sheets.
  *
  * The functions of libbolfrega.a, which `rt staticlib bolfrega` proves and writes to target/staticlib. Each is proved to give the answer
- * that document 01 settles, for every input. They keep no state, allocate nothing and call nothing but memset, so threads may call them
- * at once.
+ * that documents 01 and 02 settle, for every input. They keep no state, allocate nothing and call nothing but memset, so threads may call
+ * them at once.
  * The archive is for x86-64 Linux; link it alone: cc program.c -Iinclude target/staticlib/libbolfrega.a
  *
  * A file is a sequence of 8-byte records: a plan's rules, then the moves and finishing stages of its order sheet. A run is a sequence of
  * step codes, one to a byte. The codes from 120 to 127 are remarks: a sheet stays in its stage on each of them, and none of its moves
  * is on one. A plan's rules may use them; they count in a run's length and are written out with it.
  *
+ * Plans are exchanged in a wide form too, a sequence of 16-byte records, whose rules have bodies of at most twelve symbols in bytes 3 to 14.
+ * Byte 15 and all other bytes that are not used are 0; all else is as in 8-byte records. bolfrega_widen moves a file over, bolfrega_narrow
+ * back, and bolfrega_unfold makes the file of 8-byte records that every other call takes.
+ *
  * What every call asks of its caller:
  * - A pointer and the length after it are those of one area of memory. With length 0 the pointer may be null.
- * - `record`, `entries` and `details` are not null.
- * - `record`, `entries`, `details`, `buffer`, `table` and `list` overlap neither each other nor the file or the run.
+ * - `record`, `entries`, `length` and `details` are not null.
+ * - `record`, `entries`, `length`, `details`, `buffer`, `table`, `list` and `out` overlap neither each other nor the file or the run.
  *
  * Numbers that a call refuses with:
- *    1  The file's length is no multiple of 8.
+ *    1  The length of a file of 8-byte records is no multiple of 8.
  *    2  The file has more than 1,296 records.
  *    3  A record's kind is not 1, 2 or 3.
  *    4  A used byte is above its range.
@@ -24,13 +28,18 @@
  *    6  A record does not exceed the one before it.
  *    7  A record is the 257th rule or the 1,025th move.
  *    8  The journal has no row or more than 4,096 rows.
- *   10  The run to be written has 65,535 or more steps, or more than the buffer has bytes.
+ *   10  The run to be written has 65,535 or more steps, or more than the buffer has bytes; or the output of a move or an unfolding is shorter
+ *       than its result.
  *   11  A run given to be judged or recognized has more than 65,534 steps or a code above 127.
  *   12  A move is on a remark: its code is 120 or above.
  *   13  A run given to be recognized has more than 64 steps.
  *   14  The table for a run to be recognized does not have 2,145 cells.
  *   15  The buffer for the list of gaps and doubles has fewer than 5,760 bytes.
- * 1 and 2 are tested first, then 3, 4, 5, 12, 6, 7 record by record: the earliest record wins, and within it the earliest of these.
+ *   16  The length of a file of 16-byte records is no multiple of 16.
+ *   17  A file to be moved back has a body of more than two symbols.
+ *   18  An unfolding needs procedure 64 or a 257th rule.
+ * 1 and 2 are tested first, or 16 and 2, then 3, 4, 5, 12, 6, 7 record by record: the earliest record wins, and within it the earliest of
+ * these.
  */
 #ifndef BOLFREGA_H
 #define BOLFREGA_H
@@ -67,6 +76,14 @@ extern "C" {
 /* The list of bolfrega_list: the bytes that its buffer has at least, and of each entry: stage, code, number of moves. */
 #define BOLFREGA_LIST_BYTES 5760
 #define BOLFREGA_ENTRY_BYTES 3
+
+/* What bolfrega_widen, bolfrega_narrow and bolfrega_unfold return, unless they refuse. */
+#define BOLFREGA_CONVERTED 115
+
+/* The most bytes of a file of 16-byte and of 8-byte records. An output of BOLFREGA_WIDE_BYTES always suffices for bolfrega_widen, and one of
+ * BOLFREGA_FILE_BYTES for bolfrega_narrow and bolfrega_unfold. */
+#define BOLFREGA_WIDE_BYTES 20736
+#define BOLFREGA_FILE_BYTES 10368
 
 /* The places of bolfrega_check's details. */
 #define BOLFREGA_RECORD 0  /* the record that is refused */
@@ -130,6 +147,46 @@ uint64_t bolfrega_recognize(const uint8_t *file, size_t file_length, const uint8
  * It keeps tables of about 4 KiB on the stack.
  */
 uint64_t bolfrega_list(const uint8_t *file, size_t file_length, uint64_t *record, uint64_t *entries, uint8_t *list, size_t list_length);
+
+/*
+ * Moves a file of 8-byte records over to 16 bytes: each record with eight zeros behind it.
+ *
+ * Returns 1 to 7 or 12 if the file is refused; else 10 if the output has fewer bytes than the result, which has twice those of the file;
+ * else BOLFREGA_CONVERTED.
+ * Sets *record as bolfrega_refusal does: to 0 if it returns anything but 3 to 7 or 12. Sets *length to the length of the result in bytes, and
+ * to 0 if it refuses.
+ *
+ * The first *length bytes of the output become the result. All other bytes of the output keep their values, and so do all of them if the call
+ * is refused. bolfrega_narrow and bolfrega_unfold both give the file's own bytes again.
+ */
+uint64_t bolfrega_widen(const uint8_t *file, size_t file_length, uint64_t *record, uint64_t *length, uint8_t *out, size_t out_length);
+
+/*
+ * Moves a file of 16-byte records back to 8 bytes. No body may have more than two symbols.
+ *
+ * Returns 16, 2 to 7 or 12 if the file is refused; else 17 if some body has more than two symbols; else 10 if the output has fewer bytes than
+ * the result, which has half of those of the file; else BOLFREGA_CONVERTED.
+ * Sets *record to the number of the record at fault, from 0, if it returns 3 to 7 or 12, and else to 0. Sets *length, and the output, as
+ * bolfrega_widen does. bolfrega_widen gives the file's own bytes again.
+ */
+uint64_t bolfrega_narrow(const uint8_t *file, size_t file_length, uint64_t *record, uint64_t *length, uint8_t *out, size_t out_length);
+
+/*
+ * Unfolds a file of 16-byte records to one of 8 bytes, which passes the file checks of every other call.
+ *
+ * A body of more than two symbols becomes its first symbol and a chain procedure, whose one rule gives the rest; and so on, until two symbols
+ * are left. Each body has chain procedures of its own. They are numbered one after the other, in file order and left to right, from one above
+ * the highest procedure that is the head or a symbol of any rule. All rules are then put in file order, before the same moves and finishing
+ * stages. Each procedure of the file derives the same runs in the result; the joins, rows and passes of a check are those of the result.
+ *
+ * Returns 16, 2 to 7 or 12 if the file is refused; else 18 if the result would need procedure 64 or a 257th rule; else 10 if the output has
+ * fewer bytes than the result; else BOLFREGA_CONVERTED.
+ * Sets *record to the number of the record at fault, from 0, if it returns 3 to 7 or 12, and else to 0. Sets *length, and the output, as
+ * bolfrega_widen does.
+ *
+ * It keeps a table of about 2 KiB on the stack.
+ */
+uint64_t bolfrega_unfold(const uint8_t *file, size_t file_length, uint64_t *record, uint64_t *length, uint8_t *out, size_t out_length);
 
 /*
  * Checks a file's plan against its order sheet, with a journal of `rows` rows and a budget of `budget` joins.

@@ -1,10 +1,11 @@
 //! The proved check beside the plain Rust implementation, on the same files in one run.
 //!
 //! `bench` measures and prints; `bench NAME..` only the files named, `bench --runs` only the recognizing of recorded runs, `bench
-//! --lists` only the listing of gaps and doubles. `bench --agree` only checks that both agree on every file, and `bench --files DIR` writes the
-//! files.
+//! --lists` only the listing of gaps and doubles, `bench --forms` only the moving and unfolding of sixteen-byte records. `bench --agree` only
+//! checks that both agree on every file, and `bench --files DIR` writes the files.
 
 mod files;
+mod forms;
 mod lists;
 mod runs;
 mod timing;
@@ -24,9 +25,11 @@ fn main() -> ExitCode {
         [] => table(&files::all())
             .and_then(|()| growth())
             .and_then(|()| runs::table())
-            .and_then(|()| lists::table()),
+            .and_then(|()| lists::table())
+            .and_then(|()| forms::table()),
         ["--runs"] => runs::agree().and_then(|_| runs::table()),
         ["--lists"] => lists::agree().and_then(|_| lists::table()),
+        ["--forms"] => forms::agree().and_then(|_| forms::table()),
         ["--agree"] => all_agree(),
         ["--files", folder] => write_files(Path::new(folder)).map_err(|error| format!("{folder}: {error}")),
         ref names => named(names).and_then(|cases| table(&cases)),
@@ -43,8 +46,9 @@ fn main() -> ExitCode {
 /// The files with these names.
 fn named(names: &[&str]) -> Result<Vec<Case>, String> {
     let find = |name: &&str| files::all().into_iter().find(|case| case.name == *name);
-    let unknown =
-        |name: &&str| format!("there is no file {name}; usage: bench [NAME.. | --runs | --lists | --agree | --files DIR]");
+    let unknown = |name: &&str| {
+        format!("there is no file {name}; usage: bench [NAME.. | --runs | --lists | --forms | --agree | --files DIR]")
+    };
     names.iter().map(|name| find(name).ok_or_else(|| unknown(name))).collect()
 }
 
@@ -57,6 +61,7 @@ fn all_agree() -> Result<(), String> {
     println!("bench: both checks agree on {} files", cases.len());
     println!("bench: both agree on the runs of {} files", runs::agree()?);
     println!("bench: both agree on the lists of {} files", lists::agree()?);
+    println!("bench: both agree on moving and unfolding {} files", forms::agree()?);
     Ok(())
 }
 

@@ -2,8 +2,9 @@
 //!
 //! A *plan* is a context-free grammar of procedures, an *order sheet* a finite automaton over the same step codes. Both stand in one
 //! file of 8-byte records. [`check`] says whether the sheet accepts every run of the plan, and if not it shows a run that is turned
-//! away; it also says where a plan has no run at all. The work is done by a library that is proved: each call is proved to give the answer that document 01 settles, for every
-//! input. This crate only brings its answers into Rust's types. It never panics on an input, however damaged.
+//! away; it also says where a plan has no run at all. The work is done by a library that is proved: each call is proved to give the
+//! answer that documents 01 and 02 settle, for every input. This crate only brings its answers into Rust's types. It never panics on
+//! an input, however damaged.
 //!
 //! ```
 //! use bolfrega::{check, Verdict};
@@ -35,6 +36,13 @@
 //! The step codes from 120 to 127 are *remarks*, notes between steps: a sheet stays in its stage on each of them, and none of its moves is on
 //! one ([`Refusal::Remark`]). A plan's rules may use them; they count in a run's length and are written out with it.
 //!
+//! # Sixteen-byte records
+//!
+//! Field offices exchange plans in a wider form too, in which a body has up to twelve symbols: byte 0 the kind; of a rule byte 1 the procedure,
+//! byte 2 the body's length, bytes 3 to 14 its symbols; of a move and a finishing stage the same bytes as in eight. Byte 15 and all other
+//! bytes that are not used are 0. Records rise strictly, and the limits are the same: 1,296 records, 256 rules, 1,024 moves. [`widen`] moves a
+//! file over, [`narrow`] back, and [`unfold`] makes the eight-byte file that all other calls take.
+//!
 //! # Linking
 //!
 //! The build links `libbolfrega.a` from the folder in `BOLFREGA_LIB_DIR`, or from `../target/staticlib`, where
@@ -53,10 +61,12 @@ mod gaps;
 pub mod raw;
 mod recognizing;
 mod refusal;
+mod wide;
 
 pub use gaps::{gaps, Gap, Gaps, LIST_BYTES};
 pub use recognizing::{recognize, Derivations, CELLS, MOST_STEPS};
 pub use refusal::Refusal;
+pub use wide::{narrow, narrow_into, unfold, unfold_into, widen, widen_into, FILE_BYTES, WIDE_BYTES};
 
 /// The most rows that a check's journal may have.
 pub const MOST_ROWS: usize = 4_096;

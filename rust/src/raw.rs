@@ -28,6 +28,8 @@ pub const DERIVED: u64 = 112;
 pub const NOT_DERIVED: u64 = 113;
 /// [`list`]: the gaps and doubles are listed.
 pub const LISTED: u64 = 114;
+/// [`widen`], [`narrow`], [`unfold`]: the result is in the output.
+pub const CONVERTED: u64 = 115;
 
 /// What a check fills in: record, joins, used, pass, row, pairs, length, refused.
 pub type Details = [u64; 8];
@@ -55,6 +57,30 @@ mod c {
             entries: *mut u64,
             list: *mut u8,
             list_length: usize,
+        ) -> u64;
+        pub fn bolfrega_widen(
+            file: *const u8,
+            file_length: usize,
+            record: *mut u64,
+            length: *mut u64,
+            out: *mut u8,
+            out_length: usize,
+        ) -> u64;
+        pub fn bolfrega_narrow(
+            file: *const u8,
+            file_length: usize,
+            record: *mut u64,
+            length: *mut u64,
+            out: *mut u8,
+            out_length: usize,
+        ) -> u64;
+        pub fn bolfrega_unfold(
+            file: *const u8,
+            file_length: usize,
+            record: *mut u64,
+            length: *mut u64,
+            out: *mut u8,
+            out_length: usize,
         ) -> u64;
         pub fn bolfrega_check(
             file: *const u8,
@@ -99,6 +125,30 @@ pub fn list(file: &[u8], record: &mut u64, entries: &mut u64, list: &mut [u8]) -
     let (pointer, length) = (list.as_mut_ptr(), list.len());
     // SAFETY: each pointer and length are those of one slice, and `record`, `entries` and `list` are lent to this call alone.
     unsafe { c::bolfrega_list(file.as_ptr(), file.len(), record, entries, pointer, length) }
+}
+
+/// [`CONVERTED`] or the number of a refusal; `record` becomes the record's number, `length` the length of the result, and the front of `out` the
+/// file in sixteen-byte records.
+pub fn widen(file: &[u8], record: &mut u64, length: &mut u64, out: &mut [u8]) -> u64 {
+    let (pointer, room) = (out.as_mut_ptr(), out.len());
+    // SAFETY: each pointer and length are those of one slice, and `record`, `length` and `out` are lent to this call alone.
+    unsafe { c::bolfrega_widen(file.as_ptr(), file.len(), record, length, pointer, room) }
+}
+
+/// [`CONVERTED`] or the number of a refusal; `record` becomes the record's number, `length` the length of the result, and the front of `out` the
+/// file in eight-byte records.
+pub fn narrow(file: &[u8], record: &mut u64, length: &mut u64, out: &mut [u8]) -> u64 {
+    let (pointer, room) = (out.as_mut_ptr(), out.len());
+    // SAFETY: each pointer and length are those of one slice, and `record`, `length` and `out` are lent to this call alone.
+    unsafe { c::bolfrega_narrow(file.as_ptr(), file.len(), record, length, pointer, room) }
+}
+
+/// [`CONVERTED`] or the number of a refusal; `record` becomes the record's number, `length` the length of the result, and the front of `out` the
+/// unfolded file, in eight-byte records.
+pub fn unfold(file: &[u8], record: &mut u64, length: &mut u64, out: &mut [u8]) -> u64 {
+    let (pointer, room) = (out.as_mut_ptr(), out.len());
+    // SAFETY: each pointer and length are those of one slice, and `record`, `length` and `out` are lent to this call alone.
+    unsafe { c::bolfrega_unfold(file.as_ptr(), file.len(), record, length, pointer, room) }
 }
 
 /// [`HOLDS`], [`BROKEN`], [`FULL`], [`SPENT`], [`EMPTY`] or the number of a refusal; fills in `details`, and writes the run of a broken

@@ -3,10 +3,10 @@
 use std::error::Error;
 use std::fmt;
 
-/// Why a call refused. Each case is one of document 01's numbers, or C-11's 12; 3 to 7 and 12 name the first record at fault,
+/// Why a call refused. Each case is one of the numbers of documents 01 and 02; 3 to 7 and 12 name the first record at fault,
 /// counted from 0.
 ///
-/// The numbers 9, 16 and above belong to calls that this library doesn't have.
+/// The numbers 9, 19 and above belong to calls that this library doesn't have.
 ///
 /// ```
 /// use bolfrega::Refusal;
@@ -21,7 +21,7 @@ use std::fmt;
 #[non_exhaustive]
 #[allow(missing_docs)] // the field `record` is the same in each case, as said above
 pub enum Refusal {
-    /// 1: the file's length is no multiple of 8.
+    /// 1: the length of a file of eight-byte records is no multiple of 8.
     Length,
     /// 2: the file has more than 1,296 records.
     Records,
@@ -37,7 +37,8 @@ pub enum Refusal {
     Count { record: u64 },
     /// 8: the journal has no row or more than 4,096 rows.
     Journal,
-    /// 10: the run to be written has 65,535 or more steps, or more than the buffer has bytes.
+    /// 10: the run to be written has 65,535 or more steps, or more than the buffer has bytes; or the output of a move or an unfolding is
+    /// shorter than its result.
     Room,
     /// 11: a run given to be judged or recognized has more than 65,534 steps or a code above 127.
     Run,
@@ -49,10 +50,16 @@ pub enum Refusal {
     Table,
     /// 15: the buffer for the list of gaps and doubles has fewer than 5,760 bytes.
     List,
+    /// 16: the length of a file of sixteen-byte records is no multiple of 16.
+    WideLength,
+    /// 17: a file to be moved back has a body of more than two symbols.
+    LongBody,
+    /// 18: an unfolding needs procedure 64 or a 257th rule.
+    Chains,
 }
 
 impl Refusal {
-    /// Document 01's number.
+    /// The papers' number.
     pub fn number(self) -> u64 {
         match self {
             Refusal::Length => 1,
@@ -69,6 +76,9 @@ impl Refusal {
             Refusal::LongRun => 13,
             Refusal::Table => 14,
             Refusal::List => 15,
+            Refusal::WideLength => 16,
+            Refusal::LongBody => 17,
+            Refusal::Chains => 18,
         }
     }
 
@@ -88,7 +98,10 @@ impl Refusal {
             | Refusal::Run
             | Refusal::LongRun
             | Refusal::Table
-            | Refusal::List => None,
+            | Refusal::List
+            | Refusal::WideLength
+            | Refusal::LongBody
+            | Refusal::Chains => None,
         }
     }
 
@@ -109,6 +122,9 @@ impl Refusal {
             13 => Refusal::LongRun,
             14 => Refusal::Table,
             15 => Refusal::List,
+            16 => Refusal::WideLength,
+            17 => Refusal::LongBody,
+            18 => Refusal::Chains,
             _ => return None,
         })
     }
@@ -124,12 +140,17 @@ impl Refusal {
             Refusal::Order { .. } => "it does not exceed the record before it",
             Refusal::Count { .. } => "it is the 257th rule or the 1,025th move",
             Refusal::Journal => "the journal has no row or more than 4,096 rows",
-            Refusal::Room => "the run has 65,535 or more steps, or more than the buffer has bytes",
+            Refusal::Room => {
+                "the run has 65,535 or more steps or more than the buffer has bytes, or the output is shorter than the result"
+            }
             Refusal::Run => "the run has more than 65,534 steps or a code above 127",
             Refusal::Remark { .. } => "it is a move on a remark, a code of 120 or above",
             Refusal::LongRun => "the run has more than 64 steps",
             Refusal::Table => "the table does not have 2,145 cells",
             Refusal::List => "the buffer for the list has fewer than 5,760 bytes",
+            Refusal::WideLength => "the file's length is no multiple of 16",
+            Refusal::LongBody => "a body has more than two symbols",
+            Refusal::Chains => "the unfolding needs procedure 64 or a 257th rule",
         }
     }
 }

@@ -2,7 +2,7 @@
 
 mod common;
 
-use common::{checking, judging, reading, valid_file, Size};
+use common::{checking, damage, judging, reading, valid_file, Size};
 use plain::making::Numbers;
 use plain::FIRST_REMARK;
 
@@ -91,21 +91,6 @@ fn lengths_that_are_no_multiple_of_eight() {
     }
 }
 
-/// Damages a file in one of the ways in which copies go wrong.
-fn damage(numbers: &mut Numbers, file: &mut Vec<u8>) {
-    let at = numbers.below(file.len());
-    let whole = |number: usize| 8 * number..8 * number + 8;
-    let (one, other) = (numbers.below(file.len() / 8), numbers.below(file.len() / 8));
-    match numbers.below(6) {
-        0 => file[at] = numbers.byte(256),
-        1 => file[at] ^= 1 << numbers.below(8),
-        2 => file.truncate(at),
-        3 => drop(file.splice(at..at, [0])),
-        4 => drop(file.splice(8 * one..8 * one, file[whole(one)].to_vec())),
-        _ => whole(one).zip(whole(other)).for_each(|(x, y)| file.swap(x, y)),
-    }
-}
-
 #[test]
 fn damaged_at_random() {
     let mut numbers = Numbers::new(1);
@@ -120,7 +105,7 @@ fn damaged_at_random() {
         let mut file = valid_file(&mut numbers, size);
         for _ in 0..1 + numbers.below(2) {
             if file.len() >= 8 {
-                damage(&mut numbers, &mut file);
+                damage(&mut numbers, &mut file, 8);
             }
         }
         seen[every_call(&file).0 as usize] += 1;

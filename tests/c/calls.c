@@ -165,6 +165,95 @@ static void lists(void)
     EXPECT(list[0] == 0 && list[1] == 2 && list[2] == 0 && list[17] == 0 && list[18] == 0xee);
 }
 
+typedef uint64_t conversion(const uint8_t *, size_t, uint64_t *, uint64_t *, uint8_t *, size_t);
+
+/* Converts a file over places that hold something else. Returns whether it gave this code, record, length and result, and left every other
+ * byte of the output as it was. */
+static int converts(conversion *call, const uint8_t *file, size_t file_length, size_t room, uint64_t code, uint64_t record,
+                    const uint8_t *result, size_t length)
+{
+    static uint8_t out[BOLFREGA_WIDE_BYTES + 8];
+    uint64_t said_record = 77, said_length = 77;
+    memset(out, 0xee, sizeof out);
+    if (call(file, file_length, &said_record, &said_length, out, room) != code || said_record != record || said_length != length)
+        return 0;
+    for (size_t i = 0; i < sizeof out; i++)
+        if (out[i] != (i < length ? result[i] : 0xee))
+            return 0;
+    return 1;
+}
+
+static void conversions(void)
+{
+    /* 0 gives 1 (procedure 1) 3 and the remark 120; 1 gives nothing, or 1 3 and the remark: equal rests are not shared. */
+    static const uint8_t wide[] = {
+        1, 0, 4, 1, 129, 3,   120, 0, 0, 0, 0, 0, 0, 0, 0, 0, /* takes chain procedures 2 and 3 */
+        1, 1, 0, 0, 0,   0,   0,   0, 0, 0, 0, 0, 0, 0, 0, 0,
+        1, 1, 3, 1, 3,   120, 0,   0, 0, 0, 0, 0, 0, 0, 0, 0, /* takes chain procedure 4 */
+        2, 0, 1, 1, 0,   0,   0,   0, 0, 0, 0, 0, 0, 0, 0, 0, /* from stage 0 on code 1 to stage 1 */
+        3, 2, 0, 0, 0,   0,   0,   0, 0, 0, 0, 0, 0, 0, 0, 0, /* stage 2 is finishing */
+    };
+    static const uint8_t unfolded[] = {
+        1, 0, 2, 1,   130, 0, 0, 0, /* 0 gives 1 (procedure 2) */
+        1, 1, 0, 0,   0,   0, 0, 0, /* 1 gives nothing */
+        1, 1, 2, 1,   132, 0, 0, 0, /* 1 gives 1 (procedure 4) */
+        1, 2, 2, 129, 131, 0, 0, 0, /* 2 gives (procedure 1) (procedure 3) */
+        1, 3, 2, 3,   120, 0, 0, 0, /* 3 gives 3 120 */
+        1, 4, 2, 3,   120, 0, 0, 0, /* 4 gives 3 120 */
+        2, 0, 1, 1,   0,   0, 0, 0,
+        3, 2, 0, 0,   0,   0, 0, 0,
+    };
+    const size_t n = sizeof wide, u = sizeof unfolded, most = BOLFREGA_WIDE_BYTES;
+    EXPECT(converts(bolfrega_unfold, wide, n, u, BOLFREGA_CONVERTED, 0, unfolded, u));
+    EXPECT(converts(bolfrega_unfold, wide, n, u + 1, BOLFREGA_CONVERTED, 0, unfolded, u));
+    EXPECT(converts(bolfrega_unfold, wide, n, u - 1, 10, 0, NULL, 0));
+    EXPECT(converts(bolfrega_unfold, wide, n - 8, 0, 16, 0, NULL, 0));
+    EXPECT(converts(bolfrega_narrow, wide, n, 0, 17, 0, NULL, 0));
+    EXPECT(converts(bolfrega_narrow, wide, n - 1, 0, 16, 0, NULL, 0));
+
+    /* Over and back; a file that was moved over unfolds to itself. */
+    static uint8_t moved[2 * sizeof plan_b];
+    for (size_t i = 0; i < sizeof plan_b; i++)
+        moved[i / 8 * 16 + i % 8] = plan_b[i];
+    EXPECT(converts(bolfrega_widen, plan_b, sizeof plan_b, sizeof moved, BOLFREGA_CONVERTED, 0, moved, sizeof moved));
+    EXPECT(converts(bolfrega_widen, plan_b, sizeof plan_b, sizeof moved - 1, 10, 0, NULL, 0));
+    EXPECT(converts(bolfrega_widen, plan_b, 7, 0, 1, 0, NULL, 0));
+    EXPECT(converts(bolfrega_narrow, moved, sizeof moved, sizeof plan_b, BOLFREGA_CONVERTED, 0, plan_b, sizeof plan_b));
+    EXPECT(converts(bolfrega_narrow, moved, sizeof moved, sizeof plan_b - 1, 10, 0, NULL, 0));
+    EXPECT(converts(bolfrega_unfold, moved, sizeof moved, most, BOLFREGA_CONVERTED, 0, plan_b, sizeof plan_b));
+
+    /* The empty file, with nothing lent. */
+    uint64_t record = 77, length = 77;
+    EXPECT(bolfrega_widen(NULL, 0, &record, &length, NULL, 0) == BOLFREGA_CONVERTED && record == 0 && length == 0);
+    record = length = 77;
+    EXPECT(bolfrega_narrow(NULL, 0, &record, &length, NULL, 0) == BOLFREGA_CONVERTED && record == 0 && length == 0);
+    record = length = 77;
+    EXPECT(bolfrega_unfold(NULL, 0, &record, &length, NULL, 0) == BOLFREGA_CONVERTED && record == 0 && length == 0);
+
+    /* The records of the new form: a body of thirteen, byte 15, a move on a remark, two that are the same; and 18. */
+    uint8_t damaged[sizeof wide];
+    memcpy(damaged, wide, sizeof wide);
+    damaged[16 * 4 + 15] = 1;
+    EXPECT(converts(bolfrega_unfold, damaged, n, 0, 5, 4, NULL, 0));
+    EXPECT(converts(bolfrega_narrow, damaged, n, 0, 5, 4, NULL, 0));
+    damaged[16 * 3 + 2] = 120;
+    EXPECT(converts(bolfrega_unfold, damaged, n, 0, 12, 3, NULL, 0));
+    damaged[16 * 2 + 2] = 13;
+    EXPECT(converts(bolfrega_unfold, damaged, n, 0, 4, 2, NULL, 0));
+    memcpy(damaged + 16, damaged, 16);
+    EXPECT(converts(bolfrega_unfold, damaged, n, 0, 6, 1, NULL, 0));
+    memcpy(damaged, wide, sizeof wide);
+    damaged[16 * 1 + 1] = damaged[16 * 2 + 1] = 63;
+    EXPECT(converts(bolfrega_unfold, damaged, n, 0, 18, 0, NULL, 0));
+
+    static const uint8_t many[16 * 1297];
+    EXPECT(converts(bolfrega_unfold, many, sizeof many, 0, 2, 0, NULL, 0));
+    EXPECT(converts(bolfrega_narrow, many, sizeof many, 0, 2, 0, NULL, 0));
+    EXPECT(converts(bolfrega_narrow, many, sizeof many - 16, 0, 3, 0, NULL, 0));
+    EXPECT(converts(bolfrega_widen, many, 8 * 1297, 0, 2, 0, NULL, 0));
+    EXPECT(BOLFREGA_WIDE_BYTES == 16 * 1296 && BOLFREGA_FILE_BYTES == 8 * 1296);
+}
+
 static void checks(void)
 {
     uint8_t plan_a[sizeof plan_b - 8];
@@ -219,6 +308,7 @@ int main(void)
     judgements();
     recognitions();
     lists();
+    conversions();
     checks();
     return failures != 0;
 }

@@ -42,12 +42,21 @@ listedCode = 114
 abbrev pub listingCode : ℕ → ℕ
 listingCode n = listedCode
 
--- the count of entries; 0 where the call is refused
-abbrev pub entriesIn : Reply ℕ → ℕ
-entriesIn (refused r) = 0
-entriesIn (answered n) = n
+-- ---- a file in the other form, or unfolded
+
+abbrev pub convertedCode : ℕ
+convertedCode = 115
+
+-- the same number for every length of the result
+abbrev pub conversionCode : ℕ → ℕ
+conversionCode n = convertedCode
 
 -- ---- replies
+
+-- the count of entries, or the length of a result; 0 where the call is refused
+abbrev pub sizeIn : Reply ℕ → ℕ
+sizeIn (refused r) = 0
+sizeIn (answered n) = n
 
 -- the number of the refused record; 0 where no record is refused
 abbrev pub placeIn : {A : Type 0} → Reply A → ℕ

@@ -10,9 +10,13 @@ use Rattle.spec_calls.specs.Judging.{judgeOf, JudgementMeans}
 use Rattle.spec_calls.specs.Recognizing.{recognizeOf, RecognizeMeans}
 use Rattle.spec_calls.specs.Listing.{listOf, listAfter, ListMeans}
 use Rattle.spec_calls.specs.Codes.{codeBy}
+use Rattle.spec_calls.specs.Replies.{Reply}
+use Rattle.spec_unfold.specs.Calls.{widenOf, widenAfter, narrowOf, narrowAfter, unfoldOf, unfoldAfter}
+use Rattle.spec_unfold.specs.MovingMeans.{WidenMeans, NarrowMeans}
+use Rattle.spec_unfold.specs.UnfoldingMeans.{UnfoldMeans}
 use Rattle.host_check.specs.Details.{zeroRow}
 use Rattle.host_check.specs.Contracts.{ChecksBy}
-use Rattle.bolfrega.specs.Codes.{judgementCode, derivationCode, listingCode, entriesIn, placeIn}
+use Rattle.bolfrega.specs.Codes.{judgementCode, derivationCode, listingCode, conversionCode, sizeIn, placeIn}
 
 -- r is the number that refuses the file bs, or 0, and i the number of the refused record
 pub record Refuses (bs : List ℕ) (r i : ℕ) : Type 0 where
@@ -37,11 +41,36 @@ pub record Recognizes (bs w before after : List ℕ) (r i : ℕ) : Type 0 where
 pub record ListsGaps (bs old new : List ℕ) (r i n : ℕ) : Type 0 where
   pub code : r ≡ codeBy listingCode (listOf bs (length old))
   pub place : i ≡ placeIn (listOf bs (length old))
-  pub entries : n ≡ entriesIn (listOf bs (length old))
+  pub entries : n ≡ sizeIn (listOf bs (length old))
   -- the entries, and then the old bytes; the old bytes whole on a refusal
   pub buffer : new ≡ listAfter bs old
   -- just the gaps and doubles of the sheet, in their order, and one path where there is none
   pub meaning : ListMeans bs old new (listOf bs (length old))
+
+-- the reply x to a move or an unfolding, told as the number r, the record's number i and the result's length n
+pub record ToldMove (x : Reply ℕ) (r i n : ℕ) : Type 0 where
+  pub code : r ≡ codeBy conversionCode x
+  pub place : i ≡ placeIn x
+  pub size : n ≡ sizeIn x
+
+-- told so, where the output held new after the call, and it was to hold `after`; what both mean is `means`
+pub record Converts (x : Reply ℕ) (after : List ℕ) (means : List ℕ → Reply ℕ → Type 0) (new : List ℕ) (r i n : ℕ) : Type 0 where
+  pub told : ToldMove x r i n
+  -- the result, and then the old bytes; the old bytes whole on a refusal
+  pub output : new ≡ after
+  pub meaning : means new x
+
+-- moved over: the new file says what bs says, and moves back to it
+abbrev pub WidensFile : List ℕ → List ℕ → List ℕ → ℕ → ℕ → ℕ → Type 0
+WidensFile bs old new r i n = Converts (widenOf bs (length old)) (widenAfter bs old) (WidenMeans bs old) new r i n
+
+-- moved back
+abbrev pub NarrowsFile : List ℕ → List ℕ → List ℕ → ℕ → ℕ → ℕ → Type 0
+NarrowsFile bs old new r i n = Converts (narrowOf bs (length old)) (narrowAfter bs old) (NarrowMeans bs old) new r i n
+
+-- unfolded, for procedure 0: the chains, the same runs, and a check of the result as one of the file
+abbrev pub UnfoldsFile : List ℕ → List ℕ → List ℕ → ℕ → ℕ → ℕ → Type 0
+UnfoldsFile bs old new r i n = Converts (unfoldOf 0 bs (length old)) (unfoldAfter 0 bs old) (UnfoldMeans 0 bs old) new r i n
 
 -- J rows of zeros
 unfoldable pub zeroRows : ℕ → List (Row ℕ)

@@ -11,7 +11,7 @@ use Rattle.spec_calls.specs.Codes.{firstAnswerCode, codeBy}
 use Rattle.spec_calls.specs.Listing.{gapsOf, listRefusals, listOf, ListShows, ListMeans}
 use Rattle.call_gaps.specs.ListLaws.{refused-by, answered-by}
 use Rattle.host_result.specs.LowNumbers.{low-high, LowIn, list-low}
-use Rattle.bolfrega.specs.Codes.{listedCode, listingCode, entriesIn, placeIn}
+use Rattle.bolfrega.specs.Codes.{listedCode, listingCode, sizeIn, placeIn}
 use Rattle.bolfrega.specs.Contracts.{ListsGaps}
 use Rattle.bolfrega.specs.Hosts.{ListTells}
 
@@ -27,7 +27,7 @@ module _ (bs old new : List ℕ) (r i n : ℕ) (h : ListsGaps bs old new r i n) 
       record {
         refused-exactly = (λ l. k, λ m. low);
         refused-first = λ l. (number-is, h .place ∙ ap placeIn e);
-        none-counted = λ l. h .entries ∙ ap entriesIn e;
+        none-counted = λ l. h .entries ∙ ap sizeIn e;
         buffer-kept = λ l. subst (ListMeans bs old new) e (h .meaning);
         listed-number = λ t. absurd (low-high low t);
         list-shows = λ t. absurd (low-high low t);
@@ -40,7 +40,7 @@ module _ (bs old new : List ℕ) (r i n : ℕ) (h : ListsGaps bs old new r i n) 
     none-counted = λ l. absurd (low-high l high);
     buffer-kept = λ l. absurd (low-high l high);
     listed-number = λ t. number-is;
-    list-shows = λ t. subst (ListShows bs old new) (sym (h .entries ∙ ap entriesIn e)) (subst (ListMeans bs old new) e (h .meaning));
+    list-shows = λ t. subst (ListShows bs old new) (sym (h .entries ∙ ap sizeIn e)) (subst (ListMeans bs old new) e (h .meaning));
   }
     where
       e : listOf bs (length old) ≡ answered (length (gapsOf bs))

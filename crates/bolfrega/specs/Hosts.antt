@@ -11,7 +11,7 @@ use Rattle.spec_language.specs.Grammar.{initial}
 use Rattle.spec_language.specs.Spelling.{DerivesWithin}
 use Rattle.spec_language.specs.Automaton.{Accepts, TurnsAway}
 use Rattle.spec_language.specs.WordRelation.{wordRelation}
-use Rattle.spec_file.specs.Refusals.{firstOf, recordNumbers, fileNumbers, fault}
+use Rattle.spec_file.specs.Refusals.{Refusal, firstOf, recordNumbers, fileNumbers, fault}
 use Rattle.spec_file.specs.Views.{rulesOf, productionsOf, automatonOf}
 use Rattle.spec_order.specs.Stopping.{Stops}
 use Rattle.spec_order.specs.Journal.{absent, capped}
@@ -22,10 +22,13 @@ use Rattle.spec_calls.specs.DemandThree.{Derivable, SomeDerivable, NoneDerivabl
 use Rattle.spec_calls.specs.Judging.{wordFault}
 use Rattle.spec_calls.specs.Recognizing.{TableShows, recognizeRefusals}
 use Rattle.spec_calls.specs.Listing.{listRefusals, ListShows}
+use Rattle.spec_unfold.specs.Calls.{widenRefusals, narrowRefusals, unfoldRefusals}
+use Rattle.spec_unfold.specs.MovingMeans.{WidenShows, NarrowShows}
+use Rattle.spec_unfold.specs.UnfoldingMeans.{UnfoldShows}
 use Rattle.spec_calls.specs.Replies.{answered}
 use Rattle.spec_calls.specs.Writing.{longWord}
 use Rattle.spec_calls.specs.Codes.{firstAnswerCode, holdsCode, brokenCode, fullCode, spentCode, emptyCode}
-use Rattle.bolfrega.specs.Codes.{acceptedCode, turnedAwayCode, derivedCode, notDerivedCode, listedCode}
+use Rattle.bolfrega.specs.Codes.{acceptedCode, turnedAwayCode, derivedCode, notDerivedCode, listedCode, convertedCode}
 use Rattle.bolfrega.specs.Contracts.{Judges, ChecksZeros}
 
 -- ---- what is refused
@@ -79,6 +82,31 @@ pub record ListTells (bs old new : List ℕ) (r i n : ℕ) : Type 0 where
   -- from 100 on it is 114, and the buffer shows the n gaps and doubles of the sheet
   pub listed-number : firstAnswerCode ≤ r → r ≡ listedCode
   pub list-shows : firstAnswerCode ≤ r → ListShows bs old new n
+
+-- ---- moving and unfolding: the number r, the record i, the length n and the output, old before and new after, that a call gave, which any of
+-- `refusals` may refuse, and whose answer n is to show `shows n`
+
+pub record ConvertTells (refusals : List Refusal) (shows : ℕ → Type 0) (old new : List ℕ) (r i n : ℕ) : Type 0 where
+  -- below 100 the call was refused: by the first of the refusals; there is no result, and the output is as it was
+  pub refused-exactly : (r < firstAnswerCode) ↔ (firstOf refusals .number ≡ 0 → ⊥)
+  pub refused-first : r < firstAnswerCode → (r ≡ firstOf refusals .number) × (i ≡ firstOf refusals .place)
+  pub no-length : r < firstAnswerCode → n ≡ 0
+  pub output-kept : r < firstAnswerCode → new ≡ old
+  -- from 100 on it is 115, and the first n bytes of the output are the result
+  pub converted-number : firstAnswerCode ≤ r → r ≡ convertedCode
+  pub result-shows : firstAnswerCode ≤ r → shows n
+
+-- bolfrega_widen: refused by the file, else 10
+abbrev pub WidenTells : List ℕ → List ℕ → List ℕ → ℕ → ℕ → ℕ → Type 0
+WidenTells bs old new r i n = ConvertTells (widenRefusals bs (length old)) (WidenShows bs old new) old new r i n
+
+-- bolfrega_narrow: refused by the file in the new form, else 17, else 10
+abbrev pub NarrowTells : List ℕ → List ℕ → List ℕ → ℕ → ℕ → ℕ → Type 0
+NarrowTells bs old new r i n = ConvertTells (narrowRefusals bs (length old)) (NarrowShows bs old new) old new r i n
+
+-- bolfrega_unfold: refused by the file in the new form, else 18, else 10
+abbrev pub UnfoldTells : List ℕ → List ℕ → List ℕ → ℕ → ℕ → ℕ → Type 0
+UnfoldTells bs old new r i n = ConvertTells (unfoldRefusals 0 bs (length old)) (UnfoldShows 0 bs old new) old new r i n
 
 -- ---- the eight details of bolfrega_check, in the header's order
 

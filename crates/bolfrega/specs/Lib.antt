@@ -8,6 +8,7 @@ pub mod HostReplies
 pub mod HostJudging
 pub mod HostRecognizing
 pub mod HostListing
+pub mod HostConverting
 pub mod HostShows
 pub mod HostStays
 pub mod HostTruth

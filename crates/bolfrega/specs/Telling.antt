@@ -16,8 +16,12 @@ use Rattle.spec_calls.specs.Listing.{listOf, ListMeans}
 use Rattle.call_gaps.specs.declared.Listed.{Listed}
 use Rattle.call_gaps.specs.Answers.{listedOf, Lists}
 use Rattle.spec_calls.specs.Codes.{codeBy}
-use Rattle.bolfrega.specs.Codes.{judgementCode, derivationCode, listingCode, entriesIn, placeIn}
-use Rattle.bolfrega.specs.Contracts.{Refuses, Judges, Recognizes, ListsGaps}
+use Rattle.spec_calls.specs.Replies.{Reply}
+use Rattle.call_move.specs.declared.Moved.{Moved}
+use Rattle.call_move.specs.Answers.{movedOf, Widens, Narrows}
+use Rattle.call_unfold.specs.Answers.{Unfolds}
+use Rattle.bolfrega.specs.Codes.{judgementCode, derivationCode, listingCode, conversionCode, sizeIn, placeIn}
+use Rattle.bolfrega.specs.Contracts.{Refuses, Judges, Recognizes, ListsGaps, ToldMove, Converts, WidensFile, NarrowsFile, UnfoldsFile}
 
 -- the file's refusal
 pub refuses : (bs : List ℕ) (x : RefusalAnswer) → refusalOf x ≡ fault bs → Refuses bs (x .number) (x .place)
@@ -38,7 +42,29 @@ recognizes bs w before after x y j q =
 
 -- the answer x on the sheet, which is y
 pub lists-gaps : (bs old new : List ℕ) (x y : Listed) → Lists bs old new x → x ≡ y
-    → ListsGaps bs old new (codeBy listingCode (listedOf y)) (placeIn (listedOf y)) (entriesIn (listedOf y))
+    → ListsGaps bs old new (codeBy listingCode (listedOf y)) (placeIn (listedOf y)) (sizeIn (listedOf y))
 lists-gaps bs old new x y j q =
     let e : listedOf y ≡ listOf bs (length old) = ap listedOf (sym q) ∙ j .answer in
-    record { code = ap (codeBy listingCode) e; place = ap placeIn e; entries = ap entriesIn e; buffer = j .buffer; meaning = subst (ListMeans bs old new) (j .answer) (j .meaning) }
+    record { code = ap (codeBy listingCode) e; place = ap placeIn e; entries = ap sizeIn e; buffer = j .buffer; meaning = subst (ListMeans bs old new) (j .answer) (j .meaning) }
+
+-- ---- a file that is converted
+
+-- the answer x, which is y
+pub told-move : (x y : Moved) → x ≡ y → ToldMove (movedOf x) (codeBy conversionCode (movedOf y)) (placeIn (movedOf y)) (sizeIn (movedOf y))
+told-move x y q = let e = ap movedOf (sym q) in record { code = ap (codeBy conversionCode) e; place = ap placeIn e; size = ap sizeIn e }
+
+-- the answer x, told as r, i and n
+
+module _ (bs old new : List ℕ) (x : Moved) (r i n : ℕ) (t : ToldMove (movedOf x) r i n) where
+  converts : (a : Reply ℕ) (after : List ℕ) (means : List ℕ → Reply ℕ → Type 0) → movedOf x ≡ a → new ≡ after → means new (movedOf x) → Converts a after means new r i n
+  converts a after means answer output meaning =
+      record { told = subst (λ (y : Reply ℕ). ToldMove y r i n) answer t; output = output; meaning = subst (means new) answer meaning }
+
+  pub widens-file : Widens bs old new x → WidensFile bs old new r i n
+  widens-file j = converts _ _ _ (j .answer) (j .output) (j .meaning)
+
+  pub narrows-file : Narrows bs old new x → NarrowsFile bs old new r i n
+  narrows-file j = converts _ _ _ (j .answer) (j .output) (j .meaning)
+
+  pub unfolds-file : Unfolds 0 bs old new x → UnfoldsFile bs old new r i n
+  unfolds-file j = converts _ _ _ (j .answer) (j .output) (j .meaning)

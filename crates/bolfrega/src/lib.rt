@@ -4,13 +4,15 @@
 use call_gaps::Listed;
 use call_judge::Judged;
 use call_member::Recognized;
+use call_move::Moved;
 use host_result::CheckResult;
 use spec_calls::Options;
 use spec_calls::Row;
 ghost use mathlib.Core.Path.{_≡_};
 ghost use Rattle.host_result.specs.Results.{numbersIn};
 ghost use Rattle.bolfrega.specs.Codes.{version};
-ghost use Rattle.bolfrega.specs.Contracts.{Refuses, Judges, Recognizes, ListsGaps, ChecksZeros};
+ghost use Rattle.bolfrega.specs.Contracts.{Refuses, Judges, Recognizes, ListsGaps, ToldMove, WidensFile, NarrowsFile, UnfoldsFile, ChecksZeros};
+ghost use Rattle.call_move.specs.Answers.{movedOf};
 
 const VERSION: u64 = 1;
 
@@ -23,6 +25,8 @@ const DERIVED: u64 = 112;
 const NOT_DERIVED: u64 = 113;
 
 const LISTED: u64 = 114;
+
+const CONVERTED: u64 = 115;
 
 // Returns the version of this interface.
 #[no_mangle]
@@ -118,6 +122,71 @@ pub extern "C" fn bolfrega_list(
             found.number
         }
     }
+}
+
+// ---- the other form of records
+
+// Stores the record and the length of `moved` in `place` and `length`, and returns CONVERTED or the number that refuses the call.
+fn tell_moved(moved: Moved, place: &mut u64, length: &mut u64) -> u64
+    ensures { λ r. ⌜ ToldMove (movedOf moved) r (now (place .exit)) (now (length .exit)) ⌝ }
+{
+    match moved {
+        Moved::Length(n) => {
+            *place = 0;
+            *length = n as u64;
+            CONVERTED
+        }
+        Moved::Refused(found) => {
+            *place = found.place as u64;
+            *length = 0;
+            found.number
+        }
+    }
+}
+
+// Moves `file`, of eight-byte records, over to sixteen bytes: returns CONVERTED, or the number that refuses the call, with `place` as
+// above. Stores the result's length in `length`, 0 for a refused call, and writes the result to the front of `out`. The other bytes of `out`
+// keep their values, and a refused call leaves all of them as they were.
+#[no_mangle]
+pub extern "C" fn bolfrega_widen(
+    file: &[u8],
+    place: &mut u64,
+    length: &mut u64,
+    out: &mut [u8],
+) -> u64
+    ensures { λ r. ⌜ WidensFile (now (file .entry)) (now (out .entry)) (now (out .exit)) r (now (place .exit)) (now (length .exit)) ⌝ }
+{
+    let moved = call_move::widen(file, out);
+    tell_moved(moved, place, length)
+}
+
+// Moves `file`, of sixteen-byte records, back to eight bytes; its numbers and lent places are those of `bolfrega_widen`.
+#[no_mangle]
+pub extern "C" fn bolfrega_narrow(
+    file: &[u8],
+    place: &mut u64,
+    length: &mut u64,
+    out: &mut [u8],
+) -> u64
+    ensures { λ r. ⌜ NarrowsFile (now (file .entry)) (now (out .entry)) (now (out .exit)) r (now (place .exit)) (now (length .exit)) ⌝ }
+{
+    let moved = call_move::narrow(file, out);
+    tell_moved(moved, place, length)
+}
+
+// Unfolds `file`, of sixteen-byte records, into a file of eight-byte records for a check, with chain procedures for its longer bodies; its
+// numbers and lent places are those of `bolfrega_widen`.
+#[no_mangle]
+pub extern "C" fn bolfrega_unfold(
+    file: &[u8],
+    place: &mut u64,
+    length: &mut u64,
+    out: &mut [u8],
+) -> u64
+    ensures { λ r. ⌜ UnfoldsFile (now (file .entry)) (now (out .entry)) (now (out .exit)) r (now (place .exit)) (now (length .exit)) ⌝ }
+{
+    let moved = call_unfold::unfold(file, out);
+    tell_moved(moved, place, length)
 }
 
 // ---- the check

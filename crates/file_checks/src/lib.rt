@@ -58,7 +58,7 @@ pub fn on_remark(r: [u8; 8]) -> bool
 }
 
 // A record's bytes as one number, the first byte the highest.
-fn number_of(r: [u8; 8]) -> u64
+pub fn number_of(r: [u8; 8]) -> u64
     ensures { λ x. ⌜ x ≡ bigEndian 256 8 r ⌝ }
 {
     let mut n: u64 = 0;

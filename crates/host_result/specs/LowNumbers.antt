@@ -1,5 +1,5 @@
--- The numbers that refuse: a file is refused with one of `fileNumbers`, with a record for `recordNumbers` only, and every refusal's number is
--- below those of the answers. Assumes nothing.
+-- The numbers that refuse: a file is refused with one of its form's numbers, with a record for `recordNumbers` only, and every refusal's number
+-- is below those of the answers. Assumes nothing.
 use mathlib.Core.Path.{_≡_, refl, sym, _∙_, subst}
 use mathlib.Core.Logic.{_⊎_, inl, inr}
 use mathlib.Core.Bool.{Bool, true, false, not, _||_, cond, false≢true}
@@ -12,22 +12,25 @@ use borrow.Author.Tests.{leb-false}
 use Rattle.spec_basics.specs.Elements.{In, any}
 use Rattle.spec_basics.specs.Lists.{any-at}
 use Rattle.spec_file.specs.Limits.{terminals}
-use Rattle.spec_file.specs.Forms.{eight}
-use Rattle.spec_file.specs.Records.{recordCount, ruleKind, transitionKind, countOf}
-use Rattle.spec_file.specs.Refusals.{Refusal, refuse, orNext, firstHolding, recordNumbers, fileNumbers, recordTests, lengthTestsIn, faultAt, faultFrom, fault, byNumber, faultAtIn, faultByIn, faultFromIn, faultIn, lengthFaultIn, lengthFault}
+use Rattle.spec_file.specs.Forms.{Form, eight, sixteen}
+use Rattle.spec_file.specs.Records.{recordCountIn, ruleKind, transitionKind, countIn}
+use Rattle.spec_file.specs.Refusals.{Refusal, refuse, orNext, firstHolding, recordNumbers, fileNumbers, recordTestsIn, lengthTestsIn, fault, byNumber, faultAtIn, faultByIn, faultFromIn, faultIn, lengthFaultIn}
 use Rattle.spec_calls.specs.Checking.{Settings, journalLimit, journalFault, checkRefusals, checkOf}
 use Rattle.spec_calls.specs.Judging.{wordLimit, wordFault, judgeRefusals, judgeOf}
 use Rattle.spec_calls.specs.Recognizing.{runLimit, stretchCells, runFault, tableFault, recognizeRefusals, recognizeOf}
 use Rattle.spec_calls.specs.Listing.{listBytes, listFault, listRefusals, listOf}
 use Rattle.spec_calls.specs.Replies.{Reply, refused, answered, unless, reply}
+use Rattle.spec_records.specs.Blocks.{recordsOf}
+use Rattle.spec_unfold.specs.Moving.{widened, narrowed, hasLong}
+use Rattle.spec_unfold.specs.Unfolding.{byteRules, unfoldedFile, tooMany}
+use Rattle.spec_unfold.specs.Calls.{outputFault, longFault, chainFault, widenRefusals, narrowRefusals, unfoldRefusals, widenOf, narrowOf, unfoldOf}
 use Rattle.spec_calls.specs.Codes.{firstAnswerCode}
 
--- ---- a file
+-- ---- a file, of any form
 
--- the refusals of a file, by number and record
-pub record FileRefusal (x : Refusal) : Type 0 where
-  pub number : (x .number ≡ 0) ⊎ In (x .number) fileNumbers
-  pub no-record : (In (x .number) recordNumbers → ⊥) → x .place ≡ 0
+-- the numbers that refuse a file of the form
+abbrev pub numbersOf : Form → List ℕ
+numbersOf F = F .torn ∷ 2 ∷ recordNumbers
 
 -- the number of the first test that holds is one of the list's
 first-among : (ts : List (ℕ × Bool)) → (firstHolding ts ≡ 0) ⊎ In (firstHolding ts) (map (λ (t : ℕ × Bool). t .0) ts)
@@ -43,46 +46,56 @@ first-among (t ∷ ts) = by (t .1) (first-among ts)
     by false (inl e) = inl e
     by false (inr h) = inr (inr h)
 
--- the first of two, by the number of the one
-next-refusal : (f i : ℕ) (next : Refusal) → (f ≡ 0) ⊎ In f fileNumbers → ((f ≡ 0) ⊎ In f recordNumbers) ⊎ (i ≡ 0)
-    → FileRefusal next → FileRefusal (orNext (refuse f i) next)
-next-refusal zero i next n place l = l
-next-refusal (suc f) i next n place l = record { number = n; no-record = λ none. by none place }
-  where
-    by : (In (suc f) recordNumbers → ⊥) → ((suc f ≡ 0) ⊎ In (suc f) recordNumbers) ⊎ (i ≡ 0) → i ≡ 0
-    by none (inl (inl e)) = absurd (let z : ⊥ = omega (arith, e) in z)
-    by none (inl (inr h)) = absurd (none h)
-    by none (inr e) = e
+module _ (F : Form) where
+  -- the refusals of a file, by number and record
+  pub record FileRefusal (x : Refusal) : Type 0 where
+    pub number : (x .number ≡ 0) ⊎ In (x .number) (numbersOf F)
+    pub no-record : (In (x .number) recordNumbers → ⊥) → x .place ≡ 0
 
-of-file : {f : ℕ} → (f ≡ 0) ⊎ In f recordNumbers → (f ≡ 0) ⊎ In f fileNumbers
-of-file (inl e) = inl e
-of-file (inr h) = inr (inr (inr h))
+  -- the first of two, by the number of the one
+  next-refusal : (f i : ℕ) (next : Refusal) → (f ≡ 0) ⊎ In f (numbersOf F) → ((f ≡ 0) ⊎ In f recordNumbers) ⊎ (i ≡ 0)
+      → FileRefusal next → FileRefusal (orNext (refuse f i) next)
+  next-refusal zero i next n place l = l
+  next-refusal (suc f) i next n place l = record { number = n; no-record = λ none. by none place }
+    where
+      by : (In (suc f) recordNumbers → ⊥) → ((suc f ≡ 0) ⊎ In (suc f) recordNumbers) ⊎ (i ≡ 0) → i ≡ 0
+      by none (inl (inl e)) = absurd (let z : ⊥ = omega (arith, e) in z)
+      by none (inl (inr h)) = absurd (none h)
+      by none (inr e) = e
 
-by-length : {f : ℕ} → (f ≡ 0) ⊎ In f (1 ∷ 2 ∷ []) → (f ≡ 0) ⊎ In f fileNumbers
-by-length (inl e) = inl e
-by-length (inr (inl e)) = inr (inl e)
-by-length (inr (inr (inl e))) = inr (inr (inl e))
-by-length (inr (inr (inr h))) = absurd h
+  of-file : {f : ℕ} → (f ≡ 0) ⊎ In f recordNumbers → (f ≡ 0) ⊎ In f (numbersOf F)
+  of-file (inl e) = inl e
+  of-file (inr h) = inr (inr (inr h))
 
-at-number : (bs : List ℕ) (i : ℕ) → (faultAt bs i ≡ 0) ⊎ In (faultAt bs i) recordNumbers
-unfolding faultAtIn faultByIn
-at-number bs i = first-among (recordTests bs i (countOf bs ruleKind i) (countOf bs transitionKind i))
+  by-length : {f : ℕ} → (f ≡ 0) ⊎ In f (F .torn ∷ 2 ∷ []) → (f ≡ 0) ⊎ In f (numbersOf F)
+  by-length (inl e) = inl e
+  by-length (inr (inl e)) = inr (inl e)
+  by-length (inr (inr (inl e))) = inr (inr (inl e))
+  by-length (inr (inr (inr h))) = absurd h
 
-length-number : (bs : List ℕ) → (lengthFault bs ≡ 0) ⊎ In (lengthFault bs) (1 ∷ 2 ∷ [])
-unfolding lengthFaultIn
-length-number bs = first-among (lengthTestsIn eight bs)
+  at-number : (bs : List ℕ) (i : ℕ) → (faultAtIn F bs i ≡ 0) ⊎ In (faultAtIn F bs i) recordNumbers
+  unfolding faultAtIn faultByIn
+  at-number bs i = first-among (recordTestsIn F bs i (countIn F bs ruleKind i) (countIn F bs transitionKind i))
 
-from-refusal : (bs : List ℕ) (m i : ℕ) → FileRefusal (faultFrom bs m i)
-unfolding faultFromIn
-from-refusal bs zero i = record { number = inl refl; no-record = λ none. refl }
-from-refusal bs (suc m) i =
-    let n = at-number bs i in
-    next-refusal (faultAt bs i) i (faultFrom bs m (suc i)) (of-file n) (inl n) (from-refusal bs m (suc i))
+  length-number : (bs : List ℕ) → (lengthFaultIn F bs ≡ 0) ⊎ In (lengthFaultIn F bs) (F .torn ∷ 2 ∷ [])
+  unfolding lengthFaultIn
+  length-number bs = first-among (lengthTestsIn F bs)
 
-pub file-refusal : (bs : List ℕ) → FileRefusal (fault bs)
-unfolding faultIn
-file-refusal bs =
-    next-refusal (lengthFault bs) 0 (faultFrom bs (recordCount bs) 0) (by-length (length-number bs)) (inr refl) (from-refusal bs (recordCount bs) 0)
+  from-refusal : (bs : List ℕ) (m i : ℕ) → FileRefusal (faultFromIn F bs m i)
+  unfolding faultFromIn
+  from-refusal bs zero i = record { number = inl refl; no-record = λ none. refl }
+  from-refusal bs (suc m) i =
+      let n = at-number bs i in
+      next-refusal (faultAtIn F bs i) i (faultFromIn F bs m (suc i)) (of-file n) (inl n) (from-refusal bs m (suc i))
+
+  pub refusal-in : (bs : List ℕ) → FileRefusal (faultIn F bs)
+  unfolding faultIn
+  refusal-in bs =
+      next-refusal (lengthFaultIn F bs) 0 (faultFromIn F bs (recordCountIn F bs) 0) (by-length (length-number bs)) (inr refl) (from-refusal bs (recordCountIn F bs) 0)
+
+-- of document 01's form
+pub file-refusal : (bs : List ℕ) → FileRefusal eight (fault bs)
+file-refusal bs = refusal-in eight bs
 
 -- so a call that the file refuses names a record for 3 to 7 and 12 only
 pub record-none : (bs : List ℕ) (r i : ℕ) → r ≡ fault bs .number → i ≡ fault bs .place → (In r recordNumbers → ⊥) → i ≡ 0
@@ -112,12 +125,18 @@ among-low ns none n h = by (leb firstAnswerCode n) refl
     by true e = absurd (false≢true (sym none ∙ any-at (λ (m : ℕ). leb firstAnswerCode m) n ns h e))
     by false e = leb-false firstAnswerCode n e
 
-fault-low : (bs : List ℕ) → Low (fault bs)
-fault-low bs = by (file-refusal bs .number)
+form-low : (F : Form) → any (λ n. leb firstAnswerCode n) (numbersOf F) ≡ false → (bs : List ℕ) → Low (faultIn F bs)
+form-low F none bs = by (refusal-in F bs .number)
   where
-    by : (fault bs .number ≡ 0) ⊎ In (fault bs .number) fileNumbers → Low (fault bs)
+    by : (faultIn F bs .number ≡ 0) ⊎ In (faultIn F bs .number) (numbersOf F) → Low (faultIn F bs)
     by (inl e) = omega (arith, e)
-    by (inr h) = among-low fileNumbers refl (fault bs .number) h
+    by (inr h) = among-low (numbersOf F) none (faultIn F bs .number) h
+
+fault-low : (bs : List ℕ) → Low (fault bs)
+fault-low bs = form-low eight refl bs
+
+wide-low : (bs : List ℕ) → Low (faultIn sixteen bs)
+wide-low bs = form-low sixteen refl bs
 
 number-low : (b : Bool) (f : ℕ) → f < firstAnswerCode → cond b f 0 < firstAnswerCode
 number-low true f h = h
@@ -165,3 +184,23 @@ recognize-low bs w cells after =
 pub list-low : (bs : List ℕ) (room : ℕ) → LowIn (listOf bs room)
 unfolding listOf listFault
 list-low bs room = reply-low (listRefusals bs room) _ (fault-low bs, (number-low (ltb room listBytes) 15 (omega arith), tt))
+
+-- ---- moving and unfolding
+
+output-low : (result : List ℕ) (room : ℕ) → outputFault result room < firstAnswerCode
+unfolding outputFault
+output-low result room = number-low (ltb room (length result)) 10 (omega arith)
+
+pub widen-low : (bs : List ℕ) (room : ℕ) → LowIn (widenOf bs room)
+unfolding widenOf
+widen-low bs room = reply-low (widenRefusals bs room) _ (fault-low bs, (output-low (widened bs) room, tt))
+
+pub narrow-low : (bs : List ℕ) (room : ℕ) → LowIn (narrowOf bs room)
+unfolding narrowOf longFault
+narrow-low bs room = reply-low (narrowRefusals bs room) _ (wide-low bs, (number-low (hasLong bs) 17 (omega arith), (output-low (narrowed bs) room, tt)))
+
+pub unfold-low : (least : ℕ) (bs : List ℕ) (room : ℕ) → LowIn (unfoldOf least bs room)
+unfolding unfoldOf chainFault
+unfold-low least bs room =
+    reply-low (unfoldRefusals least bs room) _
+    (wide-low bs, (number-low (tooMany least (byteRules (recordsOf 16 bs))) 18 (omega arith), (output-low (unfoldedFile least bs) room, tt)))

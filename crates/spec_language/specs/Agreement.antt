@@ -1,41 +1,13 @@
 -- Rewriting and spelling derive the same words. Assumes nothing.
 use mathlib.Core.Path.{_≡_, refl, sym, ap, _∙_, subst}
 use mathlib.Core.Logic.{_↔_}
-use mathlib.Core.List.{List, [], _∷_, _++_, map, append-assoc, append-nil}
+use mathlib.Core.List.{List, [], _∷_, _++_, map, append-assoc, append-nil, map-append}
 use Prim.Native.Nat.{ℕ, zero, suc, _≤_}
 use native.Mathlib.Decide.{le-ind}
 use Rattle.spec_language.specs.Grammar.{Symbol, terminal, nonterminal, Production}
 use Rattle.spec_language.specs.Rewriting.{Step, Steps, done, more, Language}
+use Rattle.spec_language.specs.RewritingLaws.{trans, inside}
 use Rattle.spec_language.specs.Spelling.{SpellsSymbol, Spells, DerivesWithin, Derives}
-
--- ---- rewriting steps inside a longer sequence of symbols
-
-pub trans : (rules : List Production) {α β γ : List Symbol} → Steps rules α β → Steps rules β γ → Steps rules α γ
-trans rules done q = q
-trans rules (more s p) q = more s (trans rules p q)
-
-in-step : (rules : List Production) (π ω : List Symbol) {α β : List Symbol} → Step rules α β → Step rules (π ++ (α ++ ω)) (π ++ (β ++ ω))
-in-step rules π ω {α} {β} s =
-    record {
-      before = π ++ s .before;
-      after = s .after ++ ω;
-      rule = s .rule;
-      listed = s .listed;
-      old = ap (λ (x : List Symbol). π ++ (x ++ ω)) (s .old) ∙ shape (nonterminal (s .rule .head) ∷ s .after);
-      new = ap (λ (x : List Symbol). π ++ (x ++ ω)) (s .new) ∙ shape (s .rule .symbols ++ s .after)
-          ∙ ap (λ (x : List Symbol). π ++ s .before ++ x) (append-assoc (s .rule .symbols) (s .after) ω);
-    }
-  where
-    shape : (x : List Symbol) → π ++ (s .before ++ x ++ ω) ≡ π ++ s .before ++ (x ++ ω)
-    shape x = ap (λ (y : List Symbol). π ++ y) (append-assoc (s .before) x ω) ∙ sym (append-assoc π (s .before) (x ++ ω))
-
-inside : (rules : List Production) (π ω : List Symbol) {α β : List Symbol} → Steps rules α β → Steps rules (π ++ (α ++ ω)) (π ++ (β ++ ω))
-inside rules π ω done = done
-inside rules π ω (more s p) = more (in-step rules π ω s) (inside rules π ω p)
-
-map-append : (u v : List ℕ) → map terminal (u ++ v) ≡ map terminal u ++ map terminal v
-map-append [] v = refl
-map-append (c ∷ u) v = ap (λ (x : List Symbol). terminal c ∷ x) (map-append u v)
 
 -- ---- from spelling to rewriting, symbol by symbol
 
@@ -52,7 +24,7 @@ module _ (rules : List Production) (D : ℕ → List ℕ → Type 0) (each : (p 
       let first : Steps rules (s ∷ ss) (map terminal u ++ ss) = inside rules [] ss (sym-steps s u (r .3)) in
       let rest : Steps rules (map terminal u ++ (ss ++ [])) (map terminal u ++ (map terminal v ++ [])) = inside rules (map terminal u) [] (spell-steps ss v (r .4)) in
       let rest′ : Steps rules (map terminal u ++ ss) (map terminal u ++ map terminal v) = rw (append-nil ss, append-nil (map terminal v)) at rest in
-      rw (r .2, map-append u v) (trans rules first rest′)
+      rw (r .2, map-append terminal u v) (trans rules first rest′)
 
 pub within-steps : (rules : List Production) (h p : ℕ) (w : List ℕ) → DerivesWithin rules h p w → Language rules p w
 within-steps rules zero p w d = absurd d

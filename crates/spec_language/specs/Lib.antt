@@ -1,5 +1,6 @@
 pub mod Grammar
 pub mod Rewriting
+pub mod RewritingLaws
 pub mod Spelling
 pub mod Agreement
 pub mod RuleLaws

@@ -2,19 +2,19 @@
 
 use crate::effect::Effect;
 
-const RECORD: usize = 8;
-const MOST_RECORDS: usize = 1_296;
-const MOST_RULES: usize = 256;
-const MOST_MOVES: usize = 1_024;
+pub(crate) const RECORD: usize = 8;
+pub(crate) const MOST_RECORDS: usize = 1_296;
+pub(crate) const MOST_RULES: usize = 256;
+pub(crate) const MOST_MOVES: usize = 1_024;
 
-const RULE: u8 = 1;
-const MOVE: u8 = 2;
-const FINISHING: u8 = 3;
+pub(crate) const RULE: u8 = 1;
+pub(crate) const MOVE: u8 = 2;
+pub(crate) const FINISHING: u8 = 3;
 
-const LAST_PROCEDURE: u8 = 63;
-const LAST_CODE: u8 = 127;
-const LAST_SYMBOL: u8 = 191;
-const LAST_STAGE: u8 = 15;
+pub(crate) const LAST_PROCEDURE: u8 = 63;
+pub(crate) const LAST_CODE: u8 = 127;
+pub(crate) const LAST_SYMBOL: u8 = 191;
+pub(crate) const LAST_STAGE: u8 = 15;
 
 /// The codes from this one on are remarks (C-11): the effect of each is that of the empty run, and no move may be on one.
 pub const FIRST_REMARK: u8 = 120;

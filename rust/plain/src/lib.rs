@@ -1,5 +1,5 @@
-//! Document 01, with C-11, C-12 and C-14 to C-16 of document 02, in plain Rust: reading, judging, the check in its working order, run writing,
-//! the recognizing of runs, and the listing of a sheet's gaps and doubles.
+//! Document 01, with C-11, C-12 and C-14 to C-17 of document 02, in plain Rust: reading, judging, the check in its working order, run writing,
+//! the recognizing of runs, the listing of a sheet's gaps and doubles, and the moving and unfolding of sixteen-byte records.
 //!
 //! It is written from the papers alone and shares nothing with the proved library. The tests of the crate `bolfrega` compare
 //! the two, answer for answer, and the benchmark measures them side by side. Nothing else uses it.
@@ -22,6 +22,7 @@ mod gaps;
 mod judging;
 pub mod making;
 mod order;
+mod wide;
 mod writing;
 
 pub use derivations::recognize;
@@ -30,6 +31,7 @@ pub use file::{read, Body, Plan, Refusal, Rule, Symbol, FIRST_REMARK};
 pub use gaps::list;
 pub use judging::judge;
 pub use order::{search, Answer, Row, Search, Verdict, ABSENT};
+pub use wide::{narrow, unfold, widen};
 pub use writing::write_run;
 
 /// The most rows that a journal may have.

@@ -7,10 +7,11 @@ pub const fn procedure(number: u8) -> u8 {
     128 + number
 }
 
-/// A file under construction. Its records stand in rising order whatever the order in which they come, each once.
-#[derive(Clone, Debug, Default)]
-pub struct Making {
-    records: BTreeSet<[u8; 8]>,
+/// A file under construction, of eight-byte records or of the sixteen-byte records of C-17. Its records stand in rising order whatever the
+/// order in which they come, each once.
+#[derive(Clone, Debug)]
+pub struct Making<const WIDTH: usize = 8> {
+    records: BTreeSet<[u8; WIDTH]>,
 }
 
 impl Making {
@@ -18,21 +19,36 @@ impl Making {
     pub fn new() -> Making {
         Making::default()
     }
+}
 
-    /// Adds the rule that `head` gives the symbols of `body`, at most two.
-    pub fn rule(&mut self, head: u8, body: &[u8]) -> &mut Making {
-        let mut record = [1, head, body.len() as u8, 0, 0, 0, 0, 0];
-        record[3..3 + body.len()].copy_from_slice(body);
-        self.add(record)
+impl Making<16> {
+    /// A file without records, of the sixteen-byte form.
+    pub fn wide() -> Making<16> {
+        Making::default()
+    }
+}
+
+impl<const WIDTH: usize> Default for Making<WIDTH> {
+    fn default() -> Making<WIDTH> {
+        Making {
+            records: BTreeSet::new(),
+        }
+    }
+}
+
+impl<const WIDTH: usize> Making<WIDTH> {
+    /// Adds the rule that `head` gives the symbols of `body`, at most two, or twelve in the sixteen-byte form.
+    pub fn rule(&mut self, head: u8, body: &[u8]) -> &mut Making<WIDTH> {
+        self.add(&[&[1, head, body.len() as u8], body].concat())
     }
 
     /// Adds the move from one stage to another on a code.
-    pub fn step(&mut self, from: u8, code: u8, to: u8) -> &mut Making {
-        self.add([2, from, code, to, 0, 0, 0, 0])
+    pub fn step(&mut self, from: u8, code: u8, to: u8) -> &mut Making<WIDTH> {
+        self.add(&[2, from, code, to])
     }
 
     /// Adds the moves of a code that takes stage a to `to[a]`.
-    pub fn mapping<const STAGES: usize>(&mut self, code: u8, to: [u8; STAGES]) -> &mut Making {
+    pub fn mapping<const STAGES: usize>(&mut self, code: u8, to: [u8; STAGES]) -> &mut Making<WIDTH> {
         for (from, &to) in (0..).zip(&to) {
             self.step(from, code, to);
         }
@@ -40,11 +56,14 @@ impl Making {
     }
 
     /// Adds a finishing stage.
-    pub fn finishing(&mut self, stage: u8) -> &mut Making {
-        self.add([3, stage, 0, 0, 0, 0, 0, 0])
+    pub fn finishing(&mut self, stage: u8) -> &mut Making<WIDTH> {
+        self.add(&[3, stage])
     }
 
-    fn add(&mut self, record: [u8; 8]) -> &mut Making {
+    /// Adds the record with these first bytes, the others being 0.
+    fn add(&mut self, first: &[u8]) -> &mut Making<WIDTH> {
+        let mut record = [0; WIDTH];
+        record[..first.len()].copy_from_slice(first);
         self.records.insert(record);
         self
     }

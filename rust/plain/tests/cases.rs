@@ -1,11 +1,13 @@
 //! The cases of document 01, so that the plain implementation is tested where there is no proved library.
 
-use plain::{check, judge, read, Answer, Refusal, Verdict, ABSENT, FIRST_REMARK};
+use plain::{check, judge, narrow, read, unfold, widen, Answer, Refusal, Verdict, ABSENT, FIRST_REMARK};
 
 const PLAN_A: &[u8] = include_bytes!("../../../samples/plan-a.plan");
 const PLAN_B: &[u8] = include_bytes!("../../../samples/plan-b.plan");
 const REMARKS: &[u8] = include_bytes!("../../../samples/remarks.plan");
 const ENDLESS: &[u8] = include_bytes!("../../../samples/endless.plan");
+const LONG_BODIES: &[u8] = include_bytes!("../../../samples/long-bodies.wide");
+const LONG_BROKEN: &[u8] = include_bytes!("../../../samples/long-broken.wide");
 const ONLY_NOTHING: [u8; 8] = [1, 0, 0, 0, 0, 0, 0, 0];
 
 fn answer(file: &[u8], rows: usize, budget: u64) -> Answer {
@@ -75,4 +77,32 @@ fn remarks() {
     let on = |code| read(&[2, 0, code, 1, 0, 0, 0, 0]).err();
     let refused = |number| Some(Refusal { number, record: 0 });
     assert_eq!([119, 120, 127, 128].map(on), [None, refused(12), refused(12), refused(4)]);
+}
+
+#[test]
+fn sixteen_byte_records() {
+    let refused = |number| Err(Refusal { number, record: 0 });
+    let mut out = [9; 200];
+    assert_eq!(unfold(LONG_BODIES, &mut out), Ok(152));
+    assert_eq!(out[..152], *include_bytes!("../../../samples/long-bodies.plan"));
+    assert_eq!(out[152..], [9; 48]);
+    assert_eq!(answer(&out[..152], 1_024, 1_000_000), said(Verdict::Holds, 123, 15, 13));
+    assert_eq!(unfold(LONG_BROKEN, &mut out), Ok(168));
+    assert_eq!(out[..168], *include_bytes!("../../../samples/long-broken.plan"));
+    assert_eq!(answer(&out[..168], 1_024, 1_000_000), said(Verdict::Broken, 159, 36, 14));
+
+    assert_eq!(unfold(LONG_BODIES, &mut out[..151]), refused(10));
+    assert_eq!(unfold(&LONG_BODIES[8..], &mut []), refused(16));
+    assert_eq!(narrow(LONG_BODIES, &mut []), refused(17));
+    assert_eq!(
+        unfold(include_bytes!("../../../samples/many-chains.wide"), &mut []),
+        refused(18)
+    );
+
+    assert_eq!(widen(PLAN_A, &mut out), Ok(128));
+    let wide = out[..128].to_vec();
+    assert_eq!(narrow(&wide, &mut out), Ok(64));
+    assert_eq!(out[..64], *PLAN_A);
+    assert_eq!(unfold(&wide, &mut out), Ok(64));
+    assert_eq!(out[..64], *PLAN_A);
 }

@@ -5,7 +5,7 @@
 
 use bolfrega::raw::{self, Details};
 use bolfrega::{Answer, Judgement, Refusal, Verdict};
-use plain::making::Numbers;
+use plain::making::{Making, Numbers};
 use plain::FIRST_REMARK;
 
 /// What stands in the places to be filled in before a call.
@@ -89,6 +89,92 @@ pub fn listing(file: &[u8], room: usize) -> (u64, u64, u64, Vec<u8>) {
         }
     }
     (code, record, entries, list)
+}
+
+/// The calls on the two forms of records.
+#[derive(Clone, Copy, Debug, PartialEq, Eq)]
+pub enum Conversion {
+    Widen,
+    Narrow,
+    Unfold,
+}
+
+/// Converts a file, over an output of `room` bytes that hold something else, with some more behind it. Returns the code, the record and the
+/// result, which is empty if the call is refused.
+pub fn converting(call: Conversion, file: &[u8], room: usize) -> (u64, u64, Vec<u8>) {
+    type Plainly = fn(&[u8], &mut [u8]) -> Result<usize, plain::Refusal>;
+    type Raw = fn(&[u8], &mut u64, &mut u64, &mut [u8]) -> u64;
+    type Whole = fn(&[u8]) -> Result<Vec<u8>, Refusal>;
+    type Into = fn(&[u8], &mut [u8]) -> Result<usize, Refusal>;
+    let (plainly, raw, whole, into, most): (Plainly, Raw, Whole, Into, usize) = match call {
+        Conversion::Widen => (
+            plain::widen,
+            raw::widen,
+            bolfrega::widen,
+            bolfrega::widen_into,
+            bolfrega::WIDE_BYTES,
+        ),
+        Conversion::Narrow => (
+            plain::narrow,
+            raw::narrow,
+            bolfrega::narrow,
+            bolfrega::narrow_into,
+            bolfrega::FILE_BYTES,
+        ),
+        Conversion::Unfold => (
+            plain::unfold,
+            raw::unfold,
+            bolfrega::unfold,
+            bolfrega::unfold_into,
+            bolfrega::FILE_BYTES,
+        ),
+    };
+    let what = || format!("{call:?} over {room} bytes: {file:?}");
+
+    let mut expected = patterned(room + BEHIND);
+    let answer = plainly(file, &mut expected[..room]).map_err(numbers);
+    let (code, record) = answer.map_or_else(|refused| refused, |_| (115, 0));
+    let length = answer.unwrap_or(0);
+    // Whatever the result is, all bytes past it are as they were.
+    let before = patterned(room + BEHIND);
+    assert!(expected[length..] == before[length..], "past the result of {}", what());
+
+    let (mut their_record, mut their_length, mut out) = (BEFORE, BEFORE, patterned(room + BEHIND));
+    let their_code = raw(file, &mut their_record, &mut their_length, &mut out[..room]);
+    let theirs = (their_code, their_record, their_length);
+    assert_eq!(theirs, (code, record, length as u64), "{}", what());
+    assert!(out == expected, "the output after {}", what());
+
+    let mut third = patterned(room + BEHIND);
+    assert_eq!(into(file, &mut third[..room]).map_err(shown), answer, "{}", what());
+    assert!(third == expected, "the output after {}", what());
+    if room >= most {
+        let result = answer.map(|length| expected[..length].to_vec());
+        assert_eq!(whole(file).map_err(shown), result, "{}", what());
+    }
+    expected.truncate(length);
+    (code, record, expected)
+}
+
+/// The bytes behind an output, which are not lent.
+const BEHIND: usize = 40;
+
+/// Converts a file with each room that matters: more than enough, the result's length, one byte more, one less, none. Returns the code with
+/// enough room, the record and the result.
+pub fn with_every_room(call: Conversion, file: &[u8]) -> (u64, u64, Vec<u8>) {
+    let (code, record, result) = converting(call, file, bolfrega::WIDE_BYTES);
+    assert_ne!(code, 10);
+    let length = result.len();
+    for room in [0, length.saturating_sub(1), length, length + 1] {
+        let expected = if code == 115 && room < length {
+            (10, 0)
+        } else {
+            (code, record)
+        };
+        let (code, record, _) = converting(call, file, room);
+        assert_eq!((code, record), expected, "{call:?} over {room} bytes: {file:?}");
+    }
+    (code, record, result)
 }
 
 /// Checks a file, with a run buffer of `room` bytes. Returns the code, the details and the buffer.
@@ -192,16 +278,35 @@ pub struct Size {
 
 /// A valid file with at most these numbers of rules and moves.
 pub fn valid_file(numbers: &mut Numbers, size: Size) -> Vec<u8> {
-    let mut making = plain::making::Making::new();
+    let mut making = Making::new();
+    rules(numbers, size, &[0, 1, 1, 2, 2, 2, 2], &mut making);
+    sheet(numbers, size, &mut making);
+    making.bytes()
+}
+
+/// A valid file of sixteen-byte records with at most these numbers of rules and moves, and bodies of these lengths.
+pub fn valid_wide_file(numbers: &mut Numbers, size: Size, lengths: &[usize]) -> Vec<u8> {
+    let mut making = Making::wide();
+    rules(numbers, size, lengths, &mut making);
+    sheet(numbers, size, &mut making);
+    making.bytes()
+}
+
+/// Adds rules at random, with bodies of some of these lengths.
+fn rules<const WIDTH: usize>(numbers: &mut Numbers, size: Size, lengths: &[usize], making: &mut Making<WIDTH>) {
     // Half of the files leave procedure 0 nearly alone, so that not every check is broken at once.
     let shy = numbers.once_in(2);
     for _ in 0..size.rules {
         let head = numbers.byte(size.procedures);
         let head = if shy && head == 0 && !numbers.once_in(8) { 1 } else { head };
-        let length = numbers.pick(&[0, 1, 1, 2, 2, 2, 2]);
+        let length = numbers.pick(lengths);
         let body: Vec<u8> = (0..length).map(|_| symbol(numbers, size)).collect();
         making.rule(head, &body);
     }
+}
+
+/// Adds moves and finishing stages at random.
+fn sheet<const WIDTH: usize>(numbers: &mut Numbers, size: Size, making: &mut Making<WIDTH>) {
     // Half of the files use eight stages, as all did before C-14, and half all sixteen.
     let stages = numbers.pick(&[8, 16]);
     let mut moves = size.moves;
@@ -230,7 +335,6 @@ pub fn valid_file(numbers: &mut Numbers, size: Size) -> Vec<u8> {
     (0..finishing).for_each(|_| {
         making.finishing(numbers.byte(stages));
     });
-    making.bytes()
 }
 
 fn symbol(numbers: &mut Numbers, size: Size) -> u8 {
@@ -240,5 +344,20 @@ fn symbol(numbers: &mut Numbers, size: Size) -> u8 {
         numbers.byte(size.codes)
     } else {
         plain::making::procedure(numbers.byte(size.procedures))
+    }
+}
+
+/// Damages a file of records of a width in one of the ways in which copies go wrong.
+pub fn damage(numbers: &mut Numbers, file: &mut Vec<u8>, width: usize) {
+    let at = numbers.below(file.len());
+    let whole = |number: usize| width * number..width * number + width;
+    let (one, other) = (numbers.below(file.len() / width), numbers.below(file.len() / width));
+    match numbers.below(6) {
+        0 => file[at] = numbers.byte(256),
+        1 => file[at] ^= 1 << numbers.below(8),
+        2 => file.truncate(at),
+        3 => drop(file.splice(at..at, [0])),
+        4 => drop(file.splice(width * one..width * one, file[whole(one)].to_vec())),
+        _ => whole(one).zip(whole(other)).for_each(|(x, y)| file.swap(x, y)),
     }
 }

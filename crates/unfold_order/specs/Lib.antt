@@ -1,0 +1,3 @@
+pub mod Keys
+pub mod KeyLaws
+pub mod InsertLaws

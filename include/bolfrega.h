@@ -14,6 +14,10 @@
  * Byte 15 and all other bytes that are not used are 0; all else is as in 8-byte records. bolfrega_widen moves a file over, bolfrega_narrow
  * back, and bolfrega_unfold makes the file of 8-byte records that every other call takes.
  *
+ * One file serves many routes, each with its own first procedure. bolfrega_check_from and bolfrega_unfold_from take a set of procedures, the
+ * members, as a word: bit p is 1 if procedure p (0 to 63) is one. Every word is such a set. bolfrega_check and bolfrega_unfold have procedure 0
+ * as their one member: they say what those two say for the word 1.
+ *
  * What every call asks of its caller:
  * - A pointer and the length after it are those of one area of memory. With length 0 the pointer may be null.
  * - `record`, `entries`, `length` and `details` are not null.
@@ -51,12 +55,12 @@
 extern "C" {
 #endif
 
-/* What bolfrega_check returns, unless it refuses. */
-#define BOLFREGA_HOLDS 100  /* the plan has a run, and the sheet accepts every one */
-#define BOLFREGA_BROKEN 101 /* the plan has a run that the sheet turns away */
+/* What bolfrega_check and bolfrega_check_from return, unless they refuse. */
+#define BOLFREGA_HOLDS 100  /* each member has a run, and the sheet accepts every run of every member */
+#define BOLFREGA_BROKEN 101 /* a member has a run that the sheet turns away */
 #define BOLFREGA_FULL 102   /* the journal had no row left */
 #define BOLFREGA_SPENT 103  /* the joins reached the budget */
-#define BOLFREGA_EMPTY 104  /* the plan has no run: procedure 0 never ends */
+#define BOLFREGA_EMPTY 104  /* some member has no run: it never ends; and the sheet accepts every run of the others */
 
 /* What bolfrega_judge returns, unless it refuses. */
 #define BOLFREGA_ACCEPTED 110
@@ -77,25 +81,30 @@ extern "C" {
 #define BOLFREGA_LIST_BYTES 5760
 #define BOLFREGA_ENTRY_BYTES 3
 
-/* What bolfrega_widen, bolfrega_narrow and bolfrega_unfold return, unless they refuse. */
+/* What bolfrega_widen, bolfrega_narrow, bolfrega_unfold and bolfrega_unfold_from return, unless they refuse. */
 #define BOLFREGA_CONVERTED 115
 
 /* The most bytes of a file of 16-byte and of 8-byte records. An output of BOLFREGA_WIDE_BYTES always suffices for bolfrega_widen, and one of
- * BOLFREGA_FILE_BYTES for bolfrega_narrow and bolfrega_unfold. */
+ * BOLFREGA_FILE_BYTES for bolfrega_narrow, bolfrega_unfold and bolfrega_unfold_from. */
 #define BOLFREGA_WIDE_BYTES 20736
 #define BOLFREGA_FILE_BYTES 10368
 
-/* The places of bolfrega_check's details. */
-#define BOLFREGA_RECORD 0  /* the record that is refused */
-#define BOLFREGA_JOINS 1   /* candidates formed */
-#define BOLFREGA_USED 2    /* journal rows used */
-#define BOLFREGA_PASS 3    /* the pass in which the check ended, from 1 */
-#define BOLFREGA_ROW 4     /* the row of a broken check */
-#define BOLFREGA_PAIRS 5   /* the number of stage pairs in that row's effect */
-#define BOLFREGA_LENGTH 6  /* the length of its run; 65,535 means that or more */
-#define BOLFREGA_REFUSED 7 /* 0 if that run is in the buffer, else 10 */
+/* The places of the details: bolfrega_check has the first eight, bolfrega_check_from all nine. */
+#define BOLFREGA_RECORD 0    /* the record that is refused */
+#define BOLFREGA_JOINS 1     /* candidates formed */
+#define BOLFREGA_USED 2      /* journal rows used */
+#define BOLFREGA_PASS 3      /* the pass in which the check ended, from 1 */
+#define BOLFREGA_ROW 4       /* the row of a broken check */
+#define BOLFREGA_PAIRS 5     /* the number of stage pairs in that row's effect */
+#define BOLFREGA_LENGTH 6    /* the length of its run; 65,535 means that or more */
+#define BOLFREGA_REFUSED 7   /* 0 if that run is in the buffer, else 10 */
+#define BOLFREGA_PROCEDURE 8 /* the procedure of that row, whose run it is: one of the members */
 
-/* The version of this interface: 1. */
+/*
+ * The version of this interface: 2.
+ *
+ * Version 2 adds bolfrega_check_from, bolfrega_unfold_from and BOLFREGA_PROCEDURE. What version 1 had is unchanged.
+ */
 uint64_t bolfrega_version(void);
 
 /*
@@ -189,7 +198,21 @@ uint64_t bolfrega_narrow(const uint8_t *file, size_t file_length, uint64_t *reco
 uint64_t bolfrega_unfold(const uint8_t *file, size_t file_length, uint64_t *record, uint64_t *length, uint8_t *out, size_t out_length);
 
 /*
- * Checks a file's plan against its order sheet, with a journal of `rows` rows and a budget of `budget` joins.
+ * Unfolds a file of 16-byte records as bolfrega_unfold does, for the members of `starts`: each of them counts as in use, with a rule or without.
+ * The chain procedures are numbered from one above the highest procedure that is a member or the head or a symbol of any rule, so that no member
+ * is one of them, and a check of the result for the same members speaks of their runs in the file.
+ *
+ * Returns 16, 2 to 7 or 12 if the file is refused; else 18 if the result would need procedure 64 or a 257th rule; else 10 if the output has
+ * fewer bytes than the result; else BOLFREGA_CONVERTED. With procedure 63 as a member that is 18 for every file with a body of more than two
+ * symbols.
+ * Sets *record to the number of the record at fault, from 0, if it returns 3 to 7 or 12, and else to 0. Sets *length, and the output, as
+ * bolfrega_widen does.
+ */
+uint64_t bolfrega_unfold_from(const uint8_t *file, size_t file_length, uint64_t starts, uint64_t *record, uint64_t *length, uint8_t *out,
+                              size_t out_length);
+
+/*
+ * Checks a file's plan, the runs of procedure 0, against its order sheet, with a journal of `rows` rows and a budget of `budget` joins.
  *
  * It keeps its journal (352 KiB) and its tables (about 185 KiB) on the stack, and writing a run takes up to 576 KiB more (144 bytes for
  * each row on the way down): a thread that calls it needs a stack of 1.5 MiB to be on the safe side. (The main thread of a Linux program
@@ -208,6 +231,27 @@ uint64_t bolfrega_unfold(const uint8_t *file, size_t file_length, uint64_t *reco
  */
 uint64_t bolfrega_check(const uint8_t *file, size_t file_length, size_t rows, uint64_t budget, uint64_t details[8], uint8_t *buffer,
                         size_t buffer_length);
+
+/*
+ * Checks a file's plan as bolfrega_check does, for the runs of every member of `starts`. With no member it never returns BOLFREGA_BROKEN or
+ * BOLFREGA_EMPTY.
+ *
+ * It needs the stack of bolfrega_check.
+ *
+ * Returns, and sets all nine details:
+ * - 1 to 7 or 12 if the file is refused; else 8 if `rows` is 0 or above 4,096. The record is that of bolfrega_refusal (0 for 1, 2 and 8), and
+ *   the other details are 0.
+ * - BOLFREGA_HOLDS, BOLFREGA_EMPTY, BOLFREGA_FULL or BOLFREGA_SPENT. Joins, used and pass are those of the check, the row is 65,535, the
+ *   rest is 0.
+ * - BOLFREGA_BROKEN, at the first row of any member whose run is turned away. Joins, used, pass, row, pairs and length are those of the check,
+ *   procedure is the member, the record is 0. If the run has at most 65,534 steps and fits into the buffer, refused is 0 and the run is
+ *   the first `length` bytes of the buffer. Else refused is 10.
+ *
+ * Every byte of the buffer keeps its value but those of a run that is written. Once it returns BOLFREGA_HOLDS, BOLFREGA_BROKEN or
+ * BOLFREGA_EMPTY, more rows (up to 4,096) or a larger budget change nothing that it returns, sets or writes.
+ */
+uint64_t bolfrega_check_from(const uint8_t *file, size_t file_length, uint64_t starts, size_t rows, uint64_t budget, uint64_t details[9],
+                             uint8_t *buffer, size_t buffer_length);
 
 #ifdef __cplusplus
 }

@@ -11,17 +11,6 @@
 
 #include <inttypes.h>
 
-/* Reads a step code. Returns 0 where the text is none of 0 to 255: what is above 127 is the library's to refuse. */
-static int read_step(const char *text, uint8_t *step)
-{
-    char *end;
-    unsigned long code = strtoul(text, &end, 10);
-    if (text[0] < '0' || text[0] > '9' || *end != '\0' || code > 255)
-        return 0;
-    *step = (uint8_t)code;
-    return 1;
-}
-
 /* Prints the answer, and returns the exit status that goes with it. */
 static int print_answer(uint64_t code)
 {
@@ -46,7 +35,8 @@ static uint8_t *read_run(char **words, size_t steps)
     if (run == NULL)
         perror("drive");
     for (size_t i = 0; run != NULL && i < steps; i++) {
-        if (!read_step(words[i], &run[i])) {
+        /* What is above 127 is the library's to refuse. */
+        if (!read_number(words[i], 255, &run[i])) {
             fprintf(stderr, "drive: %s is no step code\n", words[i]);
             free(run);
             run = NULL;

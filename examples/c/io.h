@@ -1,4 +1,4 @@
-/* What the examples share: a file read whole, and an answer that was written. */
+/* What the examples share: a file read whole, a number among the words, and an answer that was written. */
 #ifndef EXAMPLES_IO_H
 #define EXAMPLES_IO_H
 
@@ -42,6 +42,17 @@ static inline uint8_t *read_file(const char *path, size_t *length)
         fprintf(stderr, "cannot read %s\n", path);
     fclose(stream);
     return file;
+}
+
+/* Reads a number from 0 to `most`, which is at most 255. Returns 0 where the text is none. */
+static inline int read_number(const char *text, unsigned long most, uint8_t *number)
+{
+    char *end;
+    unsigned long value = strtoul(text, &end, 10);
+    if (text[0] < '0' || text[0] > '9' || *end != '\0' || value > most)
+        return 0;
+    *number = (uint8_t)value;
+    return 1;
 }
 
 /* Whether all that was printed was written. An answer that was not is none. */

@@ -43,6 +43,11 @@
 //! bytes that are not used are 0. Records rise strictly, and the limits are the same: 1,296 records, 256 rules, 1,024 moves. [`widen`] moves a
 //! file over, [`narrow`] back, and [`unfold`] makes the eight-byte file that all other calls take.
 //!
+//! # Several starting procedures
+//!
+//! One file serves many routes, each with its own first procedure. [`check_from`] and [`unfold_from`] take the set of these, [`Starts`];
+//! [`check`] and [`unfold`] are for procedure 0 alone.
+//!
 //! # Linking
 //!
 //! The build links `libbolfrega.a` from the folder in `BOLFREGA_LIB_DIR`, or from `../target/staticlib`, where
@@ -50,9 +55,9 @@
 //!
 //! # Stack
 //!
-//! [`check`] keeps its journal (352 KiB) and its tables (about 185 KiB) on the stack, and allocates nothing. Writing a run takes up to
-//! 576 KiB more (144 bytes for each row on the way down). A thread that calls it needs 1.5 MiB of stack to be on the safe side; Rust's
-//! threads have 2 MiB unless told otherwise.
+//! [`check`], like [`check_from`], keeps its journal (352 KiB) and its tables (about 185 KiB) on the stack, and allocates nothing. Writing a
+//! run takes up to 576 KiB more (144 bytes for each row on the way down). A thread that calls it needs 1.5 MiB of stack to be on the safe
+//! side; Rust's threads have 2 MiB unless told otherwise.
 
 #![deny(unsafe_code)]
 #![warn(missing_docs)]
@@ -61,12 +66,16 @@ mod gaps;
 pub mod raw;
 mod recognizing;
 mod refusal;
+mod starts;
 mod wide;
 
 pub use gaps::{gaps, Gap, Gaps, LIST_BYTES};
 pub use recognizing::{recognize, Derivations, CELLS, MOST_STEPS};
 pub use refusal::Refusal;
-pub use wide::{narrow, narrow_into, unfold, unfold_into, widen, widen_into, FILE_BYTES, WIDE_BYTES};
+pub use starts::{check_from, AnswerFrom, Starts};
+pub use wide::{
+    narrow, narrow_into, unfold, unfold_from, unfold_from_into, unfold_into, widen, widen_into, FILE_BYTES, WIDE_BYTES,
+};
 
 /// The most rows that a check's journal may have.
 pub const MOST_ROWS: usize = 4_096;
@@ -94,7 +103,7 @@ pub struct Answer<'b> {
     pub pass: u64,
 }
 
-/// How a check ends.
+/// How a check ends. What each verdict means for several procedures is said at [`check_from`].
 #[derive(Clone, Copy, Debug, PartialEq, Eq, Hash)]
 #[non_exhaustive]
 pub enum Verdict<'b> {
@@ -123,10 +132,10 @@ pub struct Broken<'b> {
     pub run: Result<&'b [u8], Refusal>,
 }
 
-/// The version of the library's interface.
+/// The version of the library's interface. Since 2 it has [`check_from`] and [`unfold_from`].
 ///
 /// ```
-/// assert_eq!(bolfrega::version(), 1);
+/// assert_eq!(bolfrega::version(), 2);
 /// ```
 pub fn version() -> u64 {
     raw::version()
@@ -174,7 +183,8 @@ pub fn judge(file: &[u8], run: &[u8]) -> Result<Judgement, Refusal> {
     }
 }
 
-/// Checks a file's plan against its sheet, with a journal of `rows` rows and at most `budget` joins.
+/// Checks a file's plan against its sheet, with a journal of `rows` rows and at most `budget` joins. The runs are those of procedure 0;
+/// [`check_from`] is for other procedures.
 ///
 /// The run of a broken answer is written to the front of `buffer`; all other bytes of `buffer` keep their values, and so do all of them
 /// with any other answer and with a refusal. It refuses a file with 1 to 7 or 12, and then with 8 a number of rows that is 0 or above
@@ -199,6 +209,11 @@ pub fn judge(file: &[u8], run: &[u8]) -> Result<Judgement, Refusal> {
 pub fn check<'b>(file: &[u8], rows: usize, budget: u64, buffer: &'b mut [u8]) -> Result<Answer<'b>, Refusal> {
     let mut details = [0; 8];
     let code = raw::check(file, rows, budget, &mut details, buffer);
+    answer(code, details, buffer)
+}
+
+/// The answer with a code and details that the library gave, or the refusal.
+fn answer(code: u64, details: raw::Details, buffer: &[u8]) -> Result<Answer<'_>, Refusal> {
     let [record, joins, used, pass, ..] = details;
     let verdict = match code {
         raw::HOLDS => Verdict::Holds,

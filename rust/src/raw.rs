@@ -8,15 +8,16 @@
 
 #![allow(unsafe_code)]
 
-/// [`check`]: the plan has a run, and the sheet accepts every one.
+/// [`check`]: the plan has a run, and the sheet accepts every one. [`check_from`]: each member has one, and the sheet accepts
+/// every run of every member.
 pub const HOLDS: u64 = 100;
-/// [`check`]: a run of the plan is turned away.
+/// [`check`]: a run of the plan is turned away. [`check_from`]: a run of a member is.
 pub const BROKEN: u64 = 101;
-/// [`check`]: the journal had no row left.
+/// [`check`], [`check_from`]: the journal had no row left.
 pub const FULL: u64 = 102;
-/// [`check`]: the joins reached the budget.
+/// [`check`], [`check_from`]: the joins reached the budget.
 pub const SPENT: u64 = 103;
-/// [`check`]: the plan has no run.
+/// [`check`]: the plan has no run. [`check_from`]: some member has none.
 pub const EMPTY: u64 = 104;
 /// [`judge`]: the sheet accepts the run.
 pub const ACCEPTED: u64 = 110;
@@ -28,14 +29,17 @@ pub const DERIVED: u64 = 112;
 pub const NOT_DERIVED: u64 = 113;
 /// [`list`]: the gaps and doubles are listed.
 pub const LISTED: u64 = 114;
-/// [`widen`], [`narrow`], [`unfold`]: the result is in the output.
+/// [`widen`], [`narrow`], [`unfold`], [`unfold_from`]: the result is in the output.
 pub const CONVERTED: u64 = 115;
 
 /// What a check fills in: record, joins, used, pass, row, pairs, length, refused.
 pub type Details = [u64; 8];
 
+/// What a check from several procedures fills in: the same, then the procedure of the run that is shown.
+pub type DetailsFrom = [u64; 9];
+
 mod c {
-    use super::Details;
+    use super::{Details, DetailsFrom};
 
     unsafe extern "C" {
         pub safe fn bolfrega_version() -> u64;
@@ -82,12 +86,31 @@ mod c {
             out: *mut u8,
             out_length: usize,
         ) -> u64;
+        pub fn bolfrega_unfold_from(
+            file: *const u8,
+            file_length: usize,
+            starts: u64,
+            record: *mut u64,
+            length: *mut u64,
+            out: *mut u8,
+            out_length: usize,
+        ) -> u64;
         pub fn bolfrega_check(
             file: *const u8,
             file_length: usize,
             rows: usize,
             budget: u64,
             details: *mut Details,
+            buffer: *mut u8,
+            buffer_length: usize,
+        ) -> u64;
+        pub fn bolfrega_check_from(
+            file: *const u8,
+            file_length: usize,
+            starts: u64,
+            rows: usize,
+            budget: u64,
+            details: *mut DetailsFrom,
             buffer: *mut u8,
             buffer_length: usize,
         ) -> u64;
@@ -151,10 +174,25 @@ pub fn unfold(file: &[u8], record: &mut u64, length: &mut u64, out: &mut [u8]) -
     unsafe { c::bolfrega_unfold(file.as_ptr(), file.len(), record, length, pointer, room) }
 }
 
+/// As [`unfold`], for the set `starts` of starting procedures, bit p for procedure p.
+pub fn unfold_from(file: &[u8], starts: u64, record: &mut u64, length: &mut u64, out: &mut [u8]) -> u64 {
+    let (pointer, room) = (out.as_mut_ptr(), out.len());
+    // SAFETY: each pointer and length are those of one slice, and `record`, `length` and `out` are lent to this call alone.
+    unsafe { c::bolfrega_unfold_from(file.as_ptr(), file.len(), starts, record, length, pointer, room) }
+}
+
 /// [`HOLDS`], [`BROKEN`], [`FULL`], [`SPENT`], [`EMPTY`] or the number of a refusal; fills in `details`, and writes the run of a broken
 /// answer to `buffer`.
 pub fn check(file: &[u8], rows: usize, budget: u64, details: &mut Details, buffer: &mut [u8]) -> u64 {
     let (pointer, length) = (buffer.as_mut_ptr(), buffer.len());
     // SAFETY: each pointer and length are those of one slice, and `details` and `buffer` are lent to this call alone.
     unsafe { c::bolfrega_check(file.as_ptr(), file.len(), rows, budget, details, pointer, length) }
+}
+
+/// As [`check`], for the set `starts` of starting procedures, bit p for procedure p. The last of `details` becomes the procedure of the run that is
+/// shown, and 0 unless the answer is [`BROKEN`].
+pub fn check_from(file: &[u8], starts: u64, rows: usize, budget: u64, details: &mut DetailsFrom, buffer: &mut [u8]) -> u64 {
+    let (pointer, length) = (buffer.as_mut_ptr(), buffer.len());
+    // SAFETY: each pointer and length are those of one slice, and `details` and `buffer` are lent to this call alone.
+    unsafe { c::bolfrega_check_from(file.as_ptr(), file.len(), starts, rows, budget, details, pointer, length) }
 }

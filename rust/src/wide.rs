@@ -1,11 +1,12 @@
 //! The two forms of plan records: moving a file from one to the other, and unfolding longer bodies for a check.
 
-use crate::{raw, refused, Refusal};
+use crate::{raw, refused, Refusal, Starts};
 
 /// The most bytes of a file of sixteen-byte records: 1,296 of them. An output of this length suffices for [`widen_into`].
 pub const WIDE_BYTES: usize = 20_736;
 
-/// The most bytes of a file of eight-byte records: 1,296 of them. An output of this length suffices for [`narrow_into`] and [`unfold_into`].
+/// The most bytes of a file of eight-byte records: 1,296 of them. An output of this length suffices for [`narrow_into`], [`unfold_into`] and
+/// [`unfold_from_into`].
 pub const FILE_BYTES: usize = 10_368;
 
 /// Moves a file of eight-byte records over to [sixteen bytes](crate#sixteen-byte-records): every record gets eight zeros behind it.
@@ -140,10 +141,58 @@ pub fn unfold_into(file: &[u8], out: &mut [u8]) -> Result<usize, Refusal> {
     into(raw::unfold, file, out)
 }
 
-/// One of the three calls on numbers: file, record, length, output.
-type Call = fn(&[u8], &mut u64, &mut u64, &mut [u8]) -> u64;
+/// As [`unfold`], for a check from the procedures in `starts` ([`check_from`](crate::check_from)): each of them counts as in use, whether or not
+/// a rule has it, so that no member is a chain procedure. Of procedure 0 alone ([`Starts::INITIAL`]) it gives what `unfold` gives.
+///
+/// It refuses a file with 16, 2 to 7 or 12, and then with 18 one that would need procedure 64 or a 257th rule.
+///
+/// ```
+/// use bolfrega::{unfold_from, Refusal, Starts};
+///
+/// let wide = [1, 0, 3, 5, 6, 7, 0, 0, 0, 0, 0, 0, 0, 0, 0, 0]; // 0 gives 5 6 7
+/// let starts = Starts::of([0, 1]).expect("no procedure is above 63");
+/// let file = unfold_from(&wide, starts)?;
+/// // Procedure 1 has no rule, and it gets none: the chain procedure is 2.
+/// assert_eq!(file, [[1, 0, 2, 5, 130, 0, 0, 0], [1, 2, 2, 6, 7, 0, 0, 0]].concat());
+/// // There is no procedure above 63.
+/// assert_eq!(unfold_from(&wide, Starts::of([63]).unwrap()), Err(Refusal::Chains));
+/// # Ok::<(), Refusal>(())
+/// ```
+pub fn unfold_from(file: &[u8], starts: Starts) -> Result<Vec<u8>, Refusal> {
+    whole(from(starts), file, FILE_BYTES)
+}
 
-fn into(call: Call, file: &[u8], out: &mut [u8]) -> Result<usize, Refusal> {
+/// As [`unfold_from`], on a lent output. Returns the length of the result, which is at the front of `out`; all other bytes of `out` keep their
+/// values, and so do all of them if the call is refused.
+///
+/// It refuses a file with 16, 2 to 7 or 12, then with 18 one that would need procedure 64 or a 257th rule, and then with 10 an output that is
+/// shorter than the result.
+///
+/// ```
+/// use bolfrega::{unfold_from_into, Refusal, Starts};
+///
+/// let wide = [1, 0, 3, 5, 6, 7, 0, 0, 0, 0, 0, 0, 0, 0, 0, 0]; // 0 gives 5 6 7
+/// let starts = Starts::of([62]).expect("no procedure is above 63");
+/// let mut out = [9; 18];
+/// assert_eq!(unfold_from_into(&wide, starts, &mut out[..15]), Err(Refusal::Room));
+/// assert_eq!(unfold_from_into(&wide, starts, &mut out), Ok(16));
+/// assert_eq!(out, [1, 0, 2, 5, 191, 0, 0, 0, 1, 63, 2, 6, 7, 0, 0, 0, 9, 9]);
+/// ```
+pub fn unfold_from_into(file: &[u8], starts: Starts, out: &mut [u8]) -> Result<usize, Refusal> {
+    into(from(starts), file, out)
+}
+
+/// Unfolding for these procedures, on numbers.
+fn from(starts: Starts) -> impl Call {
+    move |file, record, length, out| raw::unfold_from(file, starts.bits(), record, length, out)
+}
+
+/// One of the calls on numbers: file, record, length, output.
+trait Call: Fn(&[u8], &mut u64, &mut u64, &mut [u8]) -> u64 {}
+
+impl<F: Fn(&[u8], &mut u64, &mut u64, &mut [u8]) -> u64> Call for F {}
+
+fn into(call: impl Call, file: &[u8], out: &mut [u8]) -> Result<usize, Refusal> {
     let (mut record, mut length) = (0, 0);
     match call(file, &mut record, &mut length, out) {
         raw::CONVERTED => Ok(length as usize),
@@ -152,7 +201,7 @@ fn into(call: Call, file: &[u8], out: &mut [u8]) -> Result<usize, Refusal> {
 }
 
 /// The whole result, for which `most` bytes always suffice.
-fn whole(call: Call, file: &[u8], most: usize) -> Result<Vec<u8>, Refusal> {
+fn whole(call: impl Call, file: &[u8], most: usize) -> Result<Vec<u8>, Refusal> {
     let mut out = vec![0; most];
     let length = into(call, file, &mut out)?;
     out.truncate(length);

@@ -4,6 +4,7 @@
 mod common;
 
 use bolfrega::{narrow, narrow_into, recognize, unfold, widen, Refusal, CELLS, FILE_BYTES, WIDE_BYTES};
+use common::rules::Rules;
 use common::Conversion::{Narrow, Unfold, Widen};
 use common::{checking, converting, damage, judging, reading, recognizing, valid_file, valid_wide_file, with_every_room, Size};
 use plain::making::{procedure, sheet_s, Making, Numbers};
@@ -404,127 +405,14 @@ fn samples() {
     assert_eq!(unfolded, include_bytes!("../../samples/long-broken.plan"));
 }
 
-/// A plan of sixteen-byte records as it stands: each rule's procedure, and the symbols of its body.
-struct WidePlan {
-    rules: Vec<(u8, Vec<u8>)>,
-}
-
-/// The procedure of a symbol that is none of the step codes.
-fn procedure_of(symbol: u8) -> Option<u8> {
-    symbol.checked_sub(128)
-}
-
-impl WidePlan {
-    fn of(file: &[u8]) -> WidePlan {
-        let rules = file.chunks(16).filter(|record| record[0] == 1);
-        let rules = rules.map(|rule| (rule[1], rule[3..3 + usize::from(rule[2])].to_vec()));
-        WidePlan { rules: rules.collect() }
-    }
-
-    /// One above the highest procedure in use.
-    fn free(&self) -> u8 {
-        let symbols = self
-            .rules
-            .iter()
-            .flat_map(|(_, body)| body)
-            .filter_map(|&symbol| procedure_of(symbol));
-        let used = self.rules.iter().map(|&(head, _)| head).chain(symbols);
-        used.max().map_or(0, |highest| highest + 1)
-    }
-
-    /// The procedures that derive each stretch of a run of at most 64 steps, as bits, by the step where it begins and the one where it ends.
-    fn derived(&self, run: &[u8]) -> Vec<Vec<u64>> {
-        let mut known = vec![vec![0; run.len() + 1]; run.len() + 1];
-        loop {
-            let before = known.clone();
-            for (head, body) in &self.rules {
-                for begin in 0..=run.len() {
-                    let ends = body
-                        .iter()
-                        .fold(vec![begin], |ends, &symbol| ends_after(&known, run, &ends, symbol));
-                    ends.iter().for_each(|&end| known[begin][end] |= 1 << head);
-                }
-            }
-            if known == before {
-                return known;
-            }
-        }
-    }
-
-    fn derives(&self, run: &[u8]) -> bool {
-        self.derived(run)[0][run.len()] & 1 == 1
-    }
-
-    /// The least height of a derivation from each procedure.
-    fn heights(&self) -> [Option<usize>; 64] {
-        let mut heights = [None; 64];
-        for height in 1..=64 {
-            let before = heights;
-            for (head, body) in self
-                .rules
-                .iter()
-                .filter(|(_, body)| height_above(&before, body) == Some(height))
-            {
-                let known = &mut heights[usize::from(*head)];
-                *known = known.or(height_above(&before, body));
-            }
-        }
-        heights
-    }
-
-    /// Adds a run that a procedure derives within a height to `run`; false if the run becomes too long.
-    fn derive(&self, numbers: &mut Numbers, heights: &[Option<usize>; 64], head: u8, height: usize, run: &mut Vec<u8>) -> bool {
-        let low = |body: &[u8]| height_above(heights, body).is_some_and(|least| least <= height);
-        let bodies: Vec<&Vec<u8>> = self
-            .rules
-            .iter()
-            .filter(|(of, body)| *of == head && low(body))
-            .map(|(_, body)| body)
-            .collect();
-        numbers.pick(&bodies).iter().all(|&symbol| match procedure_of(symbol) {
-            None => {
-                run.push(symbol);
-                run.len() <= 60
-            }
-            Some(inner) => self.derive(numbers, heights, inner, height - 1, run),
-        })
-    }
-
-    /// A run of the plan, if it has one and the one drawn is not too long.
-    fn draw(&self, numbers: &mut Numbers) -> Option<Vec<u8>> {
-        let heights = self.heights();
-        let height = heights[0]? + numbers.below(4);
-        let mut run = Vec::new();
-        self.derive(numbers, &heights, 0, height, &mut run).then_some(run)
-    }
-}
-
-/// Where a symbol can end that begins at one of `begins`.
-fn ends_after(known: &[Vec<u64>], run: &[u8], begins: &[usize], symbol: u8) -> Vec<usize> {
-    let ends = |begin: usize, end: usize| match procedure_of(symbol) {
-        None => run[begin..end] == [symbol],
-        Some(inner) => known[begin][end] >> inner & 1 == 1,
-    };
-    (0..=run.len())
-        .filter(|&end| begins.iter().any(|&begin| begin <= end && ends(begin, end)))
-        .collect()
-}
-
-/// One more than the greatest least height of a body's procedures, if each has one.
-fn height_above(heights: &[Option<usize>; 64], body: &[u8]) -> Option<usize> {
-    let inner = body.iter().filter_map(|&symbol| procedure_of(symbol));
-    let below: Option<Vec<usize>> = inner.map(|procedure| heights[usize::from(procedure)]).collect();
-    Some(1 + below?.into_iter().max().unwrap_or(0))
-}
-
 /// Files whose chain procedures suffice, with their unfolded ones.
-fn unfolding(seed: u64, rounds: usize, size: Size) -> impl Iterator<Item = (Numbers, WidePlan, Vec<u8>)> {
+fn unfolding(seed: u64, rounds: usize, size: Size) -> impl Iterator<Item = (Numbers, Rules, Vec<u8>)> {
     let mut numbers = Numbers::new(seed);
     (0..rounds).filter_map(move |_| {
         let file = valid_wide_file(&mut numbers, size, &[0, 1, 1, 2, 2, 3, 4, 5, 8]);
         let (code, _, unfolded) = converting(Unfold, &file, FILE_BYTES);
         let drawing = Numbers::new(numbers.below(1 << 40) as u64);
-        (code == 115).then(|| (drawing, WidePlan::of(&file), unfolded))
+        (code == 115).then(|| (drawing, Rules::of(&file, 16), unfolded))
     })
 }
 
@@ -534,7 +422,7 @@ fn the_same_runs() {
     let (mut looked, mut derived) = (0, 0);
     for (mut numbers, plan, unfolded) in unfolding(65, 1_200, TINY).chain(unfolding(66, 600, SMALL)) {
         let original = (1u64 << plan.free()) - 1;
-        let drawn = plan.draw(&mut numbers);
+        let drawn = plan.draw(&mut numbers, 0);
         let any: Vec<u8> = (0..numbers.below(7)).map(|_| numbers.byte(4)).collect();
         for run in drawn.into_iter().chain([any]).filter(|run| run.len() <= 16) {
             let (code, ..) = recognizing(&unfolded, &run, CELLS);
@@ -567,7 +455,7 @@ fn verdicts() {
             100 => {
                 assert!(some_run, "{:?}", plan.rules);
                 for _ in 0..8 {
-                    if let Some(run) = plan.draw(&mut numbers) {
+                    if let Some(run) = plan.draw(&mut numbers, 0) {
                         assert_eq!(judging(&unfolded, &run), (110, 0), "{:?}", plan.rules);
                         accepted += 1;
                     }
@@ -575,7 +463,7 @@ fn verdicts() {
             }
             101 if details[7] == 0 && details[6] <= 64 => {
                 let run = &buffer[..details[6] as usize];
-                assert!(plan.derives(run), "{run:?} by {:?}", plan.rules);
+                assert!(plan.derives(0, run), "{run:?} by {:?}", plan.rules);
                 assert_eq!(judging(&unfolded, run), (111, 0));
                 shown += 1;
             }

@@ -33,7 +33,9 @@ static const uint8_t plan_b[] = {
 #define SHEET (plan_b + 40)
 #define SHEET_LENGTH (sizeof plan_b - 40)
 
-static uint64_t details[8];
+/* bolfrega_check sets eight of them, bolfrega_check_from nine, and neither the last. */
+static uint64_t details[10];
+#define AS_BEFORE 0x7777777777777777
 static uint8_t buffer[64];
 
 /* Makes a check over places that hold something else, and returns its code. */
@@ -44,12 +46,27 @@ static uint64_t check(const uint8_t *file, size_t length, size_t rows, uint64_t 
     return bolfrega_check(file, length, rows, budget, details, buffer, room);
 }
 
-/* Whether the details are these. */
+/* The same for a set of procedures. */
+static uint64_t check_from(const uint8_t *file, size_t length, uint64_t starts, size_t rows, uint64_t budget, size_t room)
+{
+    memset(details, 0x77, sizeof details);
+    memset(buffer, 0xee, sizeof buffer);
+    return bolfrega_check_from(file, length, starts, rows, budget, details, buffer, room);
+}
+
+/* Whether the nine details are these, and the next is as it was. */
+static int said_from(uint64_t record, uint64_t joins, uint64_t used, uint64_t pass, uint64_t row, uint64_t pairs, uint64_t length,
+                     uint64_t refused, uint64_t procedure)
+{
+    const uint64_t expected[10] = {record, joins, used, pass, row, pairs, length, refused, procedure, AS_BEFORE};
+    return memcmp(details, expected, sizeof expected) == 0;
+}
+
+/* Whether the eight details are these, and the ninth is as it was. */
 static int said(uint64_t record, uint64_t joins, uint64_t used, uint64_t pass, uint64_t row, uint64_t pairs, uint64_t length,
                 uint64_t refused)
 {
-    const uint64_t expected[8] = {record, joins, used, pass, row, pairs, length, refused};
-    return memcmp(details, expected, sizeof expected) == 0;
+    return said_from(record, joins, used, pass, row, pairs, length, refused, AS_BEFORE);
 }
 
 /* Whether the buffer is unchanged from a place on. */
@@ -292,6 +309,7 @@ static void checks(void)
     EXPECT(said(1, 0, 0, 0, 0, 0, 0, 0) && untouched(0));
 
     /* A plan without runs: the empty file; 0 gives 1 (procedure 0), and 1 gives nothing; the joins run out first. */
+    memset(details, 0x77, sizeof details);
     EXPECT(bolfrega_check(NULL, 0, 1, 0, details, NULL, 0) == BOLFREGA_EMPTY);
     EXPECT(said(0, 0, 0, 1, 65535, 0, 0, 0));
     static const uint8_t endless[16] = {1, 0, 2, 1, 128, 0, 0, 0, 1, 1, 0, 0, 0, 0, 0, 0};
@@ -301,14 +319,101 @@ static void checks(void)
     EXPECT(said(0, 1, 1, 2, 65535, 0, 0, 0) && untouched(0));
 }
 
+/* The set with these two procedures. */
+#define BOTH(p, q) (UINT64_C(1) << (p) | UINT64_C(1) << (q))
+
+static void starts(void)
+{
+    /* Plan B from its other procedures: 1 and 2 give nothing, and stage 0 is not finishing. Procedure 63 has no rule. */
+    const size_t n = sizeof plan_b;
+    EXPECT(check_from(plan_b, n, 1, 1024, 1000000, 64) == BOLFREGA_BROKEN);
+    EXPECT(said_from(0, 12, 7, 4, 6, 0, 2, 0, 0) && buffer[0] == 1 && buffer[1] == 3 && untouched(2));
+    EXPECT(check_from(plan_b, n, BOTH(0, 1), 1024, 1000000, 64) == BOLFREGA_BROKEN);
+    EXPECT(said_from(0, 1, 1, 1, 0, 16, 0, 0, 1) && untouched(0));
+    EXPECT(check_from(plan_b, n, BOTH(0, 2), 1024, 1000000, 64) == BOLFREGA_BROKEN);
+    EXPECT(said_from(0, 4, 3, 2, 2, 16, 0, 0, 2) && untouched(0));
+    EXPECT(check_from(plan_b, n, UINT64_MAX, 1024, 1000000, 64) == BOLFREGA_BROKEN && details[BOLFREGA_PROCEDURE] == 1);
+    EXPECT(check_from(plan_b, n, 0, 1024, 1000000, 64) == BOLFREGA_HOLDS);
+    EXPECT(details[BOLFREGA_ROW] == 65535 && details[BOLFREGA_PROCEDURE] == 0 && untouched(0));
+    EXPECT(check_from(plan_b, n, BOTH(62, 63), 1024, 1000000, 64) == BOLFREGA_EMPTY && details[BOLFREGA_PROCEDURE] == 0 && untouched(0));
+    EXPECT(check_from(plan_b, n, BOTH(0, 63), 1024, 1000000, 64) == BOLFREGA_BROKEN && details[BOLFREGA_PROCEDURE] == 0);
+    EXPECT(check_from(plan_b, n, 0, 3, 1000000, 64) == BOLFREGA_FULL && details[BOLFREGA_PROCEDURE] == 0 && untouched(0));
+    EXPECT(check_from(plan_b, n, BOTH(0, 63), 1024, 11, 64) == BOLFREGA_SPENT);
+    EXPECT(said_from(0, 11, 6, 4, 65535, 0, 0, 0, 0) && untouched(0));
+
+    EXPECT(check_from(plan_b, n, 2, 0, 1000000, 64) == 8);
+    EXPECT(said_from(0, 0, 0, 0, 0, 0, 0, 0, 0) && untouched(0));
+    EXPECT(check_from(plan_b, n, 2, 4097, 1000000, 64) == 8);
+    static const uint8_t twice[16] = {3, 0, 0, 0, 0, 0, 0, 0, 3, 0, 0, 0, 0, 0, 0, 0};
+    EXPECT(check_from(twice, 16, UINT64_MAX, 0, 0, 64) == 6);
+    EXPECT(said_from(1, 0, 0, 0, 0, 0, 0, 0, 0) && untouched(0));
+
+    /* Procedure 63 gives 5 6, and no stage is finishing: its run is shown, or does not fit. Procedure 0 has none. */
+    static const uint8_t last[8] = {1, 63, 2, 5, 6, 0, 0, 0};
+    EXPECT(check_from(last, 8, BOTH(0, 63), 1, 1, 2) == BOLFREGA_BROKEN);
+    EXPECT(said_from(0, 1, 1, 1, 0, 0, 2, 0, 63) && buffer[0] == 5 && buffer[1] == 6 && untouched(2));
+    EXPECT(check_from(last, 8, BOTH(0, 63), 1, 1, 1) == BOLFREGA_BROKEN);
+    EXPECT(said_from(0, 1, 1, 1, 0, 0, 2, 10, 63) && untouched(0));
+    EXPECT(check_from(last, 8, 1, 1, 2, 64) == BOLFREGA_EMPTY);
+    EXPECT(said_from(0, 2, 1, 2, 65535, 0, 0, 0, 0) && untouched(0));
+
+    /* 0 gives nothing, and stage 0 is finishing: every run of procedure 0 is accepted, and no other procedure has one. */
+    static const uint8_t nothing[16] = {1, 0, 0, 0, 0, 0, 0, 0, 3, 0, 0, 0, 0, 0, 0, 0};
+    EXPECT(check_from(nothing, 16, 1, 1, 2, 64) == BOLFREGA_HOLDS && said_from(0, 2, 1, 2, 65535, 0, 0, 0, 0));
+    EXPECT(check_from(nothing, 16, BOTH(0, 1), 1, 2, 64) == BOLFREGA_EMPTY && said_from(0, 2, 1, 2, 65535, 0, 0, 0, 0));
+    EXPECT(check_from(nothing, 16, 2, 1, 2, 64) == BOLFREGA_EMPTY && said_from(0, 2, 1, 2, 65535, 0, 0, 0, 0));
+
+    /* The empty file, with nothing lent. */
+    EXPECT(bolfrega_check_from(NULL, 0, 0, 1, 0, details, NULL, 0) == BOLFREGA_HOLDS);
+    EXPECT(said_from(0, 0, 0, 1, 65535, 0, 0, 0, 0));
+    EXPECT(bolfrega_check_from(NULL, 0, 1, 1, 0, details, NULL, 0) == BOLFREGA_EMPTY);
+    EXPECT(said_from(0, 0, 0, 1, 65535, 0, 0, 0, 0));
+}
+
+static uint64_t unfold_from_0(const uint8_t *file, size_t length, uint64_t *record, uint64_t *result, uint8_t *out, size_t room)
+{
+    return bolfrega_unfold_from(file, length, 1, record, result, out, room);
+}
+
+static uint64_t unfold_from_0_and_1(const uint8_t *file, size_t length, uint64_t *record, uint64_t *result, uint8_t *out, size_t room)
+{
+    return bolfrega_unfold_from(file, length, BOTH(0, 1), record, result, out, room);
+}
+
+static uint64_t unfold_from_63(const uint8_t *file, size_t length, uint64_t *record, uint64_t *result, uint8_t *out, size_t room)
+{
+    return bolfrega_unfold_from(file, length, BOTH(63, 63), record, result, out, room);
+}
+
+static void unfoldings(void)
+{
+    /* 0 gives 5 6 7: the chain procedure is 1, or 2 where procedure 1 is a member. */
+    static const uint8_t wide[32] = {1, 0, 3, 5, 6, 7};
+    static const uint8_t alone[16] = {1, 0, 2, 5, 129, 0, 0, 0, 1, 1, 2, 6, 7, 0, 0, 0};
+    static const uint8_t with_1[16] = {1, 0, 2, 5, 130, 0, 0, 0, 1, 2, 2, 6, 7, 0, 0, 0};
+    static const uint8_t short_body[16] = {1, 0, 2, 5, 6};
+    EXPECT(converts(unfold_from_0, wide, 16, 16, BOLFREGA_CONVERTED, 0, alone, 16));
+    EXPECT(converts(unfold_from_0_and_1, wide, 16, 16, BOLFREGA_CONVERTED, 0, with_1, 16));
+    EXPECT(converts(unfold_from_0_and_1, wide, 16, 17, BOLFREGA_CONVERTED, 0, with_1, 16));
+    EXPECT(converts(unfold_from_0_and_1, wide, 16, 15, 10, 0, NULL, 0));
+    EXPECT(converts(unfold_from_63, wide, 16, 0, 18, 0, NULL, 0));
+    EXPECT(converts(unfold_from_63, short_body, 16, 8, BOLFREGA_CONVERTED, 0, short_body, 8));
+    EXPECT(converts(unfold_from_63, wide, 15, 0, 16, 0, NULL, 0));
+    EXPECT(converts(unfold_from_63, wide, 32, 0, 3, 1, NULL, 0));
+    uint64_t record = 77, length = 77;
+    EXPECT(bolfrega_unfold_from(NULL, 0, UINT64_MAX, &record, &length, NULL, 0) == BOLFREGA_CONVERTED && record == 0 && length == 0);
+}
+
 int main(void)
 {
-    EXPECT(bolfrega_version() == 1);
+    EXPECT(bolfrega_version() == 2);
     refusals();
     judgements();
     recognitions();
     lists();
     conversions();
     checks();
+    starts();
+    unfoldings();
     return failures != 0;
 }

@@ -5,9 +5,9 @@ use Prim.Native.Nat.{ℕ}
 use Rattle.spec_calls.specs.Judging.{Judgement, accepted, turnedAway}
 use Rattle.spec_calls.specs.Replies.{Reply, refused, answered}
 
--- the version of this interface
+-- the version of this interface: 2 since it has `bolfrega_check_from`
 abbrev pub version : ℕ
-version = 1
+version = 2
 
 -- ---- judgements
 

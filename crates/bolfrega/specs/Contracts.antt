@@ -1,20 +1,22 @@
 -- What the library's functions ensure, each in one record. Definitions only. Assumes nothing.
 use mathlib.Core.Path.{_≡_}
-use mathlib.Core.List.{List}
+use mathlib.Core.List.{List, [], _∷_, _++_}
 use Prim.Native.Nat.{ℕ}
-use lib.ListN.{length, replicate}
+use lib.ListN.{length, take, replicate}
 use Rattle.spec_file.specs.Refusals.{fault}
 use Rattle.spec_order.specs.Journal.{Row}
-use Rattle.spec_calls.specs.Checking.{Settings, journalAfter}
+use Rattle.spec_calls.specs.Base.{initialAlone}
+use Rattle.spec_calls.specs.Checking.{Settings, checkOf, journalAfter}
 use Rattle.spec_calls.specs.Judging.{judgeOf, JudgementMeans}
 use Rattle.spec_calls.specs.Recognizing.{recognizeOf, RecognizeMeans}
 use Rattle.spec_calls.specs.Listing.{listOf, listAfter, ListMeans}
 use Rattle.spec_calls.specs.Codes.{codeBy}
 use Rattle.spec_calls.specs.Replies.{Reply}
+use Rattle.spec_unfold.specs.Unfolding.{leastFor}
 use Rattle.spec_unfold.specs.Calls.{widenOf, widenAfter, narrowOf, narrowAfter, unfoldOf, unfoldAfter}
 use Rattle.spec_unfold.specs.MovingMeans.{WidenMeans, NarrowMeans}
 use Rattle.spec_unfold.specs.UnfoldingMeans.{UnfoldMeans}
-use Rattle.host_check.specs.Details.{zeroRow}
+use Rattle.host_check.specs.Details.{zeroRow, headOf}
 use Rattle.host_check.specs.Contracts.{ChecksBy}
 use Rattle.bolfrega.specs.Codes.{judgementCode, derivationCode, listingCode, conversionCode, sizeIn, placeIn}
 
@@ -68,9 +70,9 @@ WidensFile bs old new r i n = Converts (widenOf bs (length old)) (widenAfter bs 
 abbrev pub NarrowsFile : List ℕ → List ℕ → List ℕ → ℕ → ℕ → ℕ → Type 0
 NarrowsFile bs old new r i n = Converts (narrowOf bs (length old)) (narrowAfter bs old) (NarrowMeans bs old) new r i n
 
--- unfolded, for procedure 0: the chains, the same runs, and a check of the result as one of the file
-abbrev pub UnfoldsFile : List ℕ → List ℕ → List ℕ → ℕ → ℕ → ℕ → Type 0
-UnfoldsFile bs old new r i n = Converts (unfoldOf 0 bs (length old)) (unfoldAfter 0 bs old) (UnfoldMeans 0 bs old) new r i n
+-- unfolded, for a set of starting procedures: the chains, the same runs, and a check of the result as one of the file
+abbrev pub UnfoldsFile : ℕ → List ℕ → List ℕ → List ℕ → ℕ → ℕ → ℕ → Type 0
+UnfoldsFile set bs old new r i n = Converts (unfoldOf (leastFor set) bs (length old)) (unfoldAfter (leastFor set) bs old) (UnfoldMeans (leastFor set) bs old) new r i n
 
 -- J rows of zeros
 unfoldable pub zeroRows : ℕ → List (Row ℕ)
@@ -79,3 +81,12 @@ zeroRows J = replicate J zeroRow
 -- a check over rows of zeros, as many as the settings g ask for, whatever that number is
 abbrev pub ChecksZeros : List ℕ → Settings → List ℕ → List ℕ → List ℕ → ℕ → Type 0
 ChecksZeros bs g d old new r = ChecksBy bs g (journalAfter bs g (zeroRows (g .rows))) d old new r
+
+-- the same with nine details: the eight, and the procedure of the run that is shown
+pub record ChecksFrom (bs : List ℕ) (g : Settings) (d old new : List ℕ) (r : ℕ) : Type 0 where
+  pub eight : ChecksZeros bs g (take 8 d) old new r
+  pub ninth : d ≡ take 8 d ++ (headOf (checkOf bs g) ∷ [])
+
+-- the settings of a check of procedure 0 alone
+abbrev pub ofInitial : ℕ → ℕ → Settings
+ofInitial J B = record { rows = J; budget = B; starts = initialAlone }

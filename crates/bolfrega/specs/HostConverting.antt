@@ -1,6 +1,7 @@
 -- What a host may conclude from moving a file over or back, or from unfolding it (WidenTells, NarrowTells, UnfoldTells), by the call's contract
 -- alone. Assumes nothing.
 use mathlib.Core.Path.{_≡_, refl, sym, ap, _∙_, subst}
+use mathlib.Core.Bool.{true}
 use mathlib.Core.List.{List}
 use Prim.Native.Nat.{ℕ, zero, suc, _≤_, _<_}
 use native.Mathlib.Nat.{suc-ne-zero}
@@ -11,15 +12,17 @@ use Rattle.spec_file.specs.RefusalLaws.{number-some, number-none}
 use Rattle.spec_calls.specs.Replies.{Reply, refused, answered, reply}
 use Rattle.spec_calls.specs.ReplyLaws.{reply-first}
 use Rattle.spec_calls.specs.Codes.{firstAnswerCode, codeBy}
+use Rattle.relation.specs.Digits.{bit}
+use Rattle.spec_unfold.specs.StartLaws.{member-below}
 use Rattle.spec_unfold.specs.Moving.{widened, narrowed}
-use Rattle.spec_unfold.specs.Unfolding.{unfoldedFile}
+use Rattle.spec_unfold.specs.Unfolding.{leastFor, unfoldedFile}
 use Rattle.spec_unfold.specs.Calls.{widenRefusals, narrowRefusals, unfoldRefusals, widenOf, narrowOf, unfoldOf, widenAfter, narrowAfter, unfoldAfter}
 use Rattle.spec_unfold.specs.MovingMeans.{WidenShows, NarrowShows, WidenMeans, NarrowMeans}
 use Rattle.spec_unfold.specs.UnfoldingMeans.{UnfoldShows, UnfoldMeans}
 use Rattle.host_result.specs.LowNumbers.{low-high, LowIn, widen-low, narrow-low, unfold-low}
 use Rattle.bolfrega.specs.Codes.{convertedCode, conversionCode, sizeIn, placeIn}
 use Rattle.bolfrega.specs.Contracts.{Converts, WidensFile, NarrowsFile, UnfoldsFile}
-use Rattle.bolfrega.specs.Hosts.{ConvertTells, WidenTells, NarrowTells, UnfoldTells}
+use Rattle.bolfrega.specs.Hosts.{ConvertTells, WidenTells, NarrowTells, UnfoldFor, UnfoldTells}
 
 -- a call that any of `refusals` refuses and that answers `size`; a refused one leaves the output, and an answer n shows `shows n`
 module _ (refusals : List Refusal) (size : ℕ) (after : List ℕ) (means : List ℕ → Reply ℕ → Type 0) (shows : ℕ → Type 0) (old new : List ℕ) (r i n : ℕ)
@@ -81,7 +84,17 @@ module _ (bs old new : List ℕ) (r i n : ℕ) where
   narrow-tells h =
       convert-tells (narrowRefusals bs (length old)) (length (narrowed bs)) (narrowAfter bs old) (NarrowMeans bs old) (NarrowShows bs old new) old new r i n (λ x m. m) (λ k m. m) (narrow-low bs (length old)) h
 
-  pub unfold-tells : UnfoldsFile bs old new r i n → UnfoldTells bs old new r i n
+  -- a member is no chain procedure
+  unfold-for : (set k : ℕ) → UnfoldShows (leastFor set) bs old new k → UnfoldFor set bs old new k
+  unfold-for set k s =
+      record {
+        shows = s;
+        verdict = λ g e. s .verdict g
+            (λ p m. s .no-chain-below p (member-below set p (m .0) (subst (λ (x : ℕ). bit x p ≡ true) e (m .1))));
+      }
+
+  pub unfold-tells : (set : ℕ) → UnfoldsFile set bs old new r i n → UnfoldTells set bs old new r i n
   unfolding unfoldOf
-  unfold-tells h =
-      convert-tells (unfoldRefusals 0 bs (length old)) (length (unfoldedFile 0 bs)) (unfoldAfter 0 bs old) (UnfoldMeans 0 bs old) (UnfoldShows 0 bs old new) old new r i n (λ x m. m) (λ k m. m) (unfold-low 0 bs (length old)) h
+  unfold-tells set h =
+      let m = leastFor set in
+      convert-tells (unfoldRefusals m bs (length old)) (length (unfoldedFile m bs)) (unfoldAfter m bs old) (UnfoldMeans m bs old) (UnfoldFor set bs old new) old new r i n (λ x m. m) (unfold-for set) (unfold-low m bs (length old)) h

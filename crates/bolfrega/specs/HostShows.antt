@@ -12,7 +12,6 @@ use lib.Seq.{take-at, drop-at}
 use borrow.Author.Tests.{leb-true, leb-false}
 use Rattle.spec_basics.specs.Lists.{getD-map}
 use Rattle.relation.specs.Relation.{states, pairs}
-use Rattle.spec_language.specs.Grammar.{initial}
 use Rattle.spec_language.specs.Spelling.{DerivesWithin}
 use Rattle.spec_language.specs.WordRelation.{wordRelation}
 use Rattle.spec_file.specs.Refusals.{refuse, byNumber}
@@ -21,8 +20,8 @@ use Rattle.spec_order.specs.Behind.{wordBehind}
 use Rattle.spec_order.specs.Journal.{Row, noRow, capped}
 use Rattle.spec_order.specs.Order.{Answer, Verdict, broken}
 use Rattle.spec_calls.specs.Codes.{refusedBy}
-use Rattle.spec_calls.specs.Base.{base, words}
-use Rattle.spec_calls.specs.Checking.{Settings, checkOf, shown}
+use Rattle.spec_calls.specs.Base.{formsOn, words}
+use Rattle.spec_calls.specs.Checking.{Settings, checkOf, shown, shownHead}
 use Rattle.spec_calls.specs.DemandThree.{Promises}
 use Rattle.spec_calls.specs.JournalTruth.{row-true}
 use Rattle.spec_calls.specs.Promising.{from-order}
@@ -58,7 +57,7 @@ module _ (bs : List ℕ) (g : Settings) (a : Answer ℕ) (reply : checkOf bs g �
   row-relation =
       let order = from-order bs g a reply .2 in
       let here = subst (λ (x : Answer ℕ). a .row < length (x .journal)) order in-journal in
-      let M = base states (automatonOf bs) .forms in
+      let M = formsOn states (automatonOf bs) in
       field-same (λ x. x .effect) zeroRow (noRow M)
       ∙ ap (λ (x : Answer ℕ). getD (x .journal) (a .row) (noRow M) .effect) order
       ∙ sym (row-true bs g (a .row) here .relation-is)
@@ -126,12 +125,12 @@ module _ (bs : List ℕ) (g : Settings) (a : Answer ℕ) (reply : checkOf bs g �
                 over true q = let g = leb-true longWord (length run) q in inl (omega (arith, g, length-told))
                 over false q = let g = leb-false longWord (length run) q in inr (omega (arith, g, x, length-told))
 
-    pub run-shown : Shows bs g d old new r run
+    pub run-shown : Shows bs g d old new r (shownHead a) run
     run-shown =
         let pass-is : toldPass d ≡ a .pass = ap toldPass details-are in
         record {
           counterexample = p .one-verdict .broken-shows v;
-          within = subst (λ (k : ℕ). DerivesWithin (productionsOf bs) k initial run) (sym pass-is) (p .least-height .shown-within v);
+          within = subst (λ (k : ℕ). DerivesWithin (productionsOf bs) k (shownHead a) run) (sym pass-is) (p .least-height .shown-within v);
           none-lower = λ h l. p .least-height .none-lower v h (subst (λ (k : ℕ). h < k) pass-is l);
           pairs-are = ap toldPairs details-are ∙ ap (pairs states) row-relation;
           length-is = length-told;

@@ -1,27 +1,30 @@
 -- What a host may conclude from what a call gave it (Hosts.antt), by the call's contract alone. Assumes nothing.
-use mathlib.Core.Path.{_≡_, refl, sym, ap, _∙_, subst}
+use mathlib.Core.Path.{_≡_, refl, sym, ap, ap₂, _∙_, subst}
 use mathlib.Core.Logic.{_↔_, _⊎_, inl, inr}
-use mathlib.Core.List.{List, [], _∷_}
+use mathlib.Core.List.{List, [], _∷_, _++_}
 use Prim.Native.Nat.{ℕ, suc, _+_, _≤_, _<_, zero-le}
 use native.Mathlib.Omega.{arith}
-use lib.ListN.{length, take}
+use lib.ListN.{length, take, length-append}
+use lib.Seq.{getD-at}
 use Rattle.spec_basics.specs.Elements.{In}
+use Rattle.spec_basics.specs.Lists.{in-one}
 use Rattle.relation.specs.Relation.{states}
-use Rattle.spec_language.specs.Automaton.{Accepts}
+use Rattle.spec_language.specs.Grammar.{initial}
 use Rattle.spec_file.specs.Refusals.{Refusal, fileNumbers, fault}
-use Rattle.spec_file.specs.Views.{rulesOf, automatonOf}
+use Rattle.spec_file.specs.Views.{rulesOf}
 use Rattle.spec_order.specs.Stopping.{Stops}
 use Rattle.spec_order.specs.Order.{Answer, Verdict, holds, broken, full, spent, empty}
-use Rattle.spec_calls.specs.Base.{base}
-use Rattle.spec_calls.specs.Checking.{Settings, journalFault, checkOf, shown}
-use Rattle.spec_calls.specs.DemandThree.{Derivable, SomeDerivable, NoneDerivable, Counterexample, joinsBound, Promises}
+use Rattle.spec_calls.specs.Base.{initialAlone}
+use Rattle.spec_calls.specs.Checking.{Settings, journalFault, algebraOver, checkOf, shown, shownHead}
+use Rattle.spec_calls.specs.DemandThree.{Member, SomeFrom, NoneFrom, Counterexample, AllAccepted, joinsBound, Extends, Promises}
+use Rattle.spec_calls.specs.MemberLaws.{member-bit, bit-member, only-initial}
 use Rattle.spec_calls.specs.Promising.{from-order}
 use Rattle.spec_calls.specs.Replies.{Reply, refused, answered}
 use Rattle.spec_calls.specs.Codes.{firstAnswerCode, holdsCode, brokenCode, fullCode, spentCode, emptyCode, verdictCode}
-use Rattle.host_check.specs.Details.{lastThree}
+use Rattle.host_check.specs.Details.{ifBroken, lastThree, headOf}
 use Rattle.bolfrega.specs.BrokenLaws.{if-not-broken}
-use Rattle.bolfrega.specs.Contracts.{Refuses, ChecksZeros}
-use Rattle.bolfrega.specs.Hosts.{FilePasses, FileRefused, RowsRefused, FileTells, toldRecord, toldJoins, toldUsed, toldPass, toldRow, toldPairs, toldLength, toldRefused, Decided, Refusing, RunsOut, Verdicts, Details, Stays, CheckTells}
+use Rattle.bolfrega.specs.Contracts.{Refuses, ChecksZeros, ChecksFrom, ofInitial}
+use Rattle.bolfrega.specs.Hosts.{FilePasses, FileRefused, RowsRefused, FileTells, toldRecord, toldJoins, toldUsed, toldPass, toldRow, toldPairs, toldLength, toldRefused, Decided, Refusing, RunsOut, Verdicts, Details, Shows, Stays, CheckTells, toldProcedure, FromTells}
 use Rattle.bolfrega.specs.HostReplies.{same-verdict, verdict-high, Why, brokenRow, writing, rows-refused, refused-rows, why-refused, ToldRefusal, ToldAnswer, told-refusal, told-answer}
 use Rattle.host_result.specs.LowNumbers.{file-refusal, file-number, record-none, low-high}
 use Rattle.bolfrega.specs.HostJudging.{judge-tells}
@@ -135,7 +138,7 @@ module _ (bs : List ℕ) (g : Settings) (d old new : List ℕ) (r : ℕ) (h : Ch
         none z k (inr x) = refused-rows (g .rows) x k
 
     -- the counts, as the details have them
-    runs-out : (v : Verdict) → Stops (base states (automatonOf bs)) (rulesOf bs) (g .rows) (g .budget) v a → RunsOut bs g d old new r v
+    runs-out : (v : Verdict) → Stops (algebraOver states bs g) (rulesOf bs) (g .rows) (g .budget) v a → RunsOut bs g d old new r v
     runs-out v s =
         record {
           answer = a;
@@ -226,7 +229,7 @@ module _ (bs : List ℕ) (g : Settings) (d old new : List ℕ) (r : ℕ) (h : Ch
           refusing = refusing;
           verdicts = verdicts;
           details = details;
-          shows = λ e. (shown bs a, run-shown bs g a reply (is broken e) p d old new r t);
+          shows = λ e. (shownHead a, shown bs a, run-shown bs g a reply (is broken e) p d old new r t);
           stays = stays;
         }
 
@@ -240,23 +243,78 @@ module _ (bs : List ℕ) (g : Settings) (d old new : List ℕ) (r : ℕ) (h : Ch
 
   -- ---- some of it in short, for the reader; nothing cites these
 
-  pub holds-means : r ≡ holdsCode → SomeDerivable bs × ((w : List ℕ) → Derivable bs w → Accepts (automatonOf bs) w)
+  pub holds-means : r ≡ holdsCode → AllAccepted bs g × ((p : ℕ) → Member g p → SomeFrom bs p)
   holds-means e =
       let sure : Decided r = record { answers = omega (arith, e); not-full = λ z. omega (arith, e, z); not-spent = λ z. omega (arith, e, z) } in
       check-tells .verdicts .holds-exactly sure .0 e
 
-  pub empty-means : r ≡ emptyCode → NoneDerivable bs
+  pub empty-means : r ≡ emptyCode → AllAccepted bs g × ((p : ℕ) × Member g p × NoneFrom bs p)
   empty-means e =
       let sure : Decided r = record { answers = omega (arith, e); not-full = λ z. omega (arith, e, z); not-spent = λ z. omega (arith, e, z) } in
       check-tells .verdicts .empty-exactly sure .0 e
 
-  pub broken-means : r ≡ brokenCode → (w : List ℕ) × Counterexample bs w
-  broken-means e = let s = check-tells .shows e in (s .0, s .1 .counterexample)
+  pub broken-means : r ≡ brokenCode → (p : ℕ) × (w : List ℕ) × Counterexample bs g p w
+  broken-means e = let s = check-tells .shows e in (s .0, s .1, s .2 .counterexample)
 
-  -- where nothing refused to write it, the first bytes of the buffer, as many as the detail `length` says, are a run of the plan that the
+  -- where nothing refused to write it, the first bytes of the buffer, as many as the detail `length` says, are a run of a member that the
   -- sheet turns away
-  pub run-means : r ≡ brokenCode → toldRefused d ≡ 0 → Counterexample bs (take (toldLength d) new)
-  run-means e z = let s = check-tells .shows e in subst (Counterexample bs) (sym (s .1 .in-buffer .first-bytes z)) (s .1 .counterexample)
+  pub run-means : r ≡ brokenCode → toldRefused d ≡ 0 → (p : ℕ) × Counterexample bs g p (take (toldLength d) new)
+  run-means e z = let s = check-tells .shows e in (s .0, subst (Counterexample bs g (s .0)) (sym (s .2 .in-buffer .first-bytes z)) (s .2 .counterexample))
+
+-- the only member where a call has no set is procedure 0: bolfrega_check speaks of its runs
+pub initial-only : (J B p : ℕ) → Member (ofInitial J B) p ↔ (p ≡ initial)
+initial-only J B p = (
+  λ m. in-one p initial (subst (λ (ps : List ℕ). In p ps) only-initial (bit-member initialAlone p m)),
+  λ e. member-bit initialAlone p (subst (λ (ps : List ℕ). In p ps) (sym only-initial) (inl e)),
+)
+
+-- ---- nine details
+
+module _ (bs : List ℕ) (g : Settings) (d old new : List ℕ) (r : ℕ) (h : ChecksFrom bs g d old new r) where
+  told : CheckTells bs g (take 8 d) old new r
+  told = check-tells bs g (take 8 d) old new r (h .eight)
+
+  eight-long : length (take 8 d) ≡ 8
+  eight-long = told .details .eight
+
+  procedure-is : toldProcedure d ≡ headOf (checkOf bs g)
+  procedure-is = ap toldProcedure (h .ninth) ∙ getD-at (take 8 d) (headOf (checkOf bs g)) [] 0 8 eight-long
+
+  -- every check that met its contract
+  pub from-tells : FromTells bs g d old new r
+  from-tells = by (checkOf bs g) refl
+    where
+      nine : length d ≡ 9
+      nine = ap length (h .ninth) ∙ length-append (take 8 d) (headOf (checkOf bs g) ∷ []) ∙ ap (λ (n : ℕ). n + 1) eight-long
+
+      same : Decided r → (g′ : Settings) → Extends g g′ → checkOf bs g′ ≡ checkOf bs g → (d′ new′ : List ℕ) (r′ : ℕ) → ChecksFrom bs g′ d′ old new′ r′ → d′ ≡ d
+      same x g′ y e d′ new′ r′ h′ =
+          h′ .ninth ∙ ap₂ (λ (xs : List ℕ) (z : Reply (Answer ℕ)). xs ++ (headOf z ∷ [])) (told .stays .same-details x g′ y (take 8 d′) new′ r′ (h′ .eight)) e ∙ sym (h .ninth)
+
+      by : (x : Reply (Answer ℕ)) → checkOf bs g ≡ x → FromTells bs g d old new r
+      by (refused y) e =
+          let low : r < firstAnswerCode = told-refusal bs g (take 8 d) old new r (h .eight) y e .low in
+          record {
+            nine = nine;
+            eight = told;
+            shows-its = λ b. absurd (low-high low (subst (λ (n : ℕ). firstAnswerCode ≤ n) (sym b) (verdict-high broken)));
+            no-procedure = λ n. procedure-is ∙ ap headOf e;
+            stays = λ x. absurd (low-high low (x .answers));
+          }
+      by (answered a) e =
+          let t = told-answer bs g (take 8 d) old new r (h .eight) a e in
+          let p = h .eight .promises a e in
+          record {
+            nine = nine;
+            eight = told;
+            shows-its = λ b.
+                let v = same-verdict (a .verdict) broken (sym (t .number) ∙ b) in
+                let head : shownHead a ≡ toldProcedure d = sym (procedure-is ∙ ap headOf e ∙ ap (λ (x : Verdict). ifBroken x (shownHead a) 0) v) in
+                (shown bs a, subst (λ (q : ℕ). Shows bs g (take 8 d) old new r q (shown bs a)) head (run-shown bs g a e v p (take 8 d) old new r t));
+            no-procedure = λ n. procedure-is ∙ ap headOf e ∙ if-not-broken (a .verdict) (shownHead a) 0 (λ v. n (t .number ∙ ap verdictCode v));
+            stays = λ x g′ y. same x g′ y
+                (p .same-answer (λ v. x .not-full (t .number ∙ ap verdictCode v)) (λ v. x .not-spent (t .number ∙ ap verdictCode v)) g′ y ∙ sym e);
+          }
 
 -- ---- reading
 

@@ -7,7 +7,6 @@ use Prim.Native.Nat.{ℕ, suc, _+_, _≤_, _<_}
 use lib.ListN.{length, getD, take, drop}
 use Rattle.spec_basics.specs.Elements.{In}
 use Rattle.relation.specs.Relation.{states, pairs}
-use Rattle.spec_language.specs.Grammar.{initial}
 use Rattle.spec_language.specs.Spelling.{DerivesWithin}
 use Rattle.spec_language.specs.Automaton.{Accepts, TurnsAway}
 use Rattle.spec_language.specs.WordRelation.{wordRelation}
@@ -16,20 +15,20 @@ use Rattle.spec_file.specs.Views.{rulesOf, productionsOf, automatonOf}
 use Rattle.spec_order.specs.Stopping.{Stops}
 use Rattle.spec_order.specs.Journal.{absent, capped}
 use Rattle.spec_order.specs.Order.{Answer, Verdict, full, spent}
-use Rattle.spec_calls.specs.Base.{base}
-use Rattle.spec_calls.specs.Checking.{Settings, journalLimit, checkOf}
-use Rattle.spec_calls.specs.DemandThree.{Derivable, SomeDerivable, NoneDerivable, Counterexample, joinsBound, Extends}
+use Rattle.spec_calls.specs.Checking.{Settings, journalLimit, algebraOver, checkOf, shown, shownHead}
+use Rattle.spec_calls.specs.DemandThree.{Member, Derivable, SomeFrom, NoneFrom, Counterexample, AllAccepted, joinsBound, Extends}
 use Rattle.spec_calls.specs.Judging.{wordFault}
 use Rattle.spec_calls.specs.Recognizing.{TableShows, recognizeRefusals}
 use Rattle.spec_calls.specs.Listing.{listRefusals, ListShows}
 use Rattle.spec_unfold.specs.Calls.{widenRefusals, narrowRefusals, unfoldRefusals}
 use Rattle.spec_unfold.specs.MovingMeans.{WidenShows, NarrowShows}
-use Rattle.spec_unfold.specs.UnfoldingMeans.{UnfoldShows}
+use Rattle.spec_unfold.specs.Unfolding.{leastFor}
+use Rattle.spec_unfold.specs.UnfoldingMeans.{WideVerdict, UnfoldShows}
 use Rattle.spec_calls.specs.Replies.{answered}
 use Rattle.spec_calls.specs.Writing.{longWord}
 use Rattle.spec_calls.specs.Codes.{firstAnswerCode, holdsCode, brokenCode, fullCode, spentCode, emptyCode}
 use Rattle.bolfrega.specs.Codes.{acceptedCode, turnedAwayCode, derivedCode, notDerivedCode, listedCode, convertedCode}
-use Rattle.bolfrega.specs.Contracts.{Judges, ChecksZeros}
+use Rattle.bolfrega.specs.Contracts.{Judges, ChecksZeros, ChecksFrom}
 
 -- ---- what is refused
 
@@ -104,9 +103,15 @@ WidenTells bs old new r i n = ConvertTells (widenRefusals bs (length old)) (Wide
 abbrev pub NarrowTells : List ℕ → List ℕ → List ℕ → ℕ → ℕ → ℕ → Type 0
 NarrowTells bs old new r i n = ConvertTells (narrowRefusals bs (length old)) (NarrowShows bs old new) old new r i n
 
--- bolfrega_unfold: refused by the file in the new form, else 18, else 10
-abbrev pub UnfoldTells : List ℕ → List ℕ → List ℕ → ℕ → ℕ → ℕ → Type 0
-UnfoldTells bs old new r i n = ConvertTells (unfoldRefusals 0 bs (length old)) (UnfoldShows 0 bs old new) old new r i n
+-- unfolding for a set: refused by the file in the new form, else 18, else 10; no member becomes a chain procedure
+pub record UnfoldFor (set : ℕ) (bs old new : List ℕ) (n : ℕ) : Type 0 where
+  pub shows : UnfoldShows (leastFor set) bs old new n
+  -- so a check of the result, for the same set, is one of the 16-byte file
+  pub verdict : (g : Settings) → g .starts ≡ set → (a : Answer ℕ) → checkOf (take n new) g ≡ answered a → WideVerdict bs g a (shownHead a) (shown (take n new) a)
+
+-- bolfrega_unfold_from; and bolfrega_unfold, where the set is that of procedure 0 alone
+abbrev pub UnfoldTells : ℕ → List ℕ → List ℕ → List ℕ → ℕ → ℕ → ℕ → Type 0
+UnfoldTells set bs old new r i n = ConvertTells (unfoldRefusals (leastFor set) bs (length old)) (UnfoldFor set bs old new) old new r i n
 
 -- ---- the eight details of bolfrega_check, in the header's order
 
@@ -160,7 +165,7 @@ module _ (bs : List ℕ) (g : Settings) (d old new : List ℕ) (r : ℕ) where
   pub record RunsOut (v : Verdict) : Type 0 where
     pub answer : Answer ℕ
     pub answers : checkOf bs g ≡ answered answer
-    pub stops : Stops (base states (automatonOf bs)) (rulesOf bs) (g .rows) (g .budget) v answer
+    pub stops : Stops (algebraOver states bs g) (rulesOf bs) (g .rows) (g .budget) v answer
     pub joins-told : toldJoins d ≡ answer .joins
     pub used-told : toldUsed d ≡ answer .used
     pub pass-told : toldPass d ≡ answer .pass
@@ -168,10 +173,11 @@ module _ (bs : List ℕ) (g : Settings) (d old new : List ℕ) (r : ℕ) where
   -- from 100 on it is a verdict
   pub record Verdicts : Type 0 where
     pub one-of-five : firstAnswerCode ≤ r → (r ≡ holdsCode) ⊎ ((r ≡ brokenCode) ⊎ ((r ≡ fullCode) ⊎ ((r ≡ spentCode) ⊎ (r ≡ emptyCode))))
-    -- 100 exactly when the plan has a run and the sheet accepts every one, 101 exactly when it turns one away, and 104 exactly when there is none
-    pub holds-exactly : Decided r → (r ≡ holdsCode) ↔ (SomeDerivable bs × ((w : List ℕ) → Derivable bs w → Accepts (automatonOf bs) w))
-    pub broken-exactly : Decided r → (r ≡ brokenCode) ↔ ((w : List ℕ) × Counterexample bs w)
-    pub empty-exactly : Decided r → (r ≡ emptyCode) ↔ NoneDerivable bs
+    -- 100 exactly when the sheet accepts every run of every member and each member has one, 101 exactly when it turns one away, and 104 exactly
+    -- when it turns none away and some member has none
+    pub holds-exactly : Decided r → (r ≡ holdsCode) ↔ (AllAccepted bs g × ((p : ℕ) → Member g p → SomeFrom bs p))
+    pub broken-exactly : Decided r → (r ≡ brokenCode) ↔ ((p : ℕ) × (w : List ℕ) × Counterexample bs g p w)
+    pub empty-exactly : Decided r → (r ≡ emptyCode) ↔ (AllAccepted bs g × ((p : ℕ) × Member g p × NoneFrom bs p))
     -- 102 exactly where the working order runs out of rows: all are used
     pub full-exactly : (r ≡ fullCode) ↔ RunsOut full
     pub full-used : r ≡ fullCode → toldUsed d ≡ g .rows
@@ -205,13 +211,13 @@ module _ (bs : List ℕ) (g : Settings) (d old new : List ℕ) (r : ℕ) where
     pub other-bytes : toldRefused d ≡ 0 → drop (toldLength d) new ≡ drop (toldLength d) old
     pub buffer-kept : toldRefused d ≡ 10 → new ≡ old
 
-  -- 101 shows the run w
-  pub record Shows (w : List ℕ) : Type 0 where
-    -- it is a run of the plan that the sheet turns away
-    pub counterexample : Counterexample bs w
+  -- 101 shows the run w of the procedure p
+  pub record Shows (p : ℕ) (w : List ℕ) : Type 0 where
+    -- p is a member, and the sheet turns its run away
+    pub counterexample : Counterexample bs g p w
     -- the pass is the least height of a derivation of such a run
-    pub within : DerivesWithin (productionsOf bs) (toldPass d) initial w
-    pub none-lower : (h : ℕ) → h < toldPass d → (u : List ℕ) → DerivesWithin (productionsOf bs) h initial u → Accepts (automatonOf bs) u
+    pub within : DerivesWithin (productionsOf bs) (toldPass d) p w
+    pub none-lower : (h : ℕ) → h < toldPass d → (q : ℕ) → Member g q → (u : List ℕ) → DerivesWithin (productionsOf bs) h q u → Accepts (automatonOf bs) u
     pub pairs-are : toldPairs d ≡ pairs states (wordRelation states (automatonOf bs .transitions) w)
     pub length-is : toldLength d ≡ capped (length w)
     pub in-buffer : InBuffer w
@@ -239,8 +245,24 @@ module _ (bs : List ℕ) (g : Settings) (d old new : List ℕ) (r : ℕ) where
     pub refusing : Refusing
     pub verdicts : Verdicts
     pub details : Details
-    pub shows : r ≡ brokenCode → (w : List ℕ) × Shows w
+    pub shows : r ≡ brokenCode → (p : ℕ) × (w : List ℕ) × Shows p w
     pub stays : Stays
+
+-- ---- the ninth detail of bolfrega_check_from
+
+abbrev pub toldProcedure : List ℕ → ℕ
+toldProcedure d = getD d 8 0
+
+-- the number r, the nine details d and the buffer that bolfrega_check_from gave for the settings g
+pub record FromTells (bs : List ℕ) (g : Settings) (d old new : List ℕ) (r : ℕ) : Type 0 where
+  pub nine : length d ≡ 9
+  -- the first eight tell what those of bolfrega_check tell
+  pub eight : CheckTells bs g (take 8 d) old new r
+  -- 101 shows a run of the procedure that the ninth tells; it is 0 otherwise
+  pub shows-its : r ≡ brokenCode → (w : List ℕ) × Shows bs g (take 8 d) old new r (toldProcedure d) w
+  pub no-procedure : (r ≡ brokenCode → ⊥) → toldProcedure d ≡ 0
+  -- once the number is 100, 101 or 104, a call with more rows or a larger budget, and the same buffer, gives the same nine
+  pub stays : Decided r → (g′ : Settings) → Extends g g′ → (d′ new′ : List ℕ) (r′ : ℕ) → ChecksFrom bs g′ d′ old new′ r′ → d′ ≡ d
 
 -- ---- reading: the number r and the record i that bolfrega_refusal gave
 

@@ -18,6 +18,7 @@ use Rattle.call_gaps.specs.Answers.{listedOf, Lists}
 use Rattle.spec_calls.specs.Codes.{codeBy}
 use Rattle.spec_calls.specs.Replies.{Reply}
 use Rattle.call_move.specs.declared.Moved.{Moved}
+use Rattle.spec_unfold.specs.Unfolding.{leastFor}
 use Rattle.call_move.specs.Answers.{movedOf, Widens, Narrows}
 use Rattle.call_unfold.specs.Answers.{Unfolds}
 use Rattle.bolfrega.specs.Codes.{judgementCode, derivationCode, listingCode, conversionCode, sizeIn, placeIn}
@@ -66,5 +67,5 @@ module _ (bs old new : List ℕ) (x : Moved) (r i n : ℕ) (t : ToldMove (movedO
   pub narrows-file : Narrows bs old new x → NarrowsFile bs old new r i n
   narrows-file j = converts _ _ _ (j .answer) (j .output) (j .meaning)
 
-  pub unfolds-file : Unfolds 0 bs old new x → UnfoldsFile bs old new r i n
-  unfolds-file j = converts _ _ _ (j .answer) (j .output) (j .meaning)
+  pub unfolds-file : (set : ℕ) → Unfolds (leastFor set) bs old new x → UnfoldsFile set bs old new r i n
+  unfolds-file set j = converts _ _ _ (j .answer) (j .output) (j .meaning)

@@ -2,7 +2,7 @@
 -- for more rows than a journal may have is refused as one that asks for none. Assumes nothing.
 use mathlib.Core.Path.{_≡_, refl, sym, ap, _∙_, subst}
 use mathlib.Core.Bool.{Bool, true, false, cond}
-use mathlib.Core.List.{List, [], _∷_, map}
+use mathlib.Core.List.{List, [], _∷_, _++_, map}
 use Prim.Native.Nat.{ℕ, zero, suc, _+_, _-_, _≤_, _<_}
 use native.Mathlib.Omega.{arith}
 use lib.Dec.{leb}
@@ -20,11 +20,12 @@ use Rattle.spec_calls.specs.Rows.{rowOf, blank, settingsOf, Journal}
 use Rattle.spec_calls.specs.declared.Options.{Options}
 use Rattle.spec_calls.specs.declared.Row.{Row as LentRow}
 use Rattle.host_result.specs.Fronts.{journalOf}
-use Rattle.host_check.specs.Details.{zeroRow}
+use Rattle.call_check.specs.Contracts.{settingsOver}
+use Rattle.host_check.specs.Details.{zeroRow, headOf}
 use Rattle.host_result.specs.Results.{numbersIn}
 use Rattle.host_check.specs.Contracts.{Tells, ChecksBy, ChecksOver, ChecksAlone}
 use Rattle.host_result.specs.declared.CheckResult.{CheckResult}
-use Rattle.bolfrega.specs.Contracts.{zeroRows, ChecksZeros}
+use Rattle.bolfrega.specs.Contracts.{zeroRows, ChecksZeros, ChecksFrom}
 
 -- ---- rows of zeros
 
@@ -99,8 +100,34 @@ module _ (bs : List ℕ) (o : Options) where
               promises = promises bs (settingsOf J o);
             }
 
--- the details d of a check over rows x, which are blank
-pub over-zeros : (bs : List ℕ) (J : ℕ) (o : Options) (p : ℕ) (old new : List ℕ) (x : LentRow) → x ≡ blank → (t : CheckResult) → ChecksAlone bs J x o p old new t → (d : List ℕ) → d ≡ numbersIn t → ChecksZeros bs (settingsOf J o) d old new (t .code)
-over-zeros bs J o p old new x e t h d q =
-    subst (λ (y : List ℕ). ChecksZeros bs (settingsOf J o) y old new (t .code)) (sym q)
-    (over-front bs o (numbersIn t) old new (t .code) J (subst (λ (y : LentRow). ChecksAlone bs J y o p old new t) e h .over))
+  -- and neither does the nonterminal of a run that is shown
+  head-front : (J : ℕ) → headOf (checkOf bs (settingsOver o (journalOf J blank))) ≡ headOf (checkOf bs (settingsOf J o))
+  unfolding journalOf
+  head-front J = by (leb J journalLimit) refl
+    where
+      by : (b : Bool) → leb J journalLimit ≡ b → headOf (checkOf bs (settingsOver o (journalOf J blank))) ≡ headOf (checkOf bs (settingsOf J o))
+      by true p =
+          ap (λ (journal : Journal). headOf (checkOf bs (settingsOver o journal)))
+          (ap (λ (b : Bool). take (cond b J 0) (replicate journalLimit blank)) p ∙ take-replicate blank J journalLimit (leb-true J journalLimit p))
+          ∙ ap (λ (n : ℕ). headOf (checkOf bs (settingsOf n o))) (length-replicate J blank)
+      by false p =
+          ap (λ (b : Bool). headOf (checkOf bs (settingsOver o (take (cond b J 0) (replicate journalLimit blank))))) p
+          ∙ ap headOf (refusal .1 (settingsOf 0 o) none ∙ sym (refusal .1 (settingsOf J o) (too-many J (leb-false J journalLimit p))))
+
+-- a check over rows x, which are y
+pub alone-at : {bs : List ℕ} {n : ℕ} {x y : LentRow} {o : Options} {p : ℕ} {old new : List ℕ} {r : CheckResult} → x ≡ y → ChecksAlone bs n x o p old new r → ChecksAlone bs n y o p old new r
+alone-at {bs} {n} {x} {y} {o} {p} {old} {new} {r} e h = subst (λ (z : LentRow). ChecksAlone bs n z o p old new r) e h
+
+-- the details d of a check over blank rows
+pub over-zeros : (bs : List ℕ) (J : ℕ) (o : Options) (old new : List ℕ) (t : CheckResult) → ChecksAlone bs J blank o 0 old new t → (d : List ℕ) → d ≡ numbersIn t → ChecksZeros bs (settingsOf J o) d old new (t .code)
+over-zeros bs J o old new t h d q =
+    subst (λ (y : List ℕ). ChecksZeros bs (settingsOf J o) y old new (t .code)) (sym q) (over-front bs o (numbersIn t) old new (t .code) J (h .over))
+
+-- and with the nonterminal of the run as the ninth
+pub from-zeros : (bs : List ℕ) (J : ℕ) (o : Options) (old new : List ℕ) (t : CheckResult) → ChecksAlone bs J blank o 0 old new t → (d : List ℕ) → d ≡ numbersIn t ++ (t .head ∷ [])
+    → ChecksFrom bs (settingsOf J o) d old new (t .code)
+from-zeros bs J o old new t h d q =
+    record {
+      eight = over-zeros bs J o old new t h (take 8 d) (ap (take 8) q);
+      ninth = q ∙ ap (λ (n : ℕ). numbersIn t ++ (n ∷ [])) (h .head ∙ head-front bs o J) ∙ ap (λ (xs : List ℕ). xs ++ (headOf (checkOf bs (settingsOf J o)) ∷ [])) (sym (ap (take 8) q));
+    }

@@ -6,15 +6,20 @@ use call_judge::Judged;
 use call_member::Recognized;
 use call_move::Moved;
 use host_result::CheckResult;
+use spec_calls::INITIAL_ALONE;
 use spec_calls::Options;
 use spec_calls::Row;
 ghost use mathlib.Core.Path.{_≡_};
+ghost use mathlib.Core.List.{[], _∷_, _++_};
+ghost use Rattle.spec_calls.specs.Rows.{blank};
 ghost use Rattle.host_result.specs.Results.{numbersIn};
+ghost use Rattle.host_check.specs.Contracts.{ChecksAlone};
 ghost use Rattle.bolfrega.specs.Codes.{version};
-ghost use Rattle.bolfrega.specs.Contracts.{Refuses, Judges, Recognizes, ListsGaps, ToldMove, WidensFile, NarrowsFile, UnfoldsFile, ChecksZeros};
+ghost use Rattle.bolfrega.specs.Contracts.{Refuses, Judges, Recognizes, ListsGaps, ToldMove, WidensFile, NarrowsFile, UnfoldsFile, ChecksZeros, ChecksFrom, ofInitial};
+ghost use Rattle.spec_calls.specs.Base.{initialAlone};
 ghost use Rattle.call_move.specs.Answers.{movedOf};
 
-const VERSION: u64 = 1;
+const VERSION: u64 = 2;
 
 const ACCEPTED: u64 = 110;
 
@@ -183,9 +188,24 @@ pub extern "C" fn bolfrega_unfold(
     length: &mut u64,
     out: &mut [u8],
 ) -> u64
-    ensures { λ r. ⌜ UnfoldsFile (now (file .entry)) (now (out .entry)) (now (out .exit)) r (now (place .exit)) (now (length .exit)) ⌝ }
+    ensures { λ r. ⌜ UnfoldsFile initialAlone (now (file .entry)) (now (out .entry)) (now (out .exit)) r (now (place .exit)) (now (length .exit)) ⌝ }
 {
-    let moved = call_unfold::unfold(file, out);
+    let moved = call_unfold::unfold(file, INITIAL_ALONE, out);
+    tell_moved(moved, place, length)
+}
+
+// As `bolfrega_unfold`, for the set `starts` of starting procedures, bit p for procedure p: none of them becomes a chain procedure.
+#[no_mangle]
+pub extern "C" fn bolfrega_unfold_from(
+    file: &[u8],
+    starts: u64,
+    place: &mut u64,
+    length: &mut u64,
+    out: &mut [u8],
+) -> u64
+    ensures { λ r. ⌜ UnfoldsFile starts (now (file .entry)) (now (out .entry)) (now (out .exit)) r (now (place .exit)) (now (length .exit)) ⌝ }
+{
+    let moved = call_unfold::unfold(file, starts, out);
     tell_moved(moved, place, length)
 }
 
@@ -207,6 +227,31 @@ fn details_of(told: CheckResult) -> [u64; 8]
     ]
 }
 
+// The nine details in the order of the header: the eight, and the procedure.
+fn nine_of(told: CheckResult) -> [u64; 9]
+    ensures { λ r. ⌜ r ≡ numbersIn told ++ (told .head ∷ []) ⌝ }
+{
+    let eight = details_of(told);
+    [
+        eight[0],
+        eight[1],
+        eight[2],
+        eight[3],
+        eight[4],
+        eight[5],
+        eight[6],
+        eight[7],
+        told.head,
+    ]
+}
+
+// Checks `file` with these `options` over a journal of `rows` rows of zeros, and writes the run of a broken answer to `buffer`.
+fn check_zeros(file: &[u8], rows: usize, options: Options, buffer: &mut [u8]) -> CheckResult
+    ensures { λ r. ⌜ ChecksAlone (now (file .entry)) rows blank options 0 (now (buffer .entry)) (now (buffer .exit)) r ⌝ }
+{
+    host_check::check_and_write(file, rows, Row::blank(), options, 0, buffer)
+}
+
 // Checks the plan in `file` against its sheet over a journal of `rows` rows of zeros, with a budget of `budget` joins. Returns the verdict's
 // number, or the number that refuses the call. Stores in `details` the refused record's number, joins, used rows, pass, and for a broken
 // answer the row, its pairs, its length and the number that refuses to write its run, or 0. Writes a run that is not refused to the front of
@@ -219,10 +264,32 @@ pub extern "C" fn bolfrega_check(
     details: &mut [u64; 8],
     buffer: &mut [u8],
 ) -> u64
-    ensures { λ r. ⌜ ChecksZeros (now (file .entry)) (record { rows = rows; budget = budget }) (now (details .exit)) (now (buffer .entry)) (now (buffer .exit)) r ⌝ }
+    ensures { λ r. ⌜ ChecksZeros (now (file .entry)) (ofInitial rows budget) (now (details .exit)) (now (buffer .entry)) (now (buffer .exit)) r ⌝ }
 {
-    let options = Options { budget };
-    let told = host_check::check_and_write(file, rows, Row::blank(), options, 0, buffer);
+    let options = Options {
+        budget,
+        starts: INITIAL_ALONE,
+    };
+    let told = check_zeros(file, rows, options, buffer);
     *details = details_of(told);
+    told.code
+}
+
+// As `bolfrega_check`, for the set `starts` of starting procedures, bit p for procedure p: checks that the sheet accepts every run of every
+// member. Stores in the last of `details` the procedure of the run that is shown, 0 unless broken.
+#[no_mangle]
+pub extern "C" fn bolfrega_check_from(
+    file: &[u8],
+    starts: u64,
+    rows: usize,
+    budget: u64,
+    details: &mut [u64; 9],
+    buffer: &mut [u8],
+) -> u64
+    ensures { λ r. ⌜ ChecksFrom (now (file .entry)) (record { rows = rows; budget = budget; starts = starts }) (now (details .exit)) (now (buffer .entry)) (now (buffer .exit)) r ⌝ }
+{
+    let options = Options { budget, starts };
+    let told = check_zeros(file, rows, options, buffer);
+    *details = nine_of(told);
     told.code
 }

@@ -93,7 +93,7 @@ module _ (bs : List ℕ) (o : Options) (old : Journal) where
     s = r .state
 
     abbrev P : Problem ℕ LentRow
-    P = problemOf bs letters (take (s .rules) rules)
+    P = problemOf bs g letters (take (s .rules) rules)
 
     -- ---- something refused: the search did nothing
     module _ (z : r .refusal .number ≡ 0 → ⊥) where
@@ -117,7 +117,7 @@ module _ (bs : List ℕ) (o : Options) (old : Journal) where
           by true e =
               let on : T (s .going) = subst T (sym e) tt in
               let stood = h .begins z .stands old refl in
-              subst (λ (x : Terms). search.Checked rowOf (orderOf (problemIn (x .finals) letters (take (s .rules) rules)) (g .rows) (x .budget)) old new (answerIn last)) (stood .goes on .begun .terms) (ran .1 .search .stands on .ends (ran .0))
+              subst (λ (x : Terms). search.Checked rowOf (orderOf (problemIn (x .starts) (x .finals) letters (take (s .rules) rules)) (g .rows) (x .budget)) old new (answerIn last)) (stood .goes on .begun .terms) (ran .1 .search .stands on .ends (ran .0))
           by false e =
               let off : T (not (s .going)) = subst (λ (b : Bool). T (not b)) (sym e) tt in
               let i = ran .1 .search .idle off in
@@ -125,7 +125,7 @@ module _ (bs : List ℕ) (o : Options) (old : Journal) where
 
       on-file : orderOf P (g .rows) (g .budget) ≡ orderOn bs g
       on-file =
-          ap (λ (l : Letters). orderOf (problemOf bs l (take (s .rules) rules)) (g .rows) (g .budget)) (h .begins z .relations)
+          ap (λ (l : Letters). orderOf (problemOf bs g l (take (s .rules) rules)) (g .rows) (g .budget)) (h .begins z .relations)
           ∙ order-same bs (none-refused bs (length old) (r .refusal) (h .refusal) z .0) (take (s .rules) rules) (h .begins z .entries) g
 
       answered-so : Checks bs o old new (checked.Answered (answerIn last))

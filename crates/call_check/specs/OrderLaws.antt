@@ -26,9 +26,8 @@ use Rattle.spec_file.specs.Refusals.{fault}
 use Rattle.spec_file.specs.Views.{rulesOf, transitionsOf, automatonOf}
 use Rattle.spec_file.specs.Valid.{letter-low}
 use Rattle.spec_order.specs.Order.{check}
-use Rattle.spec_calls.specs.Base.{base}
 use Rattle.spec_file.specs.Entries.{entryOf}
-use Rattle.spec_calls.specs.Checking.{Settings, orderOn}
+use Rattle.spec_calls.specs.Checking.{Settings, algebraOver, orderOn}
 use Rattle.relation.specs.Stored.{relationIn}
 use Rattle.search_laws.specs.Contracts.{orderOf}
 use Rattle.search_laws.specs.Problems.{RuleBytes}
@@ -63,8 +62,8 @@ module _ (bs : List ℕ) (v : fault bs .number ≡ 0) where
           ∙ sym (letter-absent states (transitionsOf bs) c (past-remarks c (let l : lastRemark < c = omega (arith, q refl) in l))
           (λ t h e. let l = letter-low bs v t h in let m = q refl in omega arith))
 
-  pub order-same : (rules : RuleBytes) → map entryOf rules ≡ rulesOf bs → (g : Settings) → orderOf (problemOf bs (letterTable states (transitionsOf bs)) rules) (g .rows) (g .budget) ≡ orderOn bs g
+  pub order-same : (rules : RuleBytes) → map entryOf rules ≡ rulesOf bs → (g : Settings) → orderOf (problemOf bs g (letterTable states (transitionsOf bs)) rules) (g .rows) (g .budget) ≡ orderOn bs g
   unfolding orderOn
   order-same rules e g =
-      order-on (automatonOf bs) (number states (isFinal (automatonOf bs))) (letterTable states (transitionsOf bs)) rules (g .rows) (g .budget) letters-all (bit-number states (isFinal (automatonOf bs)))
-      ∙ ap (λ (x : List Rule). check (base states (automatonOf bs)) x (g .rows) (g .budget)) e
+      order-on (automatonOf bs) (g .starts) (number states (isFinal (automatonOf bs))) (letterTable states (transitionsOf bs)) rules (g .rows) (g .budget) letters-all (bit-number states (isFinal (automatonOf bs)))
+      ∙ ap (λ (x : List Rule). check (algebraOver states bs g) x (g .rows) (g .budget)) e

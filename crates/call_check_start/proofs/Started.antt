@@ -34,7 +34,7 @@ use Rattle.search_laws.specs.ProblemLaws.{problem-laws}
 use Rattle.search_laws.specs.Problems.{RuleBytes, Problem}
 use Rattle.search_laws.specs.Steps.{MayOpen}
 use Rattle.search_laws.specs.Running.{SearchAt, Onward}
-use Rattle.search_laws.specs.States.{startLinked, opening}
+use Rattle.search_laws.specs.States.{allLinked, opening}
 use Rattle.search_laws.specs.declared.Reached.{Reached}
 use Rattle.file_tables.specs.Tables.{letterTable, RuleTable}
 use Rattle.file_tables.specs.LetterLaws.{letters-length}
@@ -72,9 +72,9 @@ module _ (bs : List ℕ) (g : Settings) where
       (record { table = ap length et ∙ length-replicate tableCells end; count = rules-fit bs before rules n en; old = omega arith; used = omega arith; links = record { rows = []; size = refl; covering = no-links t et } })
 
   module _ (letters : Letters) (el : letters ≡ letterTable states (transitionsOf bs)) (finals : ℕ) (ef : finals ≡ number states (isFinal (automatonOf bs))) (before rules : RuleBytes) (n : ℕ) (en : RuleTable bs before rules n) (t t′ : List ℕ)
-      (et : t ≡ replicate tableCells end) (w : State) (ew : w ≡ waiting g n finals) (x : Reached) (o : OpensPass rules t n (w .terms) (w .counts) t′ x) (nonempty : Bool) (em : nonempty ≡ startLinked t′) (s : State) (es : s ≡ opening w (w .terms) x nonempty) (r : Refusal) (e : refusalOf r ≡ firstOf (checkRefusals bs J)) (z : r .number ≡ 0) where
+      (et : t ≡ replicate tableCells end) (w : State) (ew : w ≡ waiting g n finals) (x : Reached) (o : OpensPass rules t n (w .terms) (w .counts) t′ x) (nonempty : Bool) (em : nonempty ≡ allLinked (w .terms .starts) t′) (s : State) (es : s ≡ opening w (w .terms) x nonempty) (r : Refusal) (e : refusalOf r ≡ firstOf (checkRefusals bs J)) (z : r .number ≡ 0) where
     abbrev P : Problem ℕ LentRow
-    P = problemIn finals letters (take n rules)
+    P = problemIn (g .starts) finals letters (take n rules)
 
     quiet : (fault bs .number ≡ 0) × (journalFault J ≡ 0)
     quiet = none-refused bs J r e z
@@ -82,8 +82,8 @@ module _ (bs : List ℕ) (g : Settings) where
     opened : (j : Journal) → length j ≡ J → Onward P B j (record { used = 0; joins = 0; added = 0 }) s j t′
     opened j l =
         let k = journal-size J (quiet .1) in
-        subst (λ (y : State). Onward P B j (record { used = 0; joins = 0; added = 0 }) y j t′) (sym (es ∙ ap (opening w (w .terms) x) em ∙ ap (λ (y : State). opening y (y .terms) x (startLinked t′)) ew))
-        (subst (λ (y : State). OpensPass rules t n (y .terms) (y .counts) t′ x) ew o P (problem-laws finals letters (take n rules)) B j j 1 0 (waiting g n finals) refl (record { some = omega (arith, l, k .0); limit = omega (arith, l, k .1) }) (sym l) (pass-first P B j) refl (λ q. absurd (omega (arith, q)))
+        subst (λ (y : State). Onward P B j (record { used = 0; joins = 0; added = 0 }) y j t′) (sym (es ∙ ap (opening w (w .terms) x) em ∙ ap (λ (y : State). opening y (y .terms) x (allLinked (y .terms .starts) t′)) ew))
+        (subst (λ (y : State). OpensPass rules t n (y .terms) (y .counts) t′ x) ew o P (problem-laws (g .starts) finals letters (take n rules)) B j j 1 0 (waiting g n finals) refl (record { some = omega (arith, l, k .0); limit = omega (arith, l, k .1) }) (sym l) (pass-first P B j) refl (λ q. absurd (omega (arith, q)))
         (subst (λ (rows : List Row). Covering rows t) (sym (rows-none rowOf j)) (no-links t et)))
 
     fit : n ≤ length rules
@@ -100,7 +100,7 @@ module _ (bs : List ℕ) (g : Settings) where
         relations = el;
         whole = subst (λ (k : ℕ). k ≤ length rules) count fit;
         entries = subst (λ (k : ℕ). map entryOf (take k rules) ≡ rulesOf bs) count (rules-in bs (quiet .0) before rules n en);
-        stands = λ j l. subst (λ (k : ℕ). SearchAt (problemOf bs letters (take k rules)) B j s j t′) count (subst (λ (f : ℕ). SearchAt (problemIn f letters (take n rules)) B j s j t′) ef (opened j l .stands));
+        stands = λ j l. subst (λ (k : ℕ). SearchAt (problemOf bs g letters (take k rules)) B j s j t′) count (subst (λ (f : ℕ). SearchAt (problemIn (g .starts) f letters (take n rules)) B j s j t′) ef (opened j l .stands));
       };
     }
 
@@ -122,7 +122,7 @@ module _ (bs : List ℕ) (g : Settings) where
                 idle = λ _. (refl, refl);
                 sized = λ _. record { some = omega (arith, l, k .0); limit = omega (arith, l, k .1) };
                 whole = λ _. b .whole;
-                stands = λ g. subst (λ (x : Terms). SearchAt (problemIn (x .finals) letters (take (s .rules) rules)) (x .budget) j s j t) (sym (b .stands j l .goes g .begun .terms)) (b .stands j l);
+                stands = λ g. subst (λ (x : Terms). SearchAt (problemIn (x .starts) (x .finals) letters (take (s .rules) rules)) (x .budget) j s j t) (sym (b .stands j l .goes g .begun .terms)) (b .stands j l);
               };
             }
         by (suc k) z =

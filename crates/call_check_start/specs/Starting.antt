@@ -28,7 +28,7 @@ waiting g n finals =
       going = false;
       «left_row» = 0;
       «right_row» = 0;
-      terms = record { budget = g .budget; finals = finals; pass = 1; present = 0; old = 0 };
+      terms = record { budget = g .budget; starts = g .starts; finals = finals; pass = 1; present = 0; old = 0 };
       counts = record { used = 0; joins = 0; added = 0 };
       place = record { rule = 0; left = 0; right = 0 };
       rows = g .rows;
@@ -37,16 +37,16 @@ waiting g n finals =
       broken = 0;
     }
 
--- what a check of the file bs works on, with these tables
-abbrev pub problemOf : List ℕ → Letters → RuleBytes → Problem ℕ Row
-problemOf bs letters rules = problemIn (number states (isFinal (automatonOf bs))) letters rules
+-- what a check of the file bs works on, with the settings g and these tables
+abbrev pub problemOf : List ℕ → Settings → Letters → RuleBytes → Problem ℕ Row
+problemOf bs g letters rules = problemIn (g .starts) (number states (isFinal (automatonOf bs))) letters rules
 
 -- the tables are the file's, and over every journal of g's number of rows the search stands in s
 pub record FirstPass (bs : List ℕ) (g : Settings) (letters : Letters) (rules : RuleBytes) (t : List ℕ) (s : State) : Type 0 where
   pub relations : letters ≡ letterTable states (transitionsOf bs)
   pub whole : s .rules ≤ length rules
   pub entries : map entryOf (take (s .rules) rules) ≡ rulesOf bs
-  pub stands : (j : Journal) → length j ≡ g .rows → SearchAt (problemOf bs letters (take (s .rules) rules)) (g .budget) j s j t
+  pub stands : (j : Journal) → length j ≡ g .rows → SearchAt (problemOf bs g letters (take (s .rules) rules)) (g .budget) j s j t
 
 pub record Starts (bs : List ℕ) (g : Settings) (letters : Letters) (rules : RuleBytes) (t : List ℕ) (r : Start) : Type 0 where
   pub refusal : refusalOf (r .refusal) ≡ firstOf (checkRefusals bs (g .rows))

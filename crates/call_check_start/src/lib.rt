@@ -30,6 +30,7 @@ fn wait(rows: usize, rules: usize, options: Options, finals: StateSet) -> State
         right_row: 0,
         terms: Terms {
             budget: options.budget,
+            starts: options.starts,
             finals,
             pass: 1,
             present: 0,
@@ -76,6 +77,11 @@ pub fn prepare(
     let at = search_passes::open_pass(&rules[..], table, n, terms, before.counts);
     Start {
         refusal: fault,
-        state: search_step::stand_or_finish(before, terms, at, search_passes::start_linked(table)),
+        state: search_step::stand_or_finish(
+            before,
+            terms,
+            at,
+            search_passes::all_linked(table, terms.starts),
+        ),
     }
 }

@@ -16,6 +16,7 @@ use Rattle.relation.specs.Digits.{bit}
 use Rattle.spec_language.specs.Grammar.{Symbol, terminal, nonterminal, symbols, Rule, noRule, initial}
 use Rattle.spec_language.specs.Rewriting.{Language}
 use Rattle.spec_language.specs.Spelling.{SpellsSymbol, Spells, DerivesWithin}
+use Rattle.spec_language.specs.Rewriting.{Language}
 use Rattle.spec_language.specs.Agreement.{language}
 use Rattle.spec_language.specs.RuleLaws.{by-rule}
 use Rattle.spec_language.specs.Automaton.{Accepts}
@@ -28,7 +29,8 @@ use Rattle.spec_file.specs.EntryLaws.{rules-length, rule-read}
 use Rattle.spec_order.specs.Order.{Answer, holds, broken}
 use Rattle.spec_calls.specs.Replies.{answered}
 use Rattle.spec_calls.specs.ReplyLaws.{reply-answers, reply-none}
-use Rattle.spec_calls.specs.Checking.{Settings, checkOf, shown}
+use Rattle.spec_calls.specs.Checking.{Settings, checkOf, shown, shownHead}
+use Rattle.spec_calls.specs.DemandThree.{Member}
 use Rattle.spec_calls.specs.Promising.{from-order, promises}
 use Rattle.spec_calls.specs.Judging.{Judgement, accepted, turnedAway, judgementBy, wordLimit, wordFault, judgeRefusals, judgeOf, JudgementMeans}
 use Rattle.spec_calls.specs.JudgingTruth.{judge-means}
@@ -112,22 +114,22 @@ module _ (bs : List ℕ) (v : fault bs .number ≡ 0) where
 -- ---- with a check that answers
 
 module _ (bs : List ℕ) (g : Settings) (a : Answer ℕ) (e : checkOf bs g ≡ answered a) (before after : List ℕ) where
-  -- a run that is recognized is accepted, where the check says "holds"
-  pub recognized-accepted : a .verdict ≡ holds → (w : List ℕ) → recognizeOf bs w (length before) after ≡ answered true
+  -- a run that is recognized is accepted, where a check with procedure 0 among its members says "holds"
+  pub recognized-accepted : Member g initial → a .verdict ≡ holds → (w : List ℕ) → recognizeOf bs w (length before) after ≡ answered true
       → RecognizeMeans bs w before after (answered true) → judgeOf bs w ≡ answered accepted
   unfolding recognizeOf
-  recognized-accepted h w r m =
+  recognized-accepted i h w r m =
       let n = reply-answers (recognizeRefusals bs w (length before)) (bit (getD after (cell 0 (length w)) 0) initial) true r .0 in
-      accepted-judged bs (n .0) w (n .1 .0) (promises bs g a e .one-verdict .holds-for-all h w (m .0 .0 refl))
+      accepted-judged bs (n .0) w (n .1 .0) (promises bs g a e .one-verdict .holds-for-all h initial i w (m .0 .0 refl))
 
-  -- the run that a broken check shows is recognized, where it has at most 64 steps and the table is of that size
-  pub shown-recognized : a .verdict ≡ broken → length (shown bs a) ≤ runLimit → length before ≡ stretchCells
+  -- the run that a broken check shows of procedure 0 is recognized, where it has at most 64 steps and the table is of that size
+  pub shown-recognized : a .verdict ≡ broken → shownHead a ≡ initial → length (shown bs a) ≤ runLimit → length before ≡ stretchCells
       → RecognizeMeans bs (shown bs a) before after (recognizeOf bs (shown bs a) (length before) after)
       → recognizeOf bs (shown bs a) (length before) after ≡ answered true
   unfolding recognizeOf
-  shown-recognized h l s m =
+  shown-recognized h i l s m =
       let w = shown bs a in
-      let d = promises bs g a e .one-verdict .broken-shows h .0 in
+      let d = subst (λ (p : ℕ). Language (productionsOf bs) p w) i (promises bs g a e .one-verdict .broken-shows h .1) in
       let v = from-order bs g a e .0 in
       let b = bit (getD after (cell 0 (length w)) 0) initial in
       let r : recognizeOf bs w (length before) after ≡ answered b =

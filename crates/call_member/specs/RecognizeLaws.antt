@@ -29,7 +29,7 @@ use Rattle.spec_calls.specs.Recognizing.{runLimit, rowStart, cell, stretchCells
 use Rattle.call_judge.specs.Letters.{strays}
 use Rattle.call_judge.specs.Judgements.{terminals-alone}
 use Rattle.member_laws.specs.Sets.{Heads}
-use Rattle.member_laws.specs.ByteLaws.{digit-of}
+use Rattle.relation.specs.DigitLaws.{digit-of}
 use Rattle.member_laws.specs.SliceLaws.{slice-whole}
 
 -- ---- 13 and 14

@@ -118,3 +118,7 @@ unfolds least bs old new r p =
       output = b;
       meaning = subst (UnfoldMeans least bs old new) (sym a) (subst (λ (x : List ℕ). UnfoldMeans least bs old x (unfoldOf least bs (length old))) (sym b) (unfold-means least bs old));
     }
+
+-- the same call, with the least number under another name
+pub unfolds-at : {m n : ℕ} {bs old new : List ℕ} {r : Moved} → m ≡ n → Unfolds m bs old new r → Unfolds n bs old new r
+unfolds-at {m} {n} {bs} {old} {new} {r} e h = subst (λ (k : ℕ). Unfolds k bs old new r) e h

@@ -20,6 +20,7 @@ ghost use Rattle.spec_file.specs.Refusals.{faultIn, firstOf};
 ghost use Rattle.spec_records.specs.Blocks.{bytesOf};
 ghost use Rattle.call_move.specs.Fronts.{over};
 ghost use Rattle.unfold_order.specs.Keys.{digitsOf};
+ghost use Rattle.spec_unfold.specs.Unfolding.{leastFor};
 ghost use Rattle.call_unfold.specs.Answers.{Unfolds};
 ghost use Rattle.call_unfold.specs.Results.{unfoldedBytes, Fits, neededBytes, neededRefusals, Bounded};
 
@@ -96,8 +97,22 @@ fn unfold_passed(file: &[u8], least: usize, out: &mut [u8]) -> Moved
     Moved::Length(result_bytes(t, records))
 }
 
-// Unfolds `file` to the front of `out`, where the chain procedures are not to be below `least`: one above the highest starting procedure
-// (C-18).
+// Returns one above the highest procedure of the set `starts`, and 0 where it has none: the least number that a chain procedure may have.
+fn least_for(starts: u64) -> usize
+    ensures { λ r. ⌜ (r ≡ leastFor starts) × (r ≤ nonterminals) ⌝ }
+{
+    let mut least: usize = 0;
+    let mut p: u8 = 0;
+    while p < NONTERMINALS {
+        if spec_calls::is_member(starts, p) {
+            least = p as usize + 1;
+        }
+        p += 1;
+    }
+    least
+}
+
+// Unfolds `file` to the front of `out`, where the chain procedures are not to be below `least`.
 fn unfold_from(file: &[u8], least: usize, out: &mut [u8]) -> Moved
     requires { ⌜ least ≤ nonterminals ⌝ }
     ensures { λ r. ⌜ Unfolds least (now (file .entry)) (now (out .entry)) (now (out .exit)) r ⌝ }
@@ -109,10 +124,12 @@ fn unfold_from(file: &[u8], least: usize, out: &mut [u8]) -> Moved
     unfold_passed(file, least, out)
 }
 
-// Unfolds `file`, of sixteen-byte records, into a file of eight-byte records at the front of `out`; returns the result's length. The other
-// bytes of `out` keep their values; a refused call leaves all of them.
-pub fn unfold(file: &[u8], out: &mut [u8]) -> Moved
-    ensures { λ r. ⌜ Unfolds 0 (now (file .entry)) (now (out .entry)) (now (out .exit)) r ⌝ }
+// Unfolds `file`, of sixteen-byte records, into a file of eight-byte records at the front of `out`, for a check of the set `starts` of starting
+// procedures: none of them becomes a chain procedure. Returns the result's length. The other bytes of `out` keep their values; a refused call
+// leaves all of them.
+pub fn unfold(file: &[u8], starts: u64, out: &mut [u8]) -> Moved
+    ensures { λ r. ⌜ Unfolds (leastFor starts) (now (file .entry)) (now (out .entry)) (now (out .exit)) r ⌝ }
 {
-    unfold_from(file, 0, out)
+    let least = least_for(starts);
+    unfold_from(file, least, out)
 }

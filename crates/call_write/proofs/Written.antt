@@ -21,7 +21,7 @@ use Rattle.spec_file.specs.declared.Refusal.{Refusal}
 use Rattle.spec_order.specs.Journal.{Row}
 use Rattle.spec_order.specs.Behind.{wordBehind}
 use Rattle.spec_order.specs.Fitting.{rowsFit}
-use Rattle.spec_calls.specs.Base.{base, words}
+use Rattle.spec_calls.specs.Base.{formsOn, words}
 use Rattle.spec_calls.specs.Checking.{checkRefusals}
 use Rattle.spec_calls.specs.Replies.{answered, unless, refused}
 use Rattle.spec_file.specs.Entries.{entryOf}
@@ -101,10 +101,10 @@ module _ (bs : List ℕ) (rows : List (Row ℕ)) (used i : ℕ) (table : List (L
 
     -- 9, as the definition of the call has it, and with no effects asked for
     abbrev nine : ℕ
-    nine = rowFault (base states (automatonOf bs) .forms) (rulesOf bs) rows used i
+    nine = rowFault (formsOn states (automatonOf bs)) (rulesOf bs) rows used i
 
     nine-is : nine ≡ rowFault noForms (rulesOf bs) rows used i
-    nine-is = row-fault-same (base states (automatonOf bs) .forms) noForms (rulesOf bs) rows used i
+    nine-is = row-fault-same (formsOn states (automatonOf bs)) noForms (rulesOf bs) rows used i
 
     -- 9 by the rows, and 10 by the length in the named row
     abbrev of-rows : refusals.Refusal

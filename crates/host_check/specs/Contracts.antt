@@ -14,7 +14,7 @@ use Rattle.spec_calls.specs.declared.Row.{Row as LentRow}
 use Rattle.call_check.specs.Contracts.{settingsOver}
 use Rattle.spec_calls.specs.Codes.{codeBy}
 use Rattle.host_result.specs.Fronts.{journalOf, restOf, placeOf}
-use Rattle.host_check.specs.Details.{answerCode, rowAfter, detailsOf, shownOf}
+use Rattle.host_check.specs.Details.{answerCode, rowAfter, detailsOf, headOf, shownOf}
 use Rattle.host_result.specs.Results.{numbersIn}
 use Rattle.host_result.specs.declared.CheckResult.{CheckResult}
 
@@ -39,5 +39,7 @@ ChecksOver bs journal o d old new r = ChecksBy bs (settingsOver o journal) (jour
 -- a check with n rows, each x before, and the options o, with the row at p as the sample
 pub record ChecksAlone (bs : List ℕ) (n : ℕ) (x : LentRow) (o : Options) (p : ℕ) (old new : List ℕ) (r : CheckResult) : Type 0 where
   pub over : ChecksOver bs (journalOf n x) o (numbersIn r) old new (r .code)
+  -- the nonterminal of the run that is shown
+  pub head : r .head ≡ headOf (checkOf bs (settingsOver o (journalOf n x)))
   -- the row at p: of the journal after the check, and of the rows after it
   pub sample : rowOf (r .sample) ≡ rowAfter (journalAfter bs (settingsOver o (journalOf n x)) (map rowOf (journalOf n x)) ++ map rowOf (restOf n x)) (placeOf p)

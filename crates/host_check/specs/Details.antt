@@ -5,6 +5,7 @@ use lib.ListN.{getD}
 use Rattle.relation.specs.Relation.{states, pairs}
 use Rattle.spec_order.specs.Journal.{Row}
 use Rattle.spec_order.specs.Order.{Answer, Verdict, holds, broken, full, spent, empty}
+use Rattle.spec_calls.specs.Checking.{shownHead}
 use Rattle.spec_calls.specs.Replies.{Reply, refused, answered}
 use Rattle.spec_calls.specs.Writing.{writeOf, bufferAfter}
 use Rattle.spec_calls.specs.Codes.{verdictCode, refusedBy}
@@ -41,6 +42,11 @@ abbrev pub detailsOf : List ℕ → List (Row ℕ) → ℕ → Reply (Answer ℕ
 detailsOf bs rows room (refused r) = r .place ∷ 0 ∷ 0 ∷ 0 ∷ 0 ∷ 0 ∷ 0 ∷ 0 ∷ []
 detailsOf bs rows room (answered a) =
     0 ∷ a .joins ∷ a .used ∷ a .pass ∷ a .row ∷ lastThree (a .verdict) (rowAfter rows (a .row)) (writeOf bs rows (a .used) (a .row) room)
+
+-- the nonterminal of a broken answer's row, which derives the run; 0 unless broken
+abbrev pub headOf : Reply (Answer ℕ) → ℕ
+headOf (refused r) = 0
+headOf (answered a) = ifBroken (a .verdict) (shownHead a) 0
 
 -- ---- the buffer
 

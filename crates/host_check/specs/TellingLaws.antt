@@ -15,16 +15,17 @@ use Rattle.spec_order.specs.Journal.{absent, Row}
 use Rattle.spec_order.specs.Order.{Answer, Verdict, broken}
 use Rattle.spec_order.specs.Truth.{SaysBy, check-says}
 use Rattle.spec_calls.specs.Codes.{refusedBy}
-use Rattle.spec_calls.specs.Base.{base, words}
+use Rattle.spec_calls.specs.Base.{membersOf, words}
 use Rattle.spec_calls.specs.BaseLaws.{base-laws, word-sizes}
-use Rattle.spec_calls.specs.Checking.{Settings, journalLimit, journalFault, orderOn, checkOf, journalAfter}
+use Rattle.spec_calls.specs.Checking.{Settings, journalLimit, algebraOver, journalFault, orderOn, checkOf, keptBy, journalAfter}
 use Rattle.spec_calls.specs.Promising.{from-order}
 use Rattle.spec_calls.specs.Replies.{Reply, refused, answered}
 use Rattle.spec_calls.specs.Rows.{rowOf, blank, Journal}
+use Rattle.spec_calls.specs.VerdictTruth.{head-at}
 use Rattle.spec_calls.specs.Writing.{rowFault, wordOf, writeOf, writtenBy, bufferAfter}
 use Rattle.spec_calls.specs.declared.Options.{Options}
 use Rattle.spec_calls.specs.declared.Row.{Row as LentRow}
-use Rattle.search_laws.specs.Meanings.{verdictOf}
+use Rattle.search_laws.specs.Meanings.{verdictOf, answerOf}
 use Rattle.search_laws.specs.declared.Answer.the-variants as answer
 use Rattle.search_laws.specs.declared.Unbroken.the-variants as unbroken
 use Rattle.search_laws.specs.declared.Unbroken.{Unbroken}
@@ -37,7 +38,7 @@ use Rattle.call_check.specs.Contracts.{settingsOver, Checks}
 use Rattle.call_write.specs.Contracts.{Writes}
 use Rattle.host_result.specs.Fronts.{frontOf, journalOf, restOf, placeOf, nameIn}
 use Rattle.host_result.specs.Results.{toldBy, numbersIn}
-use Rattle.host_check.specs.Details.{zeroRow, ifBroken, rowAfter}
+use Rattle.host_check.specs.Details.{zeroRow, ifBroken, rowAfter, headOf}
 use Rattle.host_check.specs.Contracts.{Tells, ChecksOver, ChecksAlone}
 use Rattle.host_result.specs.declared.RowToWrite.{RowToWrite}
 use Rattle.host_result.specs.declared.CheckResult.{CheckResult}
@@ -49,8 +50,8 @@ broken-used : (bs : List ℕ) (g : Settings) (a : Answer ℕ) → checkOf bs g �
 unfolding orderOn
 broken-used bs g a e v =
     let order = from-order bs g a e .2 in
-    let A = base states (automatonOf bs) in
-    let says = check-says A (base-laws states (automatonOf bs)) words word-sizes (rulesOf bs) (g .rows) (g .budget) .verdict in
+    let A = algebraOver states bs g in
+    let says = check-says A (base-laws states (membersOf (g .starts)) (automatonOf bs)) words word-sizes (rulesOf bs) (g .rows) (g .budget) .verdict in
     let s = subst (λ (x : Verdict). SaysBy A words (rulesOf bs) x (orderOn bs g)) (ap (λ (x : Answer ℕ). x .verdict) (sym order) ∙ v) says in
     subst (λ (x : Answer ℕ). x .row < x .used) (sym order) (s .2)
 
@@ -145,6 +146,27 @@ module _ (bs : List ℕ) (o : Options) (before after rest : Journal) (few : leng
         promises = h .promises;
       }
 
+  -- the nonterminal of the row
+  head-told : (c : Checked) → Checks bs o before after c → tale c .head ≡ headOf (checkOf bs (settingsOver o before))
+  unfolding journalAfter
+  head-told c h = by c h ∙ ap headOf (h .answer)
+    where
+      by : (c : Checked) → Checks bs o before after c → tale c .head ≡ headOf (checkedOf c after)
+      by (checked.Refused r) h = refl
+      by (checked.Answered (answer.Ended x n)) h = sym (unbroken-shows-none x _ 0)
+      by (checked.Answered (answer.Broken i n)) h =
+          let lt = broken-used bs (settingsOver o before) _ (sym (h .answer)) refl in
+          let le = h .promises _ (sym (h .answer)) .counts .rows-bound in
+          let low : i < length after = omega (arith, lt, le, as-many) in
+          let a = answerOf rowOf (answer.Broken i n) after in
+          let rows = h .promises _ (sym (h .answer)) .counts .used-rows in
+          ap (λ (k : ℕ). rowOf (getD (after ++ rest) k blank) .head) (place-low i (omega (arith, low, as-many, few)))
+          ∙ ap (λ (x : Row ℕ). x .head)
+          (row-front after rest i low
+          ∙ ap (λ (xs : List (Row ℕ)). rowAfter xs i) (h .journal ∙ ap (keptBy (map rowOf before)) (sym (h .answer)))
+          ∙ List·getD-append (a .journal) (drop (n .used) (map rowOf before)) zeroRow i (omega (arith, lt, rows)))
+          ∙ sym (head-at (a .journal) i zeroRow)
+
 -- the sample is told
 sample-told : (c : Checked) (x y : LentRow) (f : ℕ) → toldBy c x y f .sample ≡ y
 sample-told (checked.Refused r) x y f = refl
@@ -174,6 +196,10 @@ module _ (bs : List ℕ) (n : ℕ) (old : LentRow) (o : Options) (p : ℕ) (befo
         over =
             subst (λ (j : Journal). ChecksOver bs j o (numbersIn r) before after (r .code)) front
             (subst (λ (z : CheckResult). ChecksOver bs (take m xs) o (numbersIn z) before after (z .code)) same t);
+        head =
+            subst (λ (j : Journal). r .head ≡ headOf (checkOf bs (settingsOver o j))) front
+            (subst (λ (z : CheckResult). z .head ≡ headOf (checkOf bs (settingsOver o (take m xs)))) same
+            (head-told bs o (take m xs) zs (drop m xs) (omega (arith, lent, em .1)) (back ∙ sym lent) before after w y c h));
         sample =
             ap (λ (z : CheckResult). rowOf (z .sample)) er ∙ ap rowOf (sample-told c (getD (zs ++ drop m xs) i blank) y f)
             ∙ row-read zs (drop m xs) k (omega (arith, ek .1, all))

@@ -19,7 +19,7 @@ use Rattle.spec_order.specs.Journal.{Row, capped}
 use Rattle.spec_order.specs.Fitting.{rowsFit}
 use Rattle.spec_order.specs.Order.{Answer, broken}
 use Rattle.spec_calls.specs.Codes.{refusedBy}
-use Rattle.spec_calls.specs.Base.{base}
+use Rattle.spec_calls.specs.Base.{formsOn}
 use Rattle.spec_calls.specs.Checking.{Settings, journalLimit, checkOf, shown}
 use Rattle.spec_calls.specs.Printing.{numbersLine, refusedLine, lineThree}
 use Rattle.spec_calls.specs.Promising.{size-journal, from-order, promises}
@@ -83,7 +83,7 @@ module _ (bs : List ℕ) (rows : List (Row ℕ)) (used i : ℕ) (w : List ℕ) (
 
 module _ (bs : List ℕ) (g : Settings) (few : g .rows ≤ journalLimit) (a : Answer ℕ) (e : checkOf bs g ≡ answered a) (v : a .verdict ≡ broken) where
   abbrev M : Forms ℕ
-  M = base states (automatonOf bs) .forms
+  M = formsOn states (automatonOf bs)
 
   last : suc (a .row) ≡ a .used
   last = promises bs g a e .counts .last-row v

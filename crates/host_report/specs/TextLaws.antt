@@ -13,7 +13,7 @@ use Rattle.spec_file.specs.Refusals.{refuse, fault}
 use Rattle.spec_file.specs.Views.{automatonOf}
 use Rattle.spec_order.specs.Journal.{Row, noRow, capped}
 use Rattle.spec_order.specs.Order.{Answer, Verdict, holds, broken, full, spent, empty}
-use Rattle.spec_calls.specs.Base.{base}
+use Rattle.spec_calls.specs.Base.{formsOn}
 use Rattle.spec_calls.specs.Checking.{Settings, journalLimit, journalFault, checkOf, keptBy, journalAfter, shown}
 use Rattle.spec_calls.specs.Printing.{verdictWord, numbersLine, wordLine, refusedLine, lineOne, lineTwo, lineThree, brokenLines, linesBy, textBy, textOf}
 use Rattle.spec_calls.specs.Promising.{promises, broken-word, broken-writes}
@@ -98,12 +98,12 @@ module _ (bs : List ℕ) (n : ℕ) (x : LentRow) (o : Options) (p : ℕ) (old ne
       below : a .row < length (a .journal)
       below = row-in bs g (few-rows n x) a e v
 
-      row-is : rowAfter rows (a .row) ≡ getD (a .journal) (a .row) (noRow (base states (automatonOf bs) .forms))
+      row-is : rowAfter rows (a .row) ≡ getD (a .journal) (a .row) (noRow (formsOn states (automatonOf bs)))
       unfolding journalAfter
       row-is =
           ap (λ (r : List (Row ℕ)). rowAfter r (a .row)) (ap (keptBy before) e)
           ∙ List·getD-append (a .journal) (drop (a .used) before) zeroRow (a .row) below
-          ∙ getD-any zeroRow (noRow (base states (automatonOf bs) .forms)) (a .journal) (a .row) below
+          ∙ getD-any zeroRow (noRow (formsOn states (automatonOf bs))) (a .journal) (a .row) below
 
       length-is : rowAfter rows (a .row) .len ≡ capped (length (shown bs a))
       unfolding shown wordOf
@@ -120,7 +120,7 @@ module _ (bs : List ℕ) (n : ℕ) (x : LentRow) (o : Options) (p : ℕ) (old ne
       buffer : new ≡ bufferAfter bs rows (a .used) (a .row) old
       buffer = k .buffer ∙ ap (λ (u : Verdict). shownBy u (bufferAfter bs rows (a .used) (a .row) old) old) v
 
-      row-line : rowLine t ≡ lineTwo (a .row) (getD (a .journal) (a .row) (noRow (base states (automatonOf bs) .forms)))
+      row-line : rowLine t ≡ lineTwo (a .row) (getD (a .journal) (a .row) (noRow (formsOn states (automatonOf bs))))
       unfolding rowLine lineTwo
       row-line = ap (λ (d : List ℕ). numbersLine (getD d 4 0 ∷ getD d 5 0 ∷ getD d 6 0 ∷ [])) details ∙ ap (lineTwo (a .row)) row-is
 
@@ -137,7 +137,7 @@ module _ (bs : List ℕ) (n : ℕ) (x : LentRow) (o : Options) (p : ℕ) (old ne
       broken-text =
           ap (λ (xs : List ℕ). xs ++ (rowLine t ++ runLine t new)) (totals-are (verdictWord broken))
           ∙ ap (λ (xs : List ℕ). lineOne broken a ++ (xs ++ runLine t new)) row-line
-          ∙ ap (λ (xs : List ℕ). lineOne broken a ++ (lineTwo (a .row) (getD (a .journal) (a .row) (noRow (base states (automatonOf bs) .forms))) ++ xs)) run-line
+          ∙ ap (λ (xs : List ℕ). lineOne broken a ++ (lineTwo (a .row) (getD (a .journal) (a .row) (noRow (formsOn states (automatonOf bs)))) ++ xs)) run-line
 
     code : (v : Verdict) → a .verdict ≡ v → t .code ≡ verdictCode v
     code v e = k .code ∙ ap verdictCode e

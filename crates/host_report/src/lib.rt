@@ -1,5 +1,6 @@
 // The answer of a check as document 01, "The check program", has it, rendered into a lent buffer.
 use host_result::CheckResult;
+use spec_calls::INITIAL_ALONE;
 use spec_calls::Options;
 use spec_calls::Row;
 ghost use Rattle.spec_calls.specs.Rows.{settingsOf};
@@ -39,5 +40,9 @@ pub fn render(file: &[u8], rows: usize, old: Row, options: Options, text: &mut [
 pub fn answer(file: &[u8], text: &mut [u8; TEXT]) -> usize
     ensures { λ r. ⌜ Printed (programText (now (file .entry))) (now (text .entry)) (now (text .exit)) r ⌝ }
 {
-    render(file, ROWS, Row::blank(), Options { budget: BUDGET }, text)
+    let options = Options {
+        budget: BUDGET,
+        starts: INITIAL_ALONE,
+    };
+    render(file, ROWS, Row::blank(), options, text)
 }

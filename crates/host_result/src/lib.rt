@@ -27,7 +27,8 @@ pub const SPENT: u64 = search_laws::SPENT as u64;
 pub const EMPTY: u64 = search_laws::EMPTY as u64;
 
 // What a host is told: the number that refuses, or the verdict's; the refused record's number; joins, used rows and pass; and of a broken
-// answer the row, its pairs, its length, and what refuses to write its run, or 0. And `sample`, a row of the journal after the check.
+// answer the row, its pairs, its length, what refuses to write its run, or 0, and its nonterminal (`head`). And `sample`, a row of the journal
+// after the check.
 pub struct CheckResult {
     pub code: u64,
     pub place: u64,
@@ -38,6 +39,7 @@ pub struct CheckResult {
     pub pairs: u64,
     pub length: u64,
     pub refused: u64,
+    pub head: u64,
     pub sample: Row,
 }
 
@@ -131,6 +133,7 @@ fn unbroken_result(code: u64, totals: Totals, sample: Row) -> CheckResult
         pairs: 0,
         length: 0,
         refused: 0,
+        head: 0,
         sample,
     }
 }
@@ -150,6 +153,7 @@ fn broken_result(i: usize, totals: Totals, row: Row, sample: Row, writing: Writi
         pairs: relation.pairs() as u64,
         length: row.len,
         refused: refused_by(writing),
+        head: row.head,
         sample,
     }
 }
@@ -183,6 +187,7 @@ pub fn to_result(checked: Checked, row: Row, sample: Row, writing: Writing) -> C
             pairs: 0,
             length: 0,
             refused: 0,
+            head: 0,
             sample,
         },
         Checked::Answered(answer) => answer_result(answer, row, sample, writing),

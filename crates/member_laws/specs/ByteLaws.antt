@@ -4,13 +4,13 @@ use mathlib.Core.Bool.{Bool, true, false}
 use Prim.Native.Nat.{ℕ, _+_, _-_, _/_, _^_, _≤_, _<_}
 use native.Mathlib.Nat.{lt-of-lt-of-le}
 use native.Mathlib.Omega.{arith}
-use lib.Bits.{bitAnd, and-mask}
+use lib.Bits.{bitAnd}
 use lib.Pow.{pow-mono}
 use lib.Dec.{eqb, ltb}
 use borrow.Author.Tests.{lt-ltb, le-ltb, eqb-true, eq-eqb, ltb-true, ltb-false}
 use Rattle.spec_basics.specs.Tests.{iff-equal, fails}
 use Rattle.relation.specs.Digits.{bit}
-use Rattle.relation.specs.DigitLaws.{bit-beyond}
+use Rattle.relation.specs.DigitLaws.{digit-of, bit-beyond}
 use Rattle.spec_language.specs.Grammar.{terminal, nonterminal}
 use Rattle.spec_file.specs.Limits.{terminals, nonterminals, symbolBytes}
 use Rattle.spec_file.specs.Views.{symbolBy, symbolOf}
@@ -23,11 +23,6 @@ pub nonterminal-at : (b : ℕ) → terminals ≤ b → symbolOf b ≡ nontermina
 nonterminal-at b h = ap (λ (t : Bool). symbolBy t b) (le-ltb b terminals h)
 
 -- ---- in a set
-
--- the lowest digit after a shift
-pub digit-of : (x k : ℕ) → eqb (bitAnd (x / 2 ^ k) 1) 1 ≡ bit x k
-unfolding bit
-digit-of x k = ap (λ (d : ℕ). eqb d 1) (and-mask (x / 2 ^ k) 1)
 
 module _ (set b : ℕ) where
   pub among-terminal : b < terminals → false ≡ among set (symbolOf b)

@@ -8,7 +8,7 @@ use native.Mathlib.Omega.{arith}
 use lib.Dec.{eqb, ltb}
 use lib.Arith.{digits-lt, lt-one, lt-of-le-ne}
 use lib.Pow.{pow-pos, pow-lt, shr-shr, high, low, field, mod-mod-pow, recompose, ones-lt, ones-split}
-use lib.Bits.{bitAnd, bitOr, bitXor, and-shr, and-step, or-shr, or-step, and-le-l, and-le-r, and-self, xor-self, or-add-and, xor-add-and}
+use lib.Bits.{bitAnd, bitOr, bitXor, and-mask, and-shr, and-step, or-shr, or-step, and-le-l, and-le-r, and-self, xor-self, or-add-and, xor-add-and}
 use borrow.Author.Tests.{eqb-true, eqb-false, eq-eqb, ltb-true, ltb-false}
 use Rattle.spec_basics.specs.Tests.{and-intro, and-fst, and-snd, or-left, or-right, iff-equal}
 use Rattle.relation.specs.Digits.{bit, digit, number, some, all, union, subset}
@@ -60,6 +60,11 @@ bit-shr x c k = ap (λ (z : ℕ). eqb (z % 2) 1) (shr-shr x c k)
 
 pub bit-up : (v m r k : ℕ) → r < 2 ^ m → bit (v * 2 ^ m + r) (m + k) ≡ bit v k
 bit-up v m r k h = sym (bit-shr (v * 2 ^ m + r) m k) ∙ ap (λ (z : ℕ). bit z k) (high v m h)
+
+-- the lowest digit after a shift
+pub digit-of : (x k : ℕ) → eqb (bitAnd (x / 2 ^ k) 1) 1 ≡ bit x k
+unfolding bit
+digit-of x k = ap (λ (d : ℕ). eqb d 1) (and-mask (x / 2 ^ k) 1)
 
 -- a number has no digit beyond its size
 pub bit-beyond : (x k : ℕ) → x < 2 ^ k → bit x k ≡ false

@@ -7,10 +7,10 @@ use native.Mathlib.Omega.{arith}
 use lib.Dec.{eqb}
 use lib.ListN.{length}
 use borrow.Author.Tests.{eqb-true, eqb-false, eq-eqb}
-use Rattle.spec_basics.specs.Elements.{any}
+use Rattle.spec_basics.specs.Elements.{each}
 use Rattle.spec_basics.specs.Tests.{iff-equal}
 use Rattle.spec_order.specs.Journal.{Row, absent}
-use Rattle.spec_order.specs.Order.{Verdict, broken, answer as answerWith, finishBy, startRow, closeBy, close}
+use Rattle.spec_order.specs.Order.{Verdict, broken, answer as answerWith, finishBy, hasRow, closeBy, close}
 use Rattle.spec_order.specs.Order as order
 use Rattle.search_links.specs.Rows.{rowsRead}
 use Rattle.search_laws.specs.Meanings.{progressOf, verdictOf, finishedBy, outcomeOf, countsIn, totalsOf, answerBy, answerOf, totalsIn, answerTo}
@@ -27,7 +27,7 @@ pub data PassEnd : Type 0 where
   Again : Counts → PassEnd
   Done : Answer → PassEnd
 
--- `nonempty` says whether a nonterminal whose words count has a live row
+-- `nonempty` says whether each nonterminal whose words count has a live row
 abbrev pub endBy : Bool → Bool → Counts → ℕ → PassEnd
 endBy true nonempty w k = Done (answer.Ended (finishedBy nonempty) (totalsOf w k))
 endBy false nonempty w k = Again w
@@ -52,7 +52,7 @@ added-none : (n u m : ℕ) → n ≡ u + m → eqb m 0 ≡ eqb n u
 added-none n u m e = iff-equal (eqb m 0) (eqb n u) (λ p. eq-eqb n u (omega (arith, e, eqb-true m 0 p))) (λ p. eq-eqb m 0 (omega (arith, e, eqb-true n u p)))
 
 -- pass k began with u rows
-module _ {E R : Type 0} (rowOf : R → Row E) (starts : ℕ → Bool) (u k : ℕ) (j : List R) (N : order.Progress E → order.Answer E) where
+module _ {E R : Type 0} (rowOf : R → Row E) (starts : List ℕ) (u k : ℕ) (j : List R) (N : order.Progress E → order.Answer E) where
   answer-given : (v : Verdict) (i : ℕ) (w : Counts) → w .used ≤ length j → answerBy rowOf v i (totalsOf w k) j ≡ answerWith v k i (progressOf rowOf w j)
   unfolding answerWith
   answer-given v i w h = ap (λ (n : ℕ). record { verdict = v; joins = w .joins; used = n; pass = k; row = i; journal = rowsRead rowOf (w .used) j }) (sym (rows-length rowOf (w .used) j h))
@@ -64,7 +64,7 @@ module _ {E R : Type 0} (rowOf : R → Row E) (starts : ℕ → Bool) (u k : ℕ
 
   -- that it added no row is that it used no row more
   pub close-end : (r : Outcome) → countsIn r .used ≤ length j → countsIn r .used ≡ u + countsIn r .added
-      → endAnswer rowOf (endOf (any (startRow starts) (rowsRead rowOf (countsIn r .used) j)) k r) j N ≡ close starts k u N (outcomeOf rowOf r j)
+      → endAnswer rowOf (endOf (each (hasRow (rowsRead rowOf (countsIn r .used) j)) starts) k r) j N ≡ close starts k u N (outcomeOf rowOf r j)
   close-end (outcome.Stopped (stop.Ended v w)) h a = answer-given (verdictOf v) absent w h
   close-end (outcome.Stopped (stop.Broken i w)) h a = answer-given broken i w h
   close-end (outcome.Going w) h a =
@@ -72,8 +72,8 @@ module _ {E R : Type 0} (rowOf : R → Row E) (starts : ℕ → Bool) (u k : ℕ
       ∙ ap (λ (b : Bool). closeBy starts b k N (progressOf rowOf w j)) (added-none (w .used) u (w .added) a)
       ∙ ap (λ (n : ℕ). closeBy starts (eqb n u) k N (progressOf rowOf w j)) (sym (rows-length rowOf (w .used) j h))
     where
-      split : (b : Bool) → endAnswer rowOf (endBy b (any (startRow starts) (rowsRead rowOf (w .used) j)) w k) j N ≡ closeBy starts b k N (progressOf rowOf w j)
-      split true = finish-given (any (startRow starts) (rowsRead rowOf (w .used) j)) w h
+      split : (b : Bool) → endAnswer rowOf (endBy b (each (hasRow (rowsRead rowOf (w .used) j)) starts) w k) j N ≡ closeBy starts b k N (progressOf rowOf w j)
+      split true = finish-given (each (hasRow (rowsRead rowOf (w .used) j)) starts) w h
       split false = refl
 
 pub close-used : (nonempty : Bool) (k : ℕ) (r : Outcome) → endUsed (endOf nonempty k r) ≡ countsIn r .used

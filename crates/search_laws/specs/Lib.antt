@@ -1,6 +1,7 @@
 pub mod Problems
 pub mod Meanings
 pub mod States
+pub mod LinkedLaws
 pub mod Walks
 pub mod Steps
 pub mod StepLaws

@@ -12,17 +12,17 @@ use Rattle.spec_language.specs.Automaton.{Automaton}
 use Rattle.spec_language.specs.WordRelation.{letterRelation, isFinal}
 use Rattle.spec_file.specs.Entries.{entryOf}
 use Rattle.spec_order.specs.Order.{check}
-use Rattle.spec_calls.specs.Base.{baseBy, base}
+use Rattle.spec_calls.specs.Base.{membersOf, baseBy, base}
 use Rattle.relation.specs.Stored.{relationIn}
 use Rattle.search_laws.specs.Contracts.{orderOf}
 use Rattle.search_laws.specs.OnRelations.{Letters, problemIn}
 use Rattle.search_laws.specs.Problems.{RuleBytes}
 
-pub order-on : (A : Automaton) (finals : ℕ) (letters : Letters) (rules : RuleBytes) (J B : ℕ) → ((c : ℕ) → value (relationIn letters c) ≡ letterRelation states (A .transitions) c)
-    → ((f : ℕ) → f < states → bit finals f ≡ isFinal A f) → orderOf (problemIn finals letters rules) J B ≡ check (base states A) (map entryOf rules) J B
+pub order-on : (A : Automaton) (starts finals : ℕ) (letters : Letters) (rules : RuleBytes) (J B : ℕ) → ((c : ℕ) → value (relationIn letters c) ≡ letterRelation states (A .transitions) c)
+    → ((f : ℕ) → f < states → bit finals f ≡ isFinal A f) → orderOf (problemIn starts finals letters rules) J B ≡ check (base states (membersOf starts) A) (map entryOf rules) J B
 unfolding orderOf rejects
-order-on A finals letters rules J B h k =
-    ap₂ (λ (letter : ℕ → ℕ) (reject : ℕ → Bool). check (baseBy states letter reject) (map entryOf rules) J B) (fun-ext h)
+order-on A starts finals letters rules J B h k =
+    ap₂ (λ (letter : ℕ → ℕ) (reject : ℕ → Bool). check (baseBy states (membersOf starts) letter reject) (map entryOf rules) J B) (fun-ext h)
     (fun-ext
     (λ e.
     ap not

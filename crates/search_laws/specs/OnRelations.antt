@@ -8,7 +8,7 @@ use lib.ListN.{length}
 use Rattle.relation.specs.Relation.{contained}
 use Rattle.spec_file.specs.Limits.{letterWords}
 use Rattle.spec_order.specs.Algebra.{Laws}
-use Rattle.spec_calls.specs.Base.{breaksBy}
+use Rattle.spec_calls.specs.Base.{membersOf, breaksBy}
 use Rattle.spec_calls.specs.Rows.{rowOf, blank, Journal}
 use Rattle.spec_calls.specs.declared.Row.{Row}
 use Rattle.search_rows.specs.Base.{rejecting}
@@ -27,41 +27,51 @@ use Rattle.search_laws.specs.declared.Reached.{Reached}
 abbrev pub Letters : Type 0
 Letters = List ℕ
 
--- `letters` has the relation of each terminal, `rules` the rules, and `finals` the final states
-abbrev pub problemIn : ℕ → Letters → RuleBytes → Problem ℕ Row
-problemIn finals letters rules =
-    record { composing = composingOf letters; below = contained; breaks = breaksBy (rejecting finals); rowOf = rowOf; blank = blank; rules = rules; finals = finals }
+-- `starts` is the set of the nonterminals whose words count, `finals` that of the final states; `letters` has the relation of each terminal,
+-- and `rules` the rules
+abbrev pub problemIn : ℕ → ℕ → Letters → RuleBytes → Problem ℕ Row
+problemIn starts finals letters rules =
+    record {
+      composing = composingOf letters;
+      below = contained;
+      starts = starts;
+      breaks = breaksBy (membersOf starts) (rejecting finals);
+      rowOf = rowOf;
+      blank = blank;
+      rules = rules;
+      finals = finals;
+    }
 
 -- ---- a candidate, whatever the letters and the rules
 
 abbrev pub MayFind : State → Journal → List ℕ → Type 0
-MayFind s j t = running.MayFind (problemIn (s .terms .finals) [] []) s j t
+MayFind s j t = running.MayFind (problemIn (s .terms .starts) (s .terms .finals) [] []) s j t
 
 abbrev pub CoverFound : State → Candidate → Journal → List ℕ → CoverCursor → Type 0
-CoverFound s c j t l = running.CoverFound (problemIn (s .terms .finals) [] []) s (candidateOf c) j t l
+CoverFound s c j t l = running.CoverFound (problemIn (s .terms .starts) (s .terms .finals) [] []) s (candidateOf c) j t l
 
 abbrev pub fateFor : State → Candidate → Bool → Fate
-fateFor s c covered = running.fateFor (problemIn (s .terms .finals) [] []) s (candidateOf c) covered
+fateFor s c covered = running.fateFor (problemIn (s .terms .starts) (s .terms .finals) [] []) s (candidateOf c) covered
 
 abbrev pub MayInsert : State → Candidate → Fate → CoverCursor → Journal → List ℕ → Type 0
-MayInsert s c f l j t = running.MayInsert (problemIn (s .terms .finals) [] []) s (candidateOf c) f l j t
+MayInsert s c f l j t = running.MayInsert (problemIn (s .terms .starts) (s .terms .finals) [] []) s (candidateOf c) f l j t
 
 abbrev pub CandidateInserted : State → Candidate → CoverCursor → Journal → List ℕ → Journal → List ℕ → Type 0
-CandidateInserted s c l j t j′ t′ = running.CandidateInserted (problemIn (s .terms .finals) [] []) s (candidateOf c) l j t j′ t′
+CandidateInserted s c l j t j′ t′ = running.CandidateInserted (problemIn (s .terms .starts) (s .terms .finals) [] []) s (candidateOf c) l j t j′ t′
 
 -- ---- the loop
 
 -- the invariant of the loop; the table of letters is whole
 pub record Running (letters : Letters) (rules : RuleBytes) (start : State) (j₀ : Journal) (s : State) (j : Journal) (t : List ℕ) : Type 0 where
   pub all : T (start .going) → letterWords ≤ length letters
-  pub search : running.Running (problemIn (start .terms .finals) letters rules) rules start j₀ s j t
+  pub search : running.Running (problemIn (start .terms .starts) (start .terms .finals) letters rules) rules start j₀ s j t
 
 -- the search has run to its end
 abbrev pub Ran : Letters → RuleBytes → State → Journal → Journal → List ℕ → State → Type 0
 Ran letters rules start j₀ j t r = T (not (r .going)) × Running letters rules start j₀ r j t
 
 abbrev pub Considered : Letters → RuleBytes → State → Journal → State → Candidate → Fate → CoverCursor → Journal → List ℕ → Type 0
-Considered letters rules start j₀ s c f l j t = running.Considered (problemIn (start .terms .finals) letters rules) rules start j₀ s (candidateOf c) f l j t
+Considered letters rules start j₀ s c f l j t = running.Considered (problemIn (start .terms .starts) (start .terms .finals) letters rules) rules start j₀ s (candidateOf c) f l j t
 
 -- ---- the steps between candidates
 

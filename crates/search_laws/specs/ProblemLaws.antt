@@ -11,6 +11,7 @@ use Rattle.relation.specs.Representation.{value}
 use Rattle.relation.specs.Stored.{relationIn}
 use Rattle.spec_file.specs.Limits.{letterWords}
 use Rattle.spec_order.specs.Algebra.{Laws}
+use Rattle.spec_calls.specs.Base.{membersOf}
 use Rattle.spec_calls.specs.BaseLaws.{base-by-laws}
 use Rattle.spec_calls.specs.Rows.{blank, Journal}
 use Rattle.search_rows.specs.Forming.{formedIn}
@@ -26,8 +27,8 @@ use Rattle.search_laws.specs.OnRelations.{Letters, problemIn, CoverFound
 use Rattle.search_laws.specs.Problems.{RuleBytes, algebraOf}
 use Rattle.search_laws.specs.RunLaws.{started, stands-on, goes-on, used-fits, limit, pass-some, rule-inside, formed-there}
 
-pub problem-laws : (finals : ℕ) (letters : Letters) (rules : RuleBytes) → Laws (algebraOf (problemIn finals letters rules))
-problem-laws finals letters rules = base-by-laws states (λ c. value (relationIn letters c)) (bit finals)
+pub problem-laws : (starts finals : ℕ) (letters : Letters) (rules : RuleBytes) → Laws (algebraOf (problemIn starts finals letters rules))
+problem-laws starts finals letters rules = base-by-laws states (membersOf starts) (λ c. value (relationIn letters c)) (bit finals)
 
 module _ {letters : Letters} {rules : RuleBytes} {start : State} {j₀ : Journal} {s : State} {j : Journal} {t : List ℕ} (r : Running letters rules start j₀ s j t) (g : T (s .going)) where
   pub may-form : (letterWords ≤ length letters) × (s .place .rule < length rules)
@@ -46,10 +47,6 @@ module _ {letters : Letters} {rules : RuleBytes} {start : State} {j₀ : Journal
           finds = seek-finds (found .0) (found .1);
         }
 
-    -- the final states are those with which the search began
-    finals-same : s .terms .finals ≡ start .terms .finals
-    finals-same = ap (λ (b : Terms). b .finals) (goes-on (r .search) g .begun .terms)
-
     pub considered : candidateOf c ≡ formedIn letters rules s (getD j (s .«left_row») blank) (getD j (s .«right_row») blank) → {j′ : Journal} {t′ : List ℕ} → CandidateInserted s c l j t j′ t′
         → Considered letters rules start j₀ s c f l j′ t′
     considered formed inserted =
@@ -60,6 +57,7 @@ module _ {letters : Letters} {rules : RuleBytes} {start : State} {j₀ : Journal
           going = g;
           formed = formed ∙ formed-there (r .search) g;
           found = found;
-          fate = fate ∙ ap (λ (n : ℕ). fateIn s (c .head) (l .covers) (problemIn n letters rules .breaks (c .head) (value (c .relation)))) finals-same;
+          -- what breaks is what broke where the search began
+          fate = fate ∙ ap (λ (b : Terms). fateIn s (c .head) (l .covers) (problemIn (b .starts) (b .finals) letters rules .breaks (c .head) (value (c .relation)))) (goes-on (r .search) g .begun .terms);
           inserted = inserted;
         }

@@ -5,7 +5,7 @@ use Prim.Native.Nat.{ℕ}
 use Rattle.spec_language.specs.Grammar.{Rule}
 use Rattle.spec_order.specs.Algebra.{Algebra}
 use Rattle.spec_order.specs.Journal.{Row}
-use Rattle.spec_calls.specs.Base.{starts}
+use Rattle.spec_calls.specs.Base.{membersOf}
 use Rattle.spec_file.specs.Entries.{entryOf}
 use Rattle.search_state.specs.Forming.{Composing, formsFrom}
 use Rattle.search_state.specs.declared.Terms.{Terms}
@@ -15,12 +15,13 @@ use Rattle.search_links.specs.Rows.{rowsRead}
 abbrev pub RuleBytes : Type 0
 RuleBytes = List (List ℕ)
 
--- of effects E, in a journal of rows R. `composing` says what bodies form, `below` which effects are contained in which, `breaks` which new rows
--- break the check. `rowOf` reads a row of the journal, and `blank` stands past its end. `finals` is the number by which the terms of a search
--- know what breaks: the laws only say that it stays
+-- of effects E, in a journal of rows R. `composing` says what bodies form, `below` which effects are contained in which, `starts` is the set of
+-- the nonterminals whose words count, and `breaks` says which new rows break the check. `rowOf` reads a row of the journal, and `blank` stands
+-- past its end. `finals` is the number by which the terms of a search know what breaks: the laws only say that it stays
 pub record Problem (E R : Type 0) : Type 0 where
   pub composing : Composing E
   pub below : E → E → Bool
+  pub starts : ℕ
   pub breaks : ℕ → E → Bool
   pub rowOf : R → Row E
   pub blank : R
@@ -31,7 +32,7 @@ module _ {E R : Type 0} (P : Problem E R) where
   -- ---- what it stands for
 
   abbrev pub algebraOf : Algebra E
-  algebraOf = record { forms = formsFrom (P .composing); below = P .below; starts = starts; breaks = P .breaks }
+  algebraOf = record { forms = formsFrom (P .composing); below = P .below; starts = membersOf (P .starts); breaks = P .breaks }
 
   abbrev pub rulesIn : List Rule
   rulesIn = map entryOf (P .rules)
@@ -48,8 +49,8 @@ module _ {E R : Type 0} (P : Problem E R) where
 
   -- the same problem with other rules
   abbrev pub withRules : RuleBytes → Problem E R
-  withRules rules = record { composing = P .composing; below = P .below; breaks = P .breaks; rowOf = P .rowOf; blank = P .blank; rules = rules; finals = P .finals }
+  withRules rules = record { composing = P .composing; below = P .below; starts = P .starts; breaks = P .breaks; rowOf = P .rowOf; blank = P .blank; rules = rules; finals = P .finals }
 
   -- the terms of a search on it in pass k, which began with u rows, after one that began with n, where B joins may be made
   abbrev pub termsOf : ℕ → ℕ → ℕ → ℕ → Terms
-  termsOf B k u n = record { budget = B; finals = P .finals; pass = k; present = u; old = n }
+  termsOf B k u n = record { budget = B; starts = P .starts; finals = P .finals; pass = k; present = u; old = n }

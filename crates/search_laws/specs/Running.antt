@@ -26,7 +26,7 @@ use Rattle.search_laws.specs.Meanings.{answerIn}
 use Rattle.search_laws.specs.Passes.{AtPass}
 use Rattle.search_laws.specs.Passing.{InPass}
 use Rattle.search_laws.specs.Problems.{RuleBytes, Problem, firstRows, withRules, termsOf}
-use Rattle.search_laws.specs.States.{startLinked, opening}
+use Rattle.search_laws.specs.States.{allLinked, opening}
 use Rattle.search_laws.specs.Walks.{candidateIn, passIn, KnownFrom}
 use Rattle.search_laws.specs.declared.Outcome.the-variants.{Going}
 use Rattle.search_laws.specs.declared.Reached.{Reached}
@@ -155,7 +155,7 @@ module _ {E R : Type 0} (P : Problem E R) where
   OpensPass rules t n b w t′ x =
       (B : ℕ) (j₀ j : List R) (k m : ℕ) (s : State) → let Q = withRules P (take n rules) in s .rules ≡ n → InLimits j₀ → s .rows ≡ length j₀
       → AtPass Q B (target Q B j₀) j₀ w j k → b ≡ termsOf P B k (w .used) m
-      → KnownFrom Q m (w .used) j → Covering (firstRows Q (w .used) j) t → Onward Q B j₀ w (opening s b x (startLinked t′)) j t′
+      → KnownFrom Q m (w .used) j → Covering (firstRows Q (w .used) j) t → Onward Q B j₀ w (opening s b x (allLinked (b .starts) t′)) j t′
 
   -- closing the pass of s, which is over with the counts w: the invariant holds of r, in the next pass or at the end
   abbrev pub Closes : RuleBytes → List ℕ → State → Counts → List ℕ → State → Type 0

@@ -8,20 +8,21 @@ use native.Mathlib.Omega.{arith}
 use lib.Dec.{ltb}
 use lib.ListN.{length}
 use borrow.Author.Tests.{leb-true, leb-false, eq-eqb, ne-eqb, ltb-true, ltb-false}
-use Rattle.spec_language.specs.Grammar.{initial}
 use Rattle.spec_order.specs.Algebra.{Laws}
 use Rattle.spec_order.specs.Candidates.{Candidate}
-use Rattle.spec_order.specs.Journal.{liveOf}
-use Rattle.spec_order.specs.Order.{startRow}
+use Rattle.spec_order.specs.Order.{hasRow}
 use Rattle.spec_calls.specs.Codes.{spentCode}
 use Rattle.search_state.specs.declared.Place.{Place}
 use Rattle.search_state.specs.Layout.{rowCells, listsIn}
+use Rattle.spec_basics.specs.Lists.{each-same}
+use Rattle.spec_calls.specs.Base.{membersOf}
+use Rattle.spec_calls.specs.MemberLaws.{member-bit}
 use Rattle.search_order.specs.Lists.{Listed}
 use Rattle.search_order.specs.Places as places
 use Rattle.search_order.specs.PlacesLeft.{PassFrom}
 use Rattle.search_order.specs.PlacesLeftLaws.{places-first}
 use Rattle.search_links.specs.CoverLaws.{linked-live}
-use Rattle.search_links.specs.Covers.{Covering}
+use Rattle.search_links.specs.Covers.{isLinked, Covering}
 use Rattle.search_links.specs.Listing.{Gathered, gathered-listed, gathered-covering}
 use Rattle.search_links.specs.RowLaws.{rows-length}
 use Rattle.search_state.specs.Budgets.{isSpent}
@@ -39,7 +40,7 @@ use Rattle.search_laws.specs.Steps.{LinksAlong, PassesOver}
 use Rattle.search_laws.specs.StepLaws.{over-counted}
 use Rattle.search_laws.specs.PassingOver.{over-stands}
 use Rattle.search_laws.specs.Running.{target, InLimits, PassBegun, Onward}
-use Rattle.search_laws.specs.States.{ended, standingBy, standing, startLinked, finished, openingBy, opening}
+use Rattle.search_laws.specs.States.{ended, standingBy, standing, allLinked, finished, openingBy, opening}
 use Rattle.search_laws.specs.Walks.{candidateIn, passIn, nonemptyIn, KnownFrom}
 use Rattle.search_laws.specs.declared.Answer.the-variants as answer
 use Rattle.search_laws.specs.declared.Answer.{Answer}
@@ -51,10 +52,11 @@ use Rattle.search_laws.specs.declared.Totals.{Totals}
 use Rattle.search_laws.specs.declared.Unbroken.the-variants as unbroken
 use Rattle.search_laws.specs.declared.Unbroken.{Unbroken}
 
--- the list of the nonterminal whose words count has a row exactly where such a nonterminal has a live row
-start-linked : {E R : Type 0} (P : Problem E R) (u : ℕ) (j : List R) (t : List ℕ) → length (firstRows P u j) ≤ rowCells → Covering (firstRows P u j) t → startLinked t ≡ nonemptyIn P u j
-unfolding startRow liveOf
-start-linked P u j t few c = linked-live (firstRows P u j) t few c initial (omega arith)
+-- the lists of the nonterminals whose words count have rows exactly where each of these has a live row
+all-linked : {E R : Type 0} (P : Problem E R) (u : ℕ) (j : List R) (t : List ℕ) → length (firstRows P u j) ≤ rowCells → Covering (firstRows P u j) t → allLinked (P .starts) t ≡ nonemptyIn P u j
+unfolding hasRow
+all-linked P u j t few c =
+    each-same (λ (p : ℕ). isLinked p t) (hasRow (firstRows P u j)) (membersOf (P .starts)) (λ p m. linked-live (firstRows P u j) t few c p (omega (arith, member-bit (P .starts) p m .0)))
 
 -- a verdict's number gives the verdict back
 pub unbroken-back : (v : Unbroken) (n : Totals) → answerAt (codeOf v) 0 n ≡ answer.Ended v n
@@ -134,11 +136,11 @@ module _ {E R : Type 0} (P : Problem E R) (B : ℕ) (j₀ : List R) (s : State) 
       abbrev nonempty : Bool
       nonempty = nonemptyIn P (w .used) j
 
-      pub close-last : length j₀ ≤ rowCells → (t : List ℕ) → Covering (firstRows P (w .used) j) t → w .added ≡ 0 → Onward P B j₀ w (finished s (at k n first) w (startLinked t)) j t
+      pub close-last : length j₀ ≤ rowCells → (t : List ℕ) → Covering (firstRows P (w .used) j) t → w .added ≡ 0 → Onward P B j₀ w (finished s (at k n first) w (allLinked (P .starts) t)) j t
       close-last few t c u =
           let fits : length (firstRows P (w .used) j) ≤ rowCells = omega (arith, rows-length (P .rowOf) (w .used) j (omega (arith, x .room, e)), x .room, a .same, few) in
           let done : endOf nonempty k (outcome.Going w) ≡ Done (answer.Ended (finishedBy nonempty) (totalsOf w k)) = ap (λ (b : Bool). endBy b nonempty w k) (eq-eqb (w .added) 0 u) in
-          subst (λ (b : Bool). Onward P B j₀ w (finished s (at k n first) w b) j t) (sym (start-linked P (w .used) j t fits c))
+          subst (λ (b : Bool). Onward P B j₀ w (finished s (at k n first) w b) j t) (sym (all-linked P (w .used) j t fits c))
           (over w (at k n first) (codeOf (finishedBy nonempty)) 0 j t (e ∙ a .same) refl
           (subst (Checked (P .rowOf) (target P B j₀) j₀ j) (sym (unbroken-back (finishedBy nonempty) (totalsOf w k))) (stops e (outcome.Going w) x done)))
 
@@ -182,9 +184,9 @@ module _ {E R : Type 0} (P : Problem E R) (B : ℕ) (j₀ : List R) (s : State) 
       reached : InPass (at k n w) P w j t′ (r .counts) j (r .place)
       reached = over-stands L v (pass-start listed ready known o)
 
-      pub open-reached : Onward P B j₀ w (opening s (at k n w) r (startLinked t′)) j t′
+      pub open-reached : Onward P B j₀ w (opening s (at k n w) r (allLinked (P .starts) t′)) j t′
       open-reached = onward-from (over-counted (P .rules) t′ (at k n w) v .joins) (by (ltb (r .place .rule) (s .rules)) refl)
         where
-          by : (b : Bool) → ltb (r .place .rule) (s .rules) ≡ b → Onward P B j₀ (r .counts) (openingBy b s (at k n w) r (startLinked t′)) j t′
+          by : (b : Bool) → ltb (r .place .rule) (s .rules) ≡ b → Onward P B j₀ (r .counts) (openingBy b s (at k n w) r (allLinked (P .starts) t′)) j t′
           by true e = stand-there a n fits known reached (omega (arith, ltb-true (r .place .rule) (s .rules) e, count))
           by false e = close-last a n refl (pass-end reached (omega (arith, ltb-false (r .place .rule) (s .rules) e, count))) (z .limit) t′ (reached .covering) (over-counted (P .rules) t′ (at k n w) v .added ∙ a .none-added)

@@ -3,7 +3,8 @@ use mathlib.Core.Bool.{Bool, true, false}
 use mathlib.Core.List.{List}
 use Prim.Native.Nat.{ℕ}
 use lib.Dec.{ltb}
-use Rattle.spec_language.specs.Grammar.{initial}
+use Rattle.spec_basics.specs.Elements.{each}
+use Rattle.spec_calls.specs.Base.{membersOf}
 use Rattle.spec_calls.specs.Codes.{brokenCode, spentCode}
 use Rattle.search_state.specs.declared.Place.{Place}
 use Rattle.search_state.specs.Budgets.{isSpent}
@@ -41,11 +42,16 @@ standingBy false s t w p =
 abbrev pub standing : State → Terms → Counts → Place → State
 standing s t w p = standingBy (isSpent (t .budget) (w .joins)) s t w p
 
--- the table has a row in the list of the nonterminal whose words count
-abbrev pub startLinked : List ℕ → Bool
-startLinked table = isLinked initial table
+-- the table has a row in the list of each of these nonterminals
+abbrev pub eachLinked : List ℕ → List ℕ → Bool
+eachLinked table ps = each (λ p. isLinked p table) ps
 
--- after a pass that has added no row: what the working order's `finish` says, where the flag is whether such a nonterminal has a live row
+-- of each nonterminal of the set
+abbrev pub allLinked : ℕ → List ℕ → Bool
+allLinked starts table = eachLinked table (membersOf starts)
+
+-- after a pass that has added no row: what the working order's `finish` says, where the flag is whether each nonterminal whose words count has
+-- a live row
 abbrev pub finished : State → Terms → Counts → Bool → State
 finished s t w nonempty = ended s t w (codeOf (finishedBy nonempty)) 0
 

@@ -5,10 +5,10 @@ use mathlib.Core.Bool.{Bool, true}
 use mathlib.Core.List.{List}
 use Prim.Native.Nat.{ℕ, _<_}
 use lib.ListN.{length}
-use Rattle.spec_basics.specs.Elements.{In, any}
+use Rattle.spec_basics.specs.Elements.{In, each}
 use Rattle.spec_order.specs.Candidates.{Candidate, passCandidates}
 use Rattle.spec_order.specs.Journal.{Row}
-use Rattle.spec_order.specs.Order.{Progress, Outcome, dropped, consider, walk, startRow}
+use Rattle.spec_order.specs.Order.{Progress, Outcome, dropped, consider, walk, hasRow}
 use Rattle.spec_order.specs.Repeating.{Repeats}
 use Rattle.search_state.specs.declared.Place.{Place}
 use Rattle.search_order.specs.Candidates.{candidateAt}
@@ -35,9 +35,9 @@ module _ {E R : Type 0} (P : Problem E R) where
   abbrev pub passIn : Terms → Counts → List R → Outcome E
   passIn b w j = walkIn b (length j) (candidatesIn (firstRows P (w .used) j)) (progressOf (P .rowOf) w j)
 
-  -- among the first u rows of the journal j is a live one of a nonterminal whose words count
+  -- among the first u rows of the journal j is a live one of each nonterminal whose words count
   abbrev pub nonemptyIn : ℕ → List R → Bool
-  nonemptyIn u j = any (startRow (algebraOf P .starts)) (firstRows P u j)
+  nonemptyIn u j = each (hasRow (firstRows P u j)) (algebraOf P .starts)
 
   -- ---- what the pass before formed
 

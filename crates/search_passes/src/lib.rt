@@ -7,14 +7,18 @@ use search_state::END;
 use search_state::END_CELL;
 use search_state::FIRSTS;
 use search_state::Fate;
-use search_state::INITIAL;
 use search_state::State;
 use search_state::Terms;
+use spec_file::NONTERMINALS;
 ghost use Prim.Native.Nat.{_<_};
 ghost use mathlib.Core.Path.{_≡_};
+ghost use mathlib.Core.List.{[]};
 ghost use lib.ListN.{length};
+ghost use Rattle.relation.specs.Digits.{bit};
+ghost use Rattle.spec_file.specs.Limits.{nonterminals};
+ghost use Rattle.spec_file.specs.Views.{consIf};
 ghost use Rattle.search_state.specs.Layout.{tableCells};
-ghost use Rattle.search_laws.specs.States.{startLinked};
+ghost use Rattle.search_laws.specs.States.{eachLinked, allLinked};
 ghost use Rattle.search_laws.specs.Steps.{MayPass, MayOpen, MayGoOn, MayAdvance};
 ghost use Rattle.search_laws.specs.OnRelations.{OpensPass, Closes, GoesFrom, GoesOn, Advances};
 
@@ -35,12 +39,33 @@ pub fn open_pass(
     search_skip::pass_over(rules, table, n, terms, Reached { counts, place })
 }
 
-// Returns whether the nonterminal whose words count has a live row: whether its cell of `table` leads to one.
-pub fn start_linked(table: &[u32]) -> bool
-    requires { ⌜ length (now table) ≡ tableCells ⌝ }
-    ensures { λ r. ⌜ r ≡ startLinked (now (table .entry)) ⌝ }
+// Returns whether the nonterminal `p`, if it is in the set `starts`, has a live row: whether its cell of `table` leads to one.
+fn linked(table: &[u32], starts: u64, p: u8) -> bool
+    requires { ⌜ (length (now table) ≡ tableCells) × (p < nonterminals) ⌝ }
+    ensures { λ r. ⌜ r ≡ eachLinked (now (table .entry)) (consIf (bit starts p) p []) ⌝ }
 {
-    table[FIRSTS + INITIAL as usize] != END_CELL
+    if spec_calls::is_member(starts, p) {
+        return table[FIRSTS + p as usize] != END_CELL;
+    }
+    true
+}
+
+// Returns whether each nonterminal of the set `starts` has a live row. It ends where no member is left: of procedure 0 alone after one turn.
+pub fn all_linked(table: &[u32], starts: u64) -> bool
+    requires { ⌜ length (now table) ≡ tableCells ⌝ }
+    ensures { λ r. ⌜ r ≡ allLinked starts (now (table .entry)) ⌝ }
+{
+    let mut all = true;
+    let mut p: u8 = 0;
+    while p < NONTERMINALS {
+        let place = p as u32;
+        if starts >> place == 0 {
+            return all;
+        }
+        all = all & linked(table, starts, p);
+        p += 1;
+    }
+    all
 }
 
 // Ends the pass of `state`, which has come to `counts`: it added no row and was the last, or the next begins, and has added none.
@@ -50,7 +75,7 @@ fn close_pass(rules: &[[u8; 4]], table: &mut [u32], state: State, counts: Counts
 {
     let terms = state.terms;
     if counts.added == 0 {
-        return search_step::finish(state, terms, counts, start_linked(table));
+        return search_step::finish(state, terms, counts, all_linked(table, terms.starts));
     }
     let next = terms.next_pass(counts.used);
     let fresh = Counts {
@@ -59,7 +84,7 @@ fn close_pass(rules: &[[u8; 4]], table: &mut [u32], state: State, counts: Counts
         added: 0,
     };
     let at = open_pass(rules, table, state.rules, next, fresh);
-    search_step::stand_or_finish(state, next, at, start_linked(table))
+    search_step::stand_or_finish(state, next, at, all_linked(table, next.starts))
 }
 
 // From a place on to the first that needs work, or to the end of the pass.

@@ -6,7 +6,7 @@ use Rattle.relation.specs.Digits.{bit}
 use Rattle.relation.specs.Relation.{states, compose, rejects}
 use Rattle.spec_order.specs.Candidates as candidates
 use Rattle.spec_order.specs.Journal as journal
-use Rattle.spec_calls.specs.Base.{formsBy, breaksBy}
+use Rattle.spec_calls.specs.Base.{membersOf, formsBy, breaksBy}
 
 abbrev pub Row : Type 0
 Row = journal.Row ℕ
@@ -30,5 +30,5 @@ abbrev pub rejecting : ℕ → ℕ → Bool
 rejecting finals = rejects states (bit finals)
 
 -- as a new row the candidate breaks
-abbrev pub breaking : ℕ → Candidate → Bool
-breaking finals c = breaksBy (rejecting finals) (c .head) (c .effect)
+abbrev pub breaking : ℕ → ℕ → Candidate → Bool
+breaking starts finals c = breaksBy (membersOf starts) (rejecting finals) (c .head) (c .effect)

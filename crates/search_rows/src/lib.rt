@@ -6,7 +6,6 @@ use relation::Letter;
 use relation::StateSet;
 use search_state::Comparison;
 use search_state::Fate;
-use search_state::INITIAL;
 use search_state::Place;
 use search_state::State;
 use spec_calls::ABSENT;
@@ -142,24 +141,24 @@ pub fn replacement(
     held
 }
 
-// Returns whether `candidate` is of the initial nonterminal and its relation rejects, where `finals` are the final states.
-fn breaks(finals: StateSet, candidate: Candidate) -> bool
-    ensures { λ r. ⌜ r ≡ breaking finals (candidateOf candidate) ⌝ }
+// Returns whether `candidate` is of a nonterminal of the set `starts` and its relation rejects, where `finals` are the final states.
+fn breaks(starts: u64, finals: StateSet, candidate: Candidate) -> bool
+    ensures { λ r. ⌜ r ≡ breaking starts finals (candidateOf candidate) ⌝ }
 {
     let formed = candidate.relation;
-    (candidate.head == INITIAL) & formed.rejects(finals)
+    spec_calls::is_member(starts, candidate.head) & formed.rejects(finals)
 }
 
 // Decides what becomes of `candidate`, where a row covers it or not.
 pub fn fate(state: State, candidate: Candidate, covered: bool) -> Fate
-    ensures { λ r. ⌜ r ≡ fateIn state (candidate .head) covered (breaking (state .terms .finals) (candidateOf candidate)) ⌝ }
+    ensures { λ r. ⌜ r ≡ fateIn state (candidate .head) covered (breaking (state .terms .starts) (state .terms .finals) (candidateOf candidate)) ⌝ }
 {
     let terms = state.terms;
     search_state::fate_of(
         state,
         candidate.head,
         covered,
-        breaks(terms.finals, candidate),
+        breaks(terms.starts, terms.finals, candidate),
     )
 }
 

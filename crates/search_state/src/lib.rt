@@ -45,9 +45,6 @@ pub const END: usize = ABSENT + 1;
 // The same as a cell: a table of these has no row in any list.
 pub const END_CELL: u32 = END as u32;
 
-// The nonterminal whose words have to be accepted.
-pub const INITIAL: u8 = 0;
-
 // ---- the state
 
 // Where a candidate stands in a pass: its rule, and the rows of its two symbols.
@@ -85,10 +82,12 @@ pub struct Counts {
     pub added: usize,
 }
 
-// What does not change in a pass: the joins that may be made, the final states, the number of the pass, and the rows used when it began
-// (`present`) and when the pass before began (`old`). What is formed of old rows alone was formed in the pass before.
+// What does not change in a pass: the joins that may be made, the set of the nonterminals whose words have to be accepted (`starts`), the
+// final states, the number of the pass, and the rows used when it began (`present`) and when the pass before began (`old`). What is formed of
+// old rows alone was formed in the pass before.
 pub struct Terms {
     pub budget: u64,
+    pub starts: u64,
     pub finals: StateSet,
     pub pass: u64,
     pub present: usize,
@@ -111,6 +110,7 @@ impl Terms {
     {
         Terms {
             budget: self.budget,
+            starts: self.starts,
             finals: self.finals,
             pass: self.pass + 1,
             present: used,

@@ -62,6 +62,7 @@ pub fn stand_at(state: State, terms: Terms, counts: Counts, place: Place) -> Sta
         right_row: search_state::position_row(place.right, counts.used),
         terms: Terms {
             budget: terms.budget,
+            starts: terms.starts,
             finals: terms.finals,
             pass: terms.pass,
             present: terms.present,
@@ -76,7 +77,7 @@ pub fn stand_at(state: State, terms: Terms, counts: Counts, place: Place) -> Sta
     }
 }
 
-// After a pass that has added no row: the only place where the end of a check is decided. It holds where `nonempty`, that is, where a
+// After a pass that has added no row: the only place where the end of a check is decided. It holds where `nonempty`, that is, where each
 // nonterminal whose words count has a live row, and so a word; else it is empty.
 pub fn finish(state: State, terms: Terms, counts: Counts, nonempty: bool) -> State
     ensures { λ r. ⌜ r ≡ finished state terms counts nonempty ⌝ }

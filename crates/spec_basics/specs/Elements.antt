@@ -1,8 +1,8 @@
--- Membership in a list, by recursion on the list; a test on some element; a list for each element, put together; the list of a
--- function's values. Definitions only. Assumes nothing.
+-- Membership in a list, by recursion on the list; a test on some element and on each; a list for each element, put together; the list of
+-- a function's values. Definitions only. Assumes nothing.
 use mathlib.Core.Path.{_≡_}
 use mathlib.Core.Logic.{_⊎_}
-use mathlib.Core.Bool.{Bool, false, _||_}
+use mathlib.Core.Bool.{Bool, true, false, _&&_, _||_}
 use mathlib.Core.List.{List, [], _∷_, _++_}
 use Prim.Native.Nat.{ℕ, zero, suc}
 
@@ -16,6 +16,11 @@ module _ {A : Type 0} where
   abbrev pub any : (A → Bool) → List A → Bool
   any f [] = false
   any f (x ∷ xs) = f x || any f xs
+
+  -- each element of the list passes the test
+  abbrev pub each : (A → Bool) → List A → Bool
+  each f [] = true
+  each f (x ∷ xs) = f x && each f xs
 
 -- the lists f x for each element x, one after the other
 module _ {A B : Type 0} where

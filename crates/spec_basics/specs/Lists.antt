@@ -1,16 +1,16 @@
--- Laws of membership, of a test on some element, of a list for each element, put together, and of the list of a function's values.
+-- Laws of membership, of a test on some element and on each, of a list for each element, put together, and of the list of a function's values.
 -- Assumes nothing.
 use mathlib.Core.Path.{_≡_, refl, sym, ap, ap₂, _∙_, subst}
 use mathlib.Core.Logic.{_⊎_, inl, inr}
-use mathlib.Core.Bool.{Bool, true, false, _||_, false≢true, or-assoc}
+use mathlib.Core.Bool.{Bool, true, false, _&&_, _||_, false≢true, and-assoc, or-assoc}
 use mathlib.Core.List.{List, [], _∷_, _++_, map}
 use Prim.Native.Nat.{ℕ, zero, suc, _+_, _-_, _*_, _≤_, _<_, suc-le-suc, zero-le}
 use native.Mathlib.Nat.{zero-lt-suc, le-trans, le-of-eq, add-le-add, suc-mul, not-suc-le-zero, le-of-suc-le-suc}
 use native.Mathlib.Omega.{arith}
 use lib.ListN.{length, getD, take, drop, replicate, length-append}
 use lib.Seq.{drop-drop}
-use Rattle.spec_basics.specs.Elements.{In, any, concatMap, every}
-use Rattle.spec_basics.specs.Tests.{or-right}
+use Rattle.spec_basics.specs.Elements.{In, any, each, concatMap, every}
+use Rattle.spec_basics.specs.Tests.{and-fst, and-snd, or-right}
 
 -- ---- membership
 
@@ -74,6 +74,30 @@ module _ {A : Type 0} where
   any-at f x [] h e = absurd h
   any-at f x (y ∷ ys) (inl p) e = ap (λ (b : Bool). b || any f ys) (ap f (sym p) ∙ e)
   any-at f x (y ∷ ys) (inr h) e = or-right (f y) (any f ys) (any-at f x ys h e)
+
+  -- ---- each element
+
+  pub each-at : (f : A → Bool) (x : A) (xs : List A) → In x xs → each f xs ≡ true → f x ≡ true
+  each-at f x [] h e = absurd h
+  each-at f x (y ∷ ys) (inl p) e = ap f p ∙ and-fst (f y) (each f ys) e
+  each-at f x (y ∷ ys) (inr h) e = each-at f x ys h (and-snd (f y) (each f ys) e)
+
+  -- an element that fails
+  pub each-fails : (f : A → Bool) (xs : List A) → each f xs ≡ false → (x : A) × In x xs × (f x ≡ false)
+  each-fails f [] h = absurd (false≢true (sym h))
+  each-fails f (x ∷ xs) h = by (f x) refl (each-fails f xs)
+    where
+      by : (b : Bool) → f x ≡ b → (each f xs ≡ false → (y : A) × In y xs × (f y ≡ false)) → (y : A) × ((y ≡ x) ⊎ In y xs) × (f y ≡ false)
+      by true p ih = let r = ih (sym (ap (λ (b : Bool). b && each f xs) p) ∙ h) in (r .0, inr (r .1), r .2)
+      by false p ih = (x, inl refl, p)
+
+  pub each-append : (f : A → Bool) (xs ys : List A) → each f (xs ++ ys) ≡ (each f xs && each f ys)
+  each-append f [] ys = refl
+  each-append f (x ∷ xs) ys = ap (λ (b : Bool). f x && b) (each-append f xs ys) ∙ sym (and-assoc (f x) (each f xs) (each f ys))
+
+  pub each-same : (f g : A → Bool) (xs : List A) → ((x : A) → In x xs → f x ≡ g x) → each f xs ≡ each g xs
+  each-same f g [] h = refl
+  each-same f g (x ∷ xs) h = ap₂ (λ (a b : Bool). a && b) (h x (inl refl)) (each-same f g xs (λ y m. h y (inr m)))
 
 -- ---- a function on each element
 

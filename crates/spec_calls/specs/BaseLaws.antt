@@ -22,24 +22,25 @@ use Rattle.spec_order.specs.Derivation.{Values, SymbolGives, Gives, Yields}
 use Rattle.spec_order.specs.Carrying.{Along, yields-along}
 use Rattle.spec_order.specs.Completeness.{effectValues}
 use Rattle.spec_order.specs.Soundness.{spelledValues, Sizes}
-use Rattle.spec_calls.specs.Base.{starts, baseBy, base, words}
+use Rattle.spec_calls.specs.Base.{isOneOf, baseBy, base, words}
+use Rattle.spec_calls.specs.MemberLaws.{one-of}
 
 -- whatever the relations of the terminals and the final states
-pub base-by-laws : (n : ℕ) (letter : ℕ → ℕ) (final : ℕ → Bool) → Laws (baseBy n letter (rejects n final))
-base-by-laws n letter final =
+pub base-by-laws : (n : ℕ) (starts : List ℕ) (letter : ℕ → ℕ) (final : ℕ → Bool) → Laws (baseBy n starts letter (rejects n final))
+base-by-laws n starts letter final =
     record {
       below-refl = subset-refl;
       below-trans = subset-trans;
       pair-below = λ x x′ y y′ p q e m.
           (compose n x y, inl refl, subst (λ (z : ℕ). contained (compose n x y) z ≡ true) (sym (in-one e (compose n x′ y′) m)) (compose-mono n x x′ y y′ p q));
       breaks-below = λ x d e s b.
-          and-intro (starts x) (rejects n final d) (and-fst (starts x) (rejects n final e) b)
-          (rejects-contained n final d e s (and-snd (starts x) (rejects n final e) b));
-      breaks-starts = λ x e b. and-fst (starts x) (rejects n final e) b;
+          and-intro (isOneOf starts x) (rejects n final d) (and-fst (isOneOf starts x) (rejects n final e) b)
+          (rejects-contained n final d e s (and-snd (isOneOf starts x) (rejects n final e) b));
+      breaks-starts = λ x e b. one-of starts x (and-fst (isOneOf starts x) (rejects n final e) b);
     }
 
-pub base-laws : (n : ℕ) (A : Automaton) → Laws (base n A)
-base-laws n A = base-by-laws n (letterRelation n (A .transitions)) (isFinal A)
+pub base-laws : (n : ℕ) (starts : List ℕ) (A : Automaton) → Laws (base n starts A)
+base-laws n starts A = base-by-laws n starts (letterRelation n (A .transitions)) (isFinal A)
 
 pub word-sizes : Sizes words
 word-sizes = record { of-nothing = refl; of-single = λ c. refl; of-joined = λ e u v. length-append u v }
@@ -87,11 +88,11 @@ yields-within rules (suc h) x w d =
 
 -- ---- a word and its relation
 
-module _ (n : ℕ) (A : Automaton) where
+module _ (n : ℕ) (starts : List ℕ) (A : Automaton) where
   abbrev relation : List ℕ → ℕ
   relation = wordRelation n (A .transitions)
 
-  word-relation : Along wordValues (effectValues (base n A)) (λ w e. relation w ≡ e)
+  word-relation : Along wordValues (effectValues (base n starts A)) (λ w e. relation w ≡ e)
   word-relation =
       record {
         ofEmpty = λ w q. (identity n, refl, ap relation q ∙ wordRelation-none n (A .transitions));
@@ -99,7 +100,7 @@ module _ (n : ℕ) (A : Automaton) where
         ofPair = λ u v w x y p q m. (compose n x y, inl refl, ap relation m ∙ wordRelation-append n (A .transitions) u v ∙ ap₂ (compose n) p q);
       }
 
-  spelled-word : Along (spelledValues (base n A) words) wordValues (λ v w. (v .0 ≡ w) × (relation w ≡ v .1))
+  spelled-word : Along (spelledValues (base n starts A) words) wordValues (λ v w. (v .0 ≡ w) × (relation w ≡ v .1))
   spelled-word =
       record {
         ofEmpty = λ v q. ([], refl, (q .0, wordRelation-none n (A .transitions) ∙ sym (q .1)));
@@ -109,14 +110,14 @@ module _ (n : ℕ) (A : Automaton) where
       }
 
   -- the relation of a word that x derives is one that x derives
-  pub relation-derived : (rules : List Rule) (h x : ℕ) (w : List ℕ) → DerivesWithin (map productionOf rules) h x w → Yields (effectValues (base n A)) rules h x (wordRelation n (A .transitions) w)
+  pub relation-derived : (rules : List Rule) (h x : ℕ) (w : List ℕ) → DerivesWithin (map productionOf rules) h x w → Yields (effectValues (base n starts A)) rules h x (wordRelation n (A .transitions) w)
   relation-derived rules h x w d =
-      let r = yields-along wordValues (effectValues (base n A)) (λ w e. relation w ≡ e) word-relation rules h x w (within-yields rules h x w d) in
-      subst (Yields (effectValues (base n A)) rules h x) (sym (r .2)) (r .1)
+      let r = yields-along wordValues (effectValues (base n starts A)) (λ w e. relation w ≡ e) word-relation rules h x w (within-yields rules h x w d) in
+      subst (Yields (effectValues (base n starts A)) rules h x) (sym (r .2)) (r .1)
 
   -- the word behind a row derives from its nonterminal, with the row's relation
-  pub word-derived : (rules : List Rule) (h x e : ℕ) (w : List ℕ) → Yields (spelledValues (base n A) words) rules h x (w, e)
+  pub word-derived : (rules : List Rule) (h x e : ℕ) (w : List ℕ) → Yields (spelledValues (base n starts A) words) rules h x (w, e)
       → DerivesWithin (map productionOf rules) h x w × (wordRelation n (A .transitions) w ≡ e)
   word-derived rules h x e w d =
-      let r = yields-along (spelledValues (base n A) words) wordValues (λ v w. (v .0 ≡ w) × (relation w ≡ v .1)) spelled-word rules h x (w, e) d in
+      let r = yields-along (spelledValues (base n starts A) words) wordValues (λ v w. (v .0 ≡ w) × (relation w ≡ v .1)) spelled-word rules h x (w, e) d in
       (yields-within rules h x w (subst (Yields wordValues rules h x) (sym (r .2 .0)) (r .1)), ap relation (r .2 .0) ∙ r .2 .1)

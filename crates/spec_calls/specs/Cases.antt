@@ -1,5 +1,5 @@
--- The cases that document 01 marks P, as one table about the definitions, from file bytes; one of remarks (C-11), and one of plans without runs
--- (C-15). Assumes nothing.
+-- The cases that document 01 marks P, as one table about the definitions, from file bytes; one of remarks (C-11), one of plans without runs
+-- (C-15), and one of sets of starting procedures (C-18). Assumes nothing.
 use mathlib.Core.Path.{_≡_, refl}
 use mathlib.Core.List.{List, [], _∷_, map}
 use Prim.Native.Nat.{ℕ}
@@ -13,11 +13,12 @@ use Rattle.spec_file.specs.Refusals.{kindKnown, onRemark, risesFrom, overLimit,
 use Rattle.spec_file.specs.Views.{collect, rulesOf, transitionsOf, finalsOf}
 use Rattle.spec_order.specs.Journal.{capped, live, liveOf}
 use Rattle.spec_order.specs.Candidates.{liveRows, sole, paired, bare, choices, bodyCandidates, passCandidates}
-use Rattle.spec_order.specs.Order.{Answer, born, answer, dropped, larger, retire, added, decide, consider, walk, startRow, onePass, passes, check}
+use Rattle.spec_order.specs.Order.{Answer, born, answer, dropped, larger, retire, added, decide, consider, walk, hasRow, onePass, passes, check}
 use Rattle.spec_order.specs.Behind.{symbolWord, bodyWord, rowWord, wordsFrom, wordsOf, wordBehind}
 use Rattle.spec_order.specs.Fitting.{pointerFits, symbolLen, bodyFits, rowFits, rowsFit}
+use Rattle.spec_calls.specs.Base.{membersBelow, initialAlone}
 use Rattle.spec_calls.specs.Replies.{Reply, refused, answered}
-use Rattle.spec_calls.specs.Checking.{journalFault, orderOn, checkOf}
+use Rattle.spec_calls.specs.Checking.{journalFault, orderOn, checkOf, shownHead}
 use Rattle.spec_calls.specs.Writing.{rowFault, roomFault, wordOf, writeOf, bufferAfter}
 use Rattle.spec_calls.specs.Printing.{bytes, decimal, blanked, separated, numbersLine, wordLine, refusedLine, lineOne, lineTwo, lineThree, brokenLines, textOf, programRoom, programText}
 use Rattle.spec_calls.specs.Judging.{Judgement, accepted, turnedAway, wordFault, judgeOf}
@@ -55,10 +56,15 @@ pub data Output : Type 0 where
 abbrev says : String → Output
 says text = printed (bytes text)
 
--- of a check with J rows and a budget of B joins, and a run buffer of `room` bytes
+-- of a check from a set of procedures with J rows and a budget of B joins, and a run buffer of `room` bytes
+checkedBy : ℕ → ℕ → List ℕ → ℕ → ℕ → Output
+unfolding textOf brokenLines lineOne lineTwo lineThree refusedLine wordLine numbersLine separated blanked decimal writeOf bufferAfter wordOf rowFault roomFault rowsFit rowFits bodyFits pointerFits symbolLen wordBehind wordsOf wordsFrom rowWord bodyWord symbolWord pairs count checkOf orderOn journalFault faultIn lengthFaultIn faultFromIn faultAtIn faultByIn kindKnown aboveRangeIn strayByteIn onRemark risesFrom exceedsIn overLimit countIn rulesOf transitionsOf finalsOf collect check passes onePass walk consider decide added retire larger dropped hasRow answer born passCandidates bodyCandidates choices bare sole paired liveRows live liveOf capped letterRelation isRemark moves isFinal rejects compose identity table has some number subset bit membersBelow
+checkedBy starts room bs J B = printed (textOf bs (record { rows = J; budget = B; starts = starts }) room)
+
+-- from procedure 0 alone
 checkedIn : ℕ → List ℕ → ℕ → ℕ → Output
-unfolding textOf brokenLines lineOne lineTwo lineThree refusedLine wordLine numbersLine separated blanked decimal writeOf bufferAfter wordOf rowFault roomFault rowsFit rowFits bodyFits pointerFits symbolLen wordBehind wordsOf wordsFrom rowWord bodyWord symbolWord pairs count checkOf orderOn journalFault faultIn lengthFaultIn faultFromIn faultAtIn faultByIn kindKnown aboveRangeIn strayByteIn onRemark risesFrom exceedsIn overLimit countIn rulesOf transitionsOf finalsOf collect check passes onePass walk consider decide added retire larger dropped startRow answer born passCandidates bodyCandidates choices bare sole paired liveRows live liveOf capped letterRelation isRemark moves isFinal rejects compose identity table has some number subset bit
-checkedIn room bs J B = printed (textOf bs (record { rows = J; budget = B }) room)
+unfolding checkedBy
+checkedIn room bs J B = checkedBy initialAlone room bs J B
 
 -- with the check program's
 checked : List ℕ → ℕ → ℕ → Output
@@ -80,7 +86,7 @@ refusedBy (answered a) = refusal 0 0
 
 refusing : List ℕ → ℕ → ℕ → Output
 unfolding refusedBy checkedIn
-refusing bs J B = refusedBy (checkOf bs (record { rows = J; budget = B }))
+refusing bs J B = refusedBy (checkOf bs (record { rows = J; budget = B; starts = initialAlone }))
 
 judgedBy : Reply Judgement → Output
 judgedBy (refused r) = refusal (r .number) (r .place)
@@ -192,3 +198,58 @@ table-empty =
 pub empty-cases : map (λ (c : Case). c .got) table-empty ≡ map (λ (c : Case). c .want) table-empty
 unfolding table-empty
 empty-cases = refl
+
+-- ---- sets of starting procedures
+
+-- of a check from a set of procedures
+from : ℕ → List ℕ → ℕ → ℕ → Output
+unfolding checkedBy
+from starts bs J B = checkedBy starts programRoom bs J B
+
+-- the procedure whose run is shown
+headOf : Reply (Answer ℕ) → List ℕ
+headOf (refused r) = []
+headOf (answered a) = shownHead a ∷ []
+
+shownFrom : ℕ → List ℕ → Output
+unfolding headOf numbers checkedBy
+shownFrom starts bs = numbers (headOf (checkOf bs (record { rows = 1024; budget = 1000000; starts = starts })))
+
+-- the set of procedure 63 alone, and all 64
+abbrev last-alone : ℕ
+last-alone = 9223372036854775808
+
+abbrev every-one : ℕ
+every-one = 18446744073709551615
+
+-- procedure 63 gives the step c; 0 on 1 to 1; finishing 1
+unfoldable pub planLast : ℕ → List ℕ
+planLast c = entry 1 63 1 c 0 (entry 2 0 1 1 0 (entry 3 1 0 0 0 []))
+
+-- procedure 0 alone is table-P. Of plan A procedure 1 has the run of no steps and procedure 2 the run "2", which the sheet turns away; the first
+-- such row of any member is shown. Procedure 5 has no rule, and so no run: full, spent and broken come before empty. With no member nothing breaks
+-- and nothing is empty, and the counts are those of the whole check
+pub table-starts : List Case
+unfolding planA planLast lone sheetS from numbers shownFrom
+table-starts =
+    case (from 2 (planA sheetS) 1024 1000000) (says "broken 1 1 1\n0 16 0\n\n")
+    ∷ case (from 5 (planA sheetS) 1024 1000000) (says "broken 4 3 2\n2 1 1\n2\n")
+    ∷ case (shownFrom 5 (planA sheetS)) (numbers (2 ∷ []))
+    ∷ case (shownFrom every-one (planA sheetS)) (numbers (1 ∷ []))
+    ∷ case (from 33 (planA sheetS) 1024 1000000) (says "empty 12 4 4\n")
+    ∷ case (from 33 (planA sheetS) 3 1000000) (says "full 7 3 3\n")
+    ∷ case (from 33 (planA sheetS) 1024 11) (says "spent 11 4 4\n")
+    ∷ case (from 33 (lone []) 1024 1000000) (says "broken 1 1 1\n0 16 0\n\n")
+    ∷ case (from 0 (planA sheetS) 1024 1000000) (says "holds 12 4 4\n")
+    ∷ case (from 0 (lone []) 1024 1000000) (says "holds 2 1 2\n")
+    ∷ case (from 0 (lone []) 1024 1) (says "spent 1 1 2\n")
+    ∷ case (from 0 [] 1 0) (says "holds 0 0 1\n")
+    ∷ case (from last-alone (planLast 1) 1024 1000000) (says "holds 2 1 2\n")
+    ∷ case (from last-alone (planLast 2) 1024 1000000) (says "broken 1 1 1\n0 0 1\n2\n")
+    ∷ case (shownFrom last-alone (planLast 2)) (numbers (63 ∷ []))
+    ∷ case (from 1 (planLast 2) 1024 1000000) (says "empty 2 1 2\n")
+    ∷ []
+
+pub start-cases : map (λ (c : Case). c .got) table-starts ≡ map (λ (c : Case). c .want) table-starts
+unfolding table-starts
+start-cases = refl

@@ -7,19 +7,21 @@ use mathlib.Core.Bool.{true}
 use mathlib.Core.List.{List, _++_}
 use Prim.Native.Nat.{ℕ, suc, _+_, _*_, _≤_, _<_}
 use lib.ListN.{length, drop}
+use Rattle.relation.specs.Digits.{bit}
 use Rattle.relation.specs.Relation.{states, has}
 use Rattle.spec_language.specs.Grammar.{initial}
 use Rattle.spec_language.specs.Rewriting.{Language}
 use Rattle.spec_language.specs.Spelling.{DerivesWithin}
 use Rattle.spec_language.specs.Automaton.{WordPath, Accepts, TurnsAway}
+use Rattle.spec_file.specs.Limits.{nonterminals}
 use Rattle.spec_file.specs.Refusals.{refuse}
 use Rattle.spec_file.specs.Views.{rulesOf, productionsOf, automatonOf}
 use Rattle.spec_order.specs.Journal.{Row, absent, capped}
 use Rattle.spec_order.specs.Order.{Answer, holds, broken, full, spent, empty}
 use Rattle.spec_order.specs.Stopping.{Stops, Ends}
 use Rattle.spec_order.specs.Fitting.{rowFits}
-use Rattle.spec_calls.specs.Base.{base}
-use Rattle.spec_calls.specs.Checking.{Settings, journalLimit, checkOf, journalAfter, shown}
+use Rattle.spec_calls.specs.Base.{formsOn}
+use Rattle.spec_calls.specs.Checking.{Settings, journalLimit, algebraOver, checkOf, journalAfter, shown, shownHead}
 use Rattle.spec_calls.specs.Replies.{refused, answered}
 use Rattle.spec_calls.specs.Writing.{longWord, rowOn, wordOf, writeOf, bufferAfter}
 
@@ -27,47 +29,54 @@ use Rattle.spec_calls.specs.Writing.{longWord, rowOn, wordOf, writeOf, b
 abbrev pub Subrelation : ℕ → ℕ → Type 0
 Subrelation d e = (p q : ℕ) → p < states → q < states → has states d p q ≡ true → has states e p q ≡ true
 
+-- bit p of the set is set: p is a member, a nonterminal whose words count (document 02, C-18)
+abbrev pub Member : Settings → ℕ → Type 0
+Member g p = (p < nonterminals) × (bit (g .starts) p ≡ true)
+
 module _ (bs : List ℕ) where
   -- the initial symbol derives the word (document 01: the run is derivable)
   abbrev pub Derivable : List ℕ → Type 0
   Derivable w = Language (productionsOf bs) initial w
 
-  -- some word is derived (document 02, C-15: a run exists); none is
-  abbrev pub SomeDerivable : Type 0
-  SomeDerivable = (w : List ℕ) × Derivable w
+  -- p derives some word (document 02, C-15: a run exists); none
+  abbrev pub SomeFrom : ℕ → Type 0
+  SomeFrom p = (w : List ℕ) × Language (productionsOf bs) p w
 
-  abbrev pub NoneDerivable : Type 0
-  NoneDerivable = (w : List ℕ) → Derivable w → ⊥
+  abbrev pub NoneFrom : ℕ → Type 0
+  NoneFrom p = (w : List ℕ) → Language (productionsOf bs) p w → ⊥
 
-  -- a word that is derived and turned away
-  abbrev pub Counterexample : List ℕ → Type 0
-  Counterexample w = Derivable w × TurnsAway (automatonOf bs) w
+  -- the member p derives the word, and it is turned away
+  abbrev pub Counterexample : Settings → ℕ → List ℕ → Type 0
+  Counterexample g p w = Member g p × Language (productionsOf bs) p w × TurnsAway (automatonOf bs) w
+
+  -- every word of every member is accepted
+  abbrev pub AllAccepted : Settings → Type 0
+  AllAccepted g = (p : ℕ) → Member g p → (w : List ℕ) → Language (productionsOf bs) p w → Accepts (automatonOf bs) w
 
   -- ---- the verdict and the counts
 
   -- the answer to a check with the settings g
   pub record OneVerdict (g : Settings) (a : Answer ℕ) : Type 0 where
-    -- "holds" only if no derivable word, however long, is turned away, and there is one
-    pub holds-for-all : a .verdict ≡ holds → (w : List ℕ) → Derivable w → Accepts (automatonOf bs) w
-    pub holds-for-some : a .verdict ≡ holds → SomeDerivable
-    -- "empty" only if no word is derivable
-    pub empty-for-none : a .verdict ≡ empty → NoneDerivable
-    -- "broken" only with such a word shown
-    pub broken-shows : a .verdict ≡ broken → Counterexample (shown bs a)
-    -- any verdict other than "full" and "spent" is "broken" exactly when such a word exists, "empty" exactly when no word is derivable, and
-    -- "holds" exactly in the other cases: some word is derivable, and none is turned away
-    pub broken-exactly : (a .verdict ≡ full → ⊥) → (a .verdict ≡ spent → ⊥) → (a .verdict ≡ broken) ↔ ((w : List ℕ) × Counterexample w)
-    pub empty-exactly : (a .verdict ≡ full → ⊥) → (a .verdict ≡ spent → ⊥) → (a .verdict ≡ empty) ↔ NoneDerivable
-    pub holds-exactly : (a .verdict ≡ full → ⊥) → (a .verdict ≡ spent → ⊥)
-        → (a .verdict ≡ holds) ↔ (SomeDerivable × ((w : List ℕ) → Derivable w → Accepts (automatonOf bs) w))
+    -- "holds" only if no word of a member, however long, is turned away, and each member has one
+    pub holds-for-all : a .verdict ≡ holds → AllAccepted g
+    pub holds-for-some : a .verdict ≡ holds → (p : ℕ) → Member g p → SomeFrom p
+    -- "empty" only if some member derives no word
+    pub empty-for-none : a .verdict ≡ empty → (p : ℕ) × Member g p × NoneFrom p
+    -- "broken" only with a word of a member shown that is turned away: the member is the row's
+    pub broken-shows : a .verdict ≡ broken → Counterexample g (shownHead a) (shown bs a)
+    -- any verdict other than "full" and "spent" is "broken" exactly when such a word exists, "empty" exactly when none does and some member
+    -- derives no word, and "holds" exactly when none does and each member derives one
+    pub broken-exactly : (a .verdict ≡ full → ⊥) → (a .verdict ≡ spent → ⊥) → (a .verdict ≡ broken) ↔ ((p : ℕ) × (w : List ℕ) × Counterexample g p w)
+    pub empty-exactly : (a .verdict ≡ full → ⊥) → (a .verdict ≡ spent → ⊥) → (a .verdict ≡ empty) ↔ (AllAccepted g × ((p : ℕ) × Member g p × NoneFrom p))
+    pub holds-exactly : (a .verdict ≡ full → ⊥) → (a .verdict ≡ spent → ⊥) → (a .verdict ≡ holds) ↔ (AllAccepted g × ((p : ℕ) → Member g p → SomeFrom p))
     -- "full" exactly where the rows run out, and "spent" where the joins do: at the candidate that Stops names
-    pub stops-full : (a .verdict ≡ full) ↔ Stops (base states (automatonOf bs)) (rulesOf bs) (g .rows) (g .budget) full a
-    pub stops-spent : (a .verdict ≡ spent) ↔ Stops (base states (automatonOf bs)) (rulesOf bs) (g .rows) (g .budget) spent a
-    -- "broken" exactly where a candidate becomes a row that breaks, and "holds" or "empty" where a pass ends that has added no row: the initial
-    -- symbol has a live row, or has none
-    pub stops-broken : (a .verdict ≡ broken) ↔ Stops (base states (automatonOf bs)) (rulesOf bs) (g .rows) (g .budget) broken a
-    pub ends-holds : (a .verdict ≡ holds) ↔ Ends (base states (automatonOf bs)) (rulesOf bs) (g .rows) (g .budget) holds a
-    pub ends-empty : (a .verdict ≡ empty) ↔ Ends (base states (automatonOf bs)) (rulesOf bs) (g .rows) (g .budget) empty a
+    pub stops-full : (a .verdict ≡ full) ↔ Stops (algebraOver states bs g) (rulesOf bs) (g .rows) (g .budget) full a
+    pub stops-spent : (a .verdict ≡ spent) ↔ Stops (algebraOver states bs g) (rulesOf bs) (g .rows) (g .budget) spent a
+    -- "broken" exactly where a candidate becomes a row that breaks, and "holds" or "empty" where a pass ends that has added no row: each
+    -- member has a live row, or some member has none
+    pub stops-broken : (a .verdict ≡ broken) ↔ Stops (algebraOver states bs g) (rulesOf bs) (g .rows) (g .budget) broken a
+    pub ends-holds : (a .verdict ≡ holds) ↔ Ends (algebraOver states bs g) (rulesOf bs) (g .rows) (g .budget) holds a
+    pub ends-empty : (a .verdict ≡ empty) ↔ Ends (algebraOver states bs g) (rulesOf bs) (g .rows) (g .budget) empty a
 
   -- document 01's bound on the joins: R · J · J · (J + 1)
   abbrev pub joinsBound : Settings → ℕ
@@ -88,10 +97,10 @@ module _ (bs : List ℕ) where
     -- a budget of that size is never spent
     pub never-spent : joinsBound g ≤ g .budget → a .verdict ≡ spent → ⊥
 
-  -- the pass of a broken answer is the least height of a derivation whose word is turned away
-  pub record LeastHeight (a : Answer ℕ) : Type 0 where
-    pub shown-within : a .verdict ≡ broken → DerivesWithin (productionsOf bs) (a .pass) initial (shown bs a)
-    pub none-lower : a .verdict ≡ broken → (h : ℕ) → h < a .pass → (w : List ℕ) → DerivesWithin (productionsOf bs) h initial w → Accepts (automatonOf bs) w
+  -- the pass of a broken answer is the least height of a derivation from a member whose word is turned away
+  pub record LeastHeight (g : Settings) (a : Answer ℕ) : Type 0 where
+    pub shown-within : a .verdict ≡ broken → DerivesWithin (productionsOf bs) (a .pass) (shownHead a) (shown bs a)
+    pub none-lower : a .verdict ≡ broken → (h : ℕ) → h < a .pass → (p : ℕ) → Member g p → (w : List ℕ) → DerivesWithin (productionsOf bs) h p w → Accepts (automatonOf bs) w
 
   -- ---- stability
 
@@ -120,7 +129,7 @@ module _ (bs : List ℕ) where
         → (has states (usedRow a i .effect) p q ≡ true) ↔ WordPath (automatonOf bs .transitions) p (usedWord a i) q
     pub length-is : usedRow a i .len ≡ capped (length (usedWord a i))
     -- it fits the file
-    pub fits : rowFits (base states (automatonOf bs) .forms) (a .journal) (rulesOf bs) i ≡ true
+    pub fits : rowFits (formsOn states (automatonOf bs)) (a .journal) (rulesOf bs) i ≡ true
 
   -- the live rows of one nonterminal are an antichain (document 000, section 4, as document 01 reads it: a condition on two different
   -- members): of two different ones neither relation is contained in the other
@@ -142,11 +151,13 @@ module _ (bs : List ℕ) where
     pub untouched : (longWord ≤ length (shown bs a)) ⊎ (length old < length (shown bs a))
         → bufferAfter bs (journalAfter bs g rows) (a .used) (a .row) old ≡ old
 
--- the settings g′ give a check at least the rows and the joins of g, and no more rows than a journal may have
+-- the settings g′ give a check at least the rows and the joins of g, and no more rows than a journal may have; the starting nonterminals are
+-- the same
 pub record Extends (g g′ : Settings) : Type 0 where
   pub more-rows : g .rows ≤ g′ .rows
   pub within-limit : g′ .rows ≤ journalLimit
   pub more-joins : g .budget ≤ g′ .budget
+  pub same-starts : g′ .starts ≡ g .starts
 
 -- ---- what a check that answers promises
 
@@ -154,7 +165,7 @@ pub record Extends (g g′ : Settings) : Type 0 where
 pub record Promises (bs : List ℕ) (g : Settings) (a : Answer ℕ) : Type 0 where
   pub one-verdict : OneVerdict bs g a
   pub counts : Counts bs g a
-  pub least-height : LeastHeight bs a
+  pub least-height : LeastHeight bs g a
   pub rows-mean : (i : ℕ) → i < a .used → RowMeans bs a i
   pub antichain : LiveAntichain bs a
   -- whatever the rows of the journal held before, and whatever the buffer holds

@@ -19,13 +19,13 @@ use Rattle.spec_order.specs.Soundness.{RowSound}
 use Rattle.spec_order.specs.Truth.{check-says}
 use Rattle.spec_order.specs.Antichain.{Incomparable, antichain-at, check-antichain}
 use Rattle.spec_order.specs.FittingRows.{check-fits}
-use Rattle.spec_calls.specs.Base.{base, words}
+use Rattle.spec_calls.specs.Base.{membersOf, formsOn, words}
 use Rattle.spec_calls.specs.BaseLaws.{base-laws, word-sizes, word-derived}
-use Rattle.spec_calls.specs.Checking.{Settings, orderOn}
+use Rattle.spec_calls.specs.Checking.{Settings, algebraOver, orderOn}
 
 module _ (bs : List ℕ) (g : Settings) where
   abbrev pub rowAt : ℕ → Row ℕ
-  rowAt i = getD (orderOn bs g .journal) i (noRow (base states (automatonOf bs) .forms))
+  rowAt i = getD (orderOn bs g .journal) i (noRow (formsOn states (automatonOf bs)))
 
   abbrev pub wordAt : ℕ → List ℕ
   wordAt i = wordBehind words (rulesOf bs) (orderOn bs g .journal) i
@@ -36,17 +36,17 @@ module _ (bs : List ℕ) (g : Settings) where
     -- the row's relation is exactly that word's (document 01: the effect of the run)
     pub relation-is : wordRelation states (automatonOf bs .transitions) (wordAt i) ≡ rowAt i .effect
     pub length-is : rowAt i .len ≡ capped (length (wordAt i))
-    pub fits : rowFits (base states (automatonOf bs) .forms) (orderOn bs g .journal) (rulesOf bs) i ≡ true
+    pub fits : rowFits (formsOn states (automatonOf bs)) (orderOn bs g .journal) (rulesOf bs) i ≡ true
 
   pub row-true : (i : ℕ) → i < length (orderOn bs g .journal) → RowTrue i
   unfolding orderOn wordBehind
   row-true i h =
       let a = orderOn bs g in
-      let A = base states (automatonOf bs) in
+      let A = algebraOver states bs g in
       let s =
       side-at (RowSound A words (rulesOf bs) (a .pass)) (noRow (A .forms)) [] (a .journal) (wordsOf words (rulesOf bs) (a .journal))
-      (check-says A (base-laws states (automatonOf bs)) words word-sizes (rulesOf bs) (g .rows) (g .budget) .sound) i h in
-      let d = word-derived states (automatonOf bs) (rulesOf bs) (rowAt i .birth) (rowAt i .head) (rowAt i .effect) (wordAt i) (s .derived) in
+      (check-says A (base-laws states (membersOf (g .starts)) (automatonOf bs)) words word-sizes (rulesOf bs) (g .rows) (g .budget) .sound) i h in
+      let d = word-derived states (membersOf (g .starts)) (automatonOf bs) (rulesOf bs) (rowAt i .birth) (rowAt i .head) (rowAt i .effect) (wordAt i) (s .derived) in
       record { derived = d .0; relation-is = d .1; length-is = s .size; fits = check-fits A (rulesOf bs) (g .rows) (g .budget) i h }
 
   -- of two different live rows of one nonterminal, neither relation is contained in the other (document 000, section 4, as document 01
@@ -56,10 +56,10 @@ module _ (bs : List ℕ) (g : Settings) where
   unfolding orderOn
   incomparable i j hi hj ne x li lj = by (ltb i j) refl
     where
-      at : (i j : ℕ) → i < j → j < length (orderOn bs g .journal) → Incomparable (base states (automatonOf bs)) (rowAt i) (rowAt j)
+      at : (i j : ℕ) → i < j → j < length (orderOn bs g .journal) → Incomparable (algebraOver states bs g) (rowAt i) (rowAt j)
       at i j l h =
-          antichain-at (base states (automatonOf bs)) (noRow (base states (automatonOf bs) .forms)) (orderOn bs g .journal)
-          (check-antichain (base states (automatonOf bs)) (rulesOf bs) (g .rows) (g .budget)) i j l h
+          antichain-at (algebraOver states bs g) (noRow (formsOn states (automatonOf bs))) (orderOn bs g .journal)
+          (check-antichain (algebraOver states bs g) (rulesOf bs) (g .rows) (g .budget)) i j l h
 
       by : (b : Bool) → ltb i j ≡ b → contained (rowAt i .effect) (rowAt j .effect) ≡ false
       by true e = at i j (ltb-true i j e) hj x li lj .0

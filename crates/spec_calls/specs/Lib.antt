@@ -10,6 +10,7 @@ pub mod Gaps
 pub mod Listing
 pub mod Writing
 pub mod Printing
+pub mod MemberLaws
 pub mod BaseLaws
 pub mod DemandThree
 pub mod VerdictTruth
@@ -24,6 +25,8 @@ pub mod MoveCounts
 pub mod GapLists
 pub mod OnePath
 pub mod ListingTruth
+pub mod SoFar
+pub mod AsSoFar
 pub mod Cases
 pub mod Examples
 pub mod Pins

@@ -10,7 +10,7 @@ use Rattle.spec_file.specs.Valid.{automaton-within}
 use Rattle.spec_file.specs.Views.{automatonOf}
 use Rattle.spec_order.specs.Order.{Answer, Verdict, holds, broken, full, spent, empty}
 use Rattle.spec_order.specs.Stability.{Firm}
-use Rattle.spec_calls.specs.Checking.{Settings, orderOver, orderOn, checkOf, shown}
+use Rattle.spec_calls.specs.Checking.{Settings, orderOver, orderOn, checkOf, shown, shownHead}
 use Rattle.spec_calls.specs.Promising.{from-order}
 use Rattle.spec_calls.specs.Replies.{answered}
 use Rattle.spec_calls.specs.VerdictTruth.{meaning, shows, found, underivable, accepted}
@@ -24,7 +24,7 @@ pub verdict-stays : (n m : ℕ) (bs : List ℕ) → Within n (automatonOf bs) �
     → orderOver n bs g .verdict ≡ x → (orderOver m bs g .verdict ≡ full → ⊥) → (orderOver m bs g .verdict ≡ spent → ⊥) → orderOver m bs g .verdict ≡ x
 verdict-stays n m bs hn hm g full firm e f s = absurd firm
 verdict-stays n m bs hn hm g spent firm e f s = absurd firm
-verdict-stays n m bs hn hm g broken firm e f s = found m bs hm g (orderOver m bs g .verdict) refl f s (shown bs (orderOver n bs g), shows n bs hn g e)
+verdict-stays n m bs hn hm g broken firm e f s = found m bs hm g (orderOver m bs g .verdict) refl f s (shownHead (orderOver n bs g), shown bs (orderOver n bs g), shows n bs hn g e)
 verdict-stays n m bs hn hm g holds firm e f s = accepted m bs hm g (orderOver m bs g .verdict) refl f s (meaning n bs hn g holds e)
 verdict-stays n m bs hn hm g empty firm e f s = underivable m bs hm g (orderOver m bs g .verdict) refl f s (meaning n bs hn g empty e)
 

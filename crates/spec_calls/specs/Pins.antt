@@ -14,6 +14,7 @@ use Rattle.spec_file.specs.Records.{recordCount, recordAt, ruleRecord, recordOf
 use Rattle.spec_file.specs.Refusals.{Refusal, refuse, kindKnown, onRemark, risesFrom, rises, overLimit, faultAt, fault, aboveRangeIn, exceedsIn, faultAtIn, faultByIn, faultFromIn, faultIn, lengthFaultIn, strayByteIn}
 use Rattle.spec_file.specs.Reading.{ReaderStep, gives, refuses, unlessRefused, stepFrom, stepAt}
 use Rattle.spec_file.specs.Views.{collect, transitionsOf, finalsOf}
+use Rattle.spec_calls.specs.Base.{initialAlone}
 use Rattle.spec_calls.specs.Replies.{refused, answered}
 use Rattle.spec_calls.specs.Checking.{journalFault, checkOf}
 use Rattle.spec_calls.specs.Judging.{wordFault, judgeOf}
@@ -203,7 +204,7 @@ unfolding wordFault
 letters = (refl, refl, refl)
 
 -- the file is tested before 8 and 11
-pub file-first : (checkOf (1 ∷ []) (record { rows = 0; budget = 0 }) ≡ refused (refuse 1 0)) × (judgeOf (1 ∷ []) (128 ∷ []) ≡ refused (refuse 1 0))
+pub file-first : (checkOf (1 ∷ []) (record { rows = 0; budget = 0; starts = initialAlone }) ≡ refused (refuse 1 0)) × (judgeOf (1 ∷ []) (128 ∷ []) ≡ refused (refuse 1 0))
 unfolding checkOf judgeOf journalFault wordFault refusalNow faultIn lengthFaultIn
 file-first = (refl, refl)
 

@@ -10,7 +10,7 @@ use Rattle.relation.specs.Relation.{states, pairs}
 use Rattle.spec_file.specs.Views.{automatonOf}
 use Rattle.spec_order.specs.Journal.{Row, noRow}
 use Rattle.spec_order.specs.Order.{Verdict, holds, broken, full, spent, empty, Answer}
-use Rattle.spec_calls.specs.Base.{base}
+use Rattle.spec_calls.specs.Base.{initialAlone, formsOn}
 use Rattle.spec_calls.specs.Checking.{Settings, checkOf}
 use Rattle.spec_calls.specs.Replies.{Reply, refused, answered}
 use Rattle.spec_calls.specs.Writing.{writeOf, bufferAfter}
@@ -98,7 +98,7 @@ lineThree buffer (answered n) = numbersLine (take n buffer)
 unfoldable pub brokenLines : List ℕ → ℕ → Answer ℕ → List ℕ
 brokenLines bs room a =
     let rows = a .journal in
-    lineTwo (a .row) (getD rows (a .row) (noRow (base states (automatonOf bs) .forms)))
+    lineTwo (a .row) (getD rows (a .row) (noRow (formsOn states (automatonOf bs))))
     ++ lineThree (bufferAfter bs rows (a .used) (a .row) (replicate room 0)) (writeOf bs rows (a .used) (a .row) room)
 
 abbrev pub linesBy : Verdict → List ℕ → ℕ → Answer ℕ → List ℕ
@@ -120,7 +120,7 @@ textOf bs g room = textBy bs room (checkOf bs g)
 -- ---- the check program
 
 abbrev pub programSettings : Settings
-programSettings = record { rows = 1024; budget = 1000000 }
+programSettings = record { rows = 1024; budget = 1000000; starts = initialAlone }
 
 abbrev pub programRoom : ℕ
 programRoom = 4096

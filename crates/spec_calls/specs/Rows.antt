@@ -22,4 +22,4 @@ blank = record { head = 0; rule = 0; relation = none; left = 0; right = 0; len =
 
 -- the settings of a check with the options o over a journal of J rows
 abbrev pub settingsOf : ℕ → Options → Settings
-settingsOf J o = record { rows = J; budget = o .budget }
+settingsOf J o = record { rows = J; budget = o .budget; starts = o .starts }

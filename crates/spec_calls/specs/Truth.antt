@@ -25,8 +25,8 @@ use Rattle.spec_order.specs.Stopping.{Stops, Ends}
 use Rattle.spec_order.specs.Exactly.{stops-so, ends-so}
 use Rattle.spec_order.specs.Counting.{Exact, ExactBy, StopsBy, check-exact, never-spent}
 use Rattle.spec_order.specs.Stability.{Firm, check-mono}
-use Rattle.spec_calls.specs.Base.{base}
-use Rattle.spec_calls.specs.Checking.{Settings, orderOn, shown}
+use Rattle.spec_calls.specs.Base.{membersOf, base}
+use Rattle.spec_calls.specs.Checking.{Settings, algebraOver, orderOn, shown, shownHead}
 use Rattle.spec_calls.specs.DemandThree.{Counterexample, OneVerdict, Counts, LeastHeight, RowMeans, LiveAntichain, Extends}
 use Rattle.spec_calls.specs.JournalTruth.{rowAt, wordAt, row-true, incomparable}
 use Rattle.spec_calls.specs.VerdictTruth.{VerdictMeans, meaning, shows, found, underivable, accepted}
@@ -52,32 +52,32 @@ module _ (bs : List ℕ) (v : fault bs .number ≡ 0) (g : Settings) where
   unfolding orderOn
   says x e = meaning states bs (automaton-within bs v) g x e
 
-  breaks : orderOn bs g .verdict ≡ broken → Counterexample bs (shown bs (orderOn bs g))
+  breaks : orderOn bs g .verdict ≡ broken → Counterexample bs g (shownHead (orderOn bs g)) (shown bs (orderOn bs g))
   unfolding orderOn
   breaks e = shows states bs (automaton-within bs v) g e
 
-  pub least-height : LeastHeight bs (orderOn bs g)
-  least-height = record { shown-within = λ e. says broken e .0; none-lower = λ e. says broken e .2 }
+  pub least-height : LeastHeight bs g (orderOn bs g)
+  least-height = record { shown-within = λ e. says broken e .1; none-lower = λ e. says broken e .3 }
 
   module _ (pos : 1 ≤ J) where
-    abbrev counts : Exact (base states A) 1 (λ x y. le-refl 1) (le-refl 1) (rulesOf bs) J B pos (check (base states A) (rulesOf bs) J B)
-    counts = check-exact (base states A) 1 (λ x y. le-refl 1) (le-refl 1) (rulesOf bs) J B pos
+    abbrev counts : Exact (algebraOver states bs g) 1 (λ x y. le-refl 1) (le-refl 1) (rulesOf bs) J B pos (check (algebraOver states bs g) (rulesOf bs) J B)
+    counts = check-exact (algebraOver states bs g) 1 (λ x y. le-refl 1) (le-refl 1) (rulesOf bs) J B pos
 
-    stops : (x : Verdict) → orderOn bs g .verdict ≡ x → StopsBy (base states A) 1 (λ x y. le-refl 1) (le-refl 1) (rulesOf bs) J B pos x (orderOn bs g)
+    stops : (x : Verdict) → orderOn bs g .verdict ≡ x → StopsBy (algebraOver states bs g) 1 (λ x y. le-refl 1) (le-refl 1) (rulesOf bs) J B pos x (orderOn bs g)
     unfolding orderOn
-    stops x e = subst (λ (y : Verdict). StopsBy (base states A) 1 (λ x y. le-refl 1) (le-refl 1) (rulesOf bs) J B pos y (orderOn bs g)) e (counts .stops)
+    stops x e = subst (λ (y : Verdict). StopsBy (algebraOver states bs g) 1 (λ x y. le-refl 1) (le-refl 1) (rulesOf bs) J B pos y (orderOn bs g)) e (counts .stops)
 
-    so : (x : Verdict) → Stops (base states A) (rulesOf bs) J B x (orderOn bs g) → orderOn bs g .verdict ≡ x
+    so : (x : Verdict) → Stops (algebraOver states bs g) (rulesOf bs) J B x (orderOn bs g) → orderOn bs g .verdict ≡ x
     unfolding orderOn
-    so x h = stops-so (base states A) (rulesOf bs) J B x (orderOn bs g) h
+    so x h = stops-so (algebraOver states bs g) (rulesOf bs) J B x (orderOn bs g) h
 
-    ends : (x : Verdict) → Ends (base states A) (rulesOf bs) J B x (orderOn bs g) → orderOn bs g .verdict ≡ x
+    ends : (x : Verdict) → Ends (algebraOver states bs g) (rulesOf bs) J B x (orderOn bs g) → orderOn bs g .verdict ≡ x
     unfolding orderOn
-    ends x h = ends-so (base states A) (rulesOf bs) J B x (orderOn bs g) h
+    ends x h = ends-so (algebraOver states bs g) (rulesOf bs) J B x (orderOn bs g) h
 
-    exact : (x : Verdict) → orderOn bs g .verdict ≡ x → ExactBy (base states A) 1 (λ x y. le-refl 1) (le-refl 1) (rulesOf bs) J B pos x (orderOn bs g)
+    exact : (x : Verdict) → orderOn bs g .verdict ≡ x → ExactBy (algebraOver states bs g) 1 (λ x y. le-refl 1) (le-refl 1) (rulesOf bs) J B pos x (orderOn bs g)
     unfolding orderOn
-    exact x e = subst (λ (y : Verdict). ExactBy (base states A) 1 (λ x y. le-refl 1) (le-refl 1) (rulesOf bs) J B pos y (orderOn bs g)) e (counts .by-verdict)
+    exact x e = subst (λ (y : Verdict). ExactBy (algebraOver states bs g) 1 (λ x y. le-refl 1) (le-refl 1) (rulesOf bs) J B pos y (orderOn bs g)) e (counts .by-verdict)
 
     -- no row unless broken
     rowless : (x : Verdict) → orderOn bs g .verdict ≡ x → (x ≡ broken → ⊥) → orderOn bs g .row ≡ absent
@@ -92,11 +92,11 @@ module _ (bs : List ℕ) (v : fault bs .number ≡ 0) (g : Settings) where
     unfolding orderOn
     one-verdict =
         record {
-          holds-for-all = λ e. says holds e .1;
-          holds-for-some = λ e. says holds e .0;
-          empty-for-none = says empty;
+          holds-for-all = λ e. says holds e .0;
+          holds-for-some = λ e. says holds e .1;
+          empty-for-none = λ e. says empty e .1;
           broken-shows = breaks;
-          broken-exactly = λ f s. (λ e. (shown bs (orderOn bs g), breaks e), λ c. found states bs (automaton-within bs v) g (orderOn bs g .verdict) refl f s c);
+          broken-exactly = λ f s. (λ e. (shownHead (orderOn bs g), shown bs (orderOn bs g), breaks e), λ c. found states bs (automaton-within bs v) g (orderOn bs g .verdict) refl f s c);
           empty-exactly = λ f s. (says empty, λ d. underivable states bs (automaton-within bs v) g (orderOn bs g .verdict) refl f s d);
           holds-exactly = λ f s. (says holds, λ y. accepted states bs (automaton-within bs v) g (orderOn bs g .verdict) refl f s y);
           stops-full = (stops full, so full);
@@ -126,7 +126,7 @@ module _ (bs : List ℕ) (v : fault bs .number ≡ 0) (g : Settings) where
           rows-bound = counts .rows-bound;
           pass-bound = omega (arith, counts .pass-bound);
           joins-bound = le-trans (counts .joins-bound) (le-of-eq bound);
-          never-spent = λ h e. never-spent (base states A) 1 (λ x y. le-refl 1) (le-refl 1) (rulesOf bs) J B pos (le-trans (le-of-eq bound) h) e;
+          never-spent = λ h e. never-spent (algebraOver states bs g) 1 (λ x y. le-refl 1) (le-refl 1) (rulesOf bs) J B pos (le-trans (le-of-eq bound) h) e;
         }
 
     -- ---- the rows
@@ -163,7 +163,8 @@ module _ (bs : List ℕ) (v : fault bs .number ≡ 0) (g : Settings) where
 pub same-answer : (bs : List ℕ) (g g′ : Settings) → Extends g g′ → (orderOn bs g .verdict ≡ full → ⊥) → (orderOn bs g .verdict ≡ spent → ⊥) → orderOn bs g′ ≡ orderOn bs g
 unfolding orderOn
 same-answer bs g g′ x f s =
-    check-mono (base states (automatonOf bs)) (rulesOf bs) (g .rows) (g .budget) (g′ .rows) (g′ .budget) (x .more-rows) (x .more-joins) (firm (orderOn bs g .verdict) f s)
+    ap (λ (set : ℕ). check (base states (membersOf set) (automatonOf bs)) (rulesOf bs) (g′ .rows) (g′ .budget)) (x .same-starts)
+    ∙ check-mono (algebraOver states bs g) (rulesOf bs) (g .rows) (g .budget) (g′ .rows) (g′ .budget) (x .more-rows) (x .more-joins) (firm (orderOn bs g .verdict) f s)
   where
     firm : (x : Verdict) → (x ≡ full → ⊥) → (x ≡ spent → ⊥) → Firm x
     firm holds f s = tt

@@ -14,7 +14,7 @@ use Rattle.spec_order.specs.Algebra.{Forms}
 use Rattle.spec_order.specs.Journal.{Row, noRow}
 use Rattle.spec_order.specs.Behind.{wordBehind}
 use Rattle.spec_order.specs.Fitting.{rowsFit}
-use Rattle.spec_calls.specs.Base.{base, words}
+use Rattle.spec_calls.specs.Base.{formsOn, words}
 use Rattle.spec_calls.specs.Checking.{journalFault}
 use Rattle.spec_calls.specs.Replies.{Reply, refused, answered, reply}
 
@@ -36,7 +36,7 @@ roomFault w room = cond (tooLong (length w) room) 10 0
 
 -- row i of the journal, and the word behind it
 abbrev pub rowOn : List ℕ → List (Row ℕ) → ℕ → Row ℕ
-rowOn bs rows i = getD rows i (noRow (base states (automatonOf bs) .forms))
+rowOn bs rows i = getD rows i (noRow (formsOn states (automatonOf bs)))
 
 unfoldable pub wordOf : List ℕ → List (Row ℕ) → ℕ → List ℕ
 wordOf bs rows i = wordBehind words (rulesOf bs) rows i
@@ -46,7 +46,7 @@ abbrev pub writeRefusals : List ℕ → List (Row ℕ) → ℕ → ℕ → ℕ �
 writeRefusals bs rows used i room =
     fault bs
     ∷ refuse (journalFault (length rows)) 0
-    ∷ refuse (rowFault (base states (automatonOf bs) .forms) (rulesOf bs) rows used i) 0
+    ∷ refuse (rowFault (formsOn states (automatonOf bs)) (rulesOf bs) rows used i) 0
     ∷ refuse (roomFault (wordOf bs rows i) room) 0
     ∷ []
 

@@ -29,8 +29,8 @@ use Rattle.spec_order.specs.Fitting.{pointerFits, rowFits, rowsFit}
 use Rattle.spec_order.specs.FittingLaws.{FitThrough, PointersFit, bodyAt, fitting, fit-through}
 use Rattle.spec_order.specs.FittingRows.{keeps-more, fits-on}
 use Rattle.spec_order.specs.Order.{Answer, broken}
-use Rattle.spec_calls.specs.Base.{base, words}
-use Rattle.spec_calls.specs.Checking.{Settings, journalFault, orderOn, checkOf, journalAfter, shown}
+use Rattle.spec_calls.specs.Base.{formsOn, words}
+use Rattle.spec_calls.specs.Checking.{Settings, algebraOver, journalFault, orderOn, checkOf, journalAfter, shown}
 use Rattle.spec_calls.specs.DemandThree.{Counts, WritesShown}
 use Rattle.spec_calls.specs.JournalTruth.{row-true}
 use Rattle.spec_calls.specs.Replies.{Reply, refused, answered, unless}
@@ -83,7 +83,7 @@ module _ (rules : List Rule) (M : Forms ℕ) (rows : List (Row ℕ)) where
 
 module _ (bs : List ℕ) (rows : List (Row ℕ)) (used i room n : ℕ) (e : writeOf bs rows used i room ≡ answered n) where
   abbrev M : Forms ℕ
-  M = base states (automatonOf bs) .forms
+  M = formsOn states (automatonOf bs)
 
   -- 9 does not refuse, and the answer is the word's length
   passed : (rowFault M (rulesOf bs) rows used i ≡ 0) × (n ≡ length (wordOf bs rows i))
@@ -149,7 +149,7 @@ room-cases w room = by (leb longWord (length w)) (ltb room (length w)) refl refl
 module _ (bs : List ℕ) (v : fault bs .number ≡ 0) (g : Settings) (eight : journalFault (g .rows) ≡ 0)
     (counts : Counts bs g (orderOn bs g)) (e : orderOn bs g .verdict ≡ broken) (rows : List (Row ℕ)) (size : length rows ≡ g .rows) where
   abbrev A : Algebra ℕ
-  A = base states (automatonOf bs)
+  A = algebraOver states bs g
 
   abbrev a : Answer ℕ
   a = orderOn bs g

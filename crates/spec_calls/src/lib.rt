@@ -1,14 +1,18 @@
-// What each public call answers, as definitions on a file's bytes, and the theorems about them. And what the calls share in code: a row of the
-// lent journal, with its limits, and the options of a check. Definitions in specs/: Base (the order over relations), Replies (a call answers
-// or refuses), Checking, Judging, Recognizing, Listing, Writing (the five calls), Gaps (what is to be listed), DemandThree (what an answer
-// promises), Codes (the numbers of the verdicts), Printing (the program's text), Rows (how the code's rows, rules and options are read).
-// Theorems: Promising and Truth (an answer keeps its promises), JournalTruth, JudgingTruth, StrikingTruth, WritingTruth; ListingTruth, by
-// MoveCounts (how many transitions a pair has), GapLists (what the list has, its order, its length) and OnePath (what an empty list promises).
-// Computed: Cases (document 01's P table, remarks), Examples, Pins (what only a definition's text settles).
+// What each public call answers, as definitions on a file's bytes, and the theorems about them. And what the calls share in code: a row of
+// the lent journal, with its limits, and the options of a check. Definitions in specs/: Base (the order over relations, a set of starting
+// nonterminals), Replies (a call answers or refuses), Checking, Judging, Recognizing, Listing, Writing (the five calls), Gaps (what is to
+// be listed), DemandThree (what an answer promises), Codes (the numbers of the verdicts), Printing (the program's text), Rows (how the
+// code's rows, rules and options are read). Theorems: Promising and Truth (an answer keeps its promises), JournalTruth, JudgingTruth,
+// StrikingTruth, WritingTruth; ListingTruth, by MoveCounts (how many transitions a pair has), GapLists (what the list has, its order, its
+// length) and OnePath (what an empty list promises); MemberLaws (the members of a set), AsSoFar (for the initial nonterminal alone the
+// check is the one before request C-18, which is in SoFar). Computed: Cases (document 01's P table, remarks, plans without runs, sets),
+// Examples, Pins (what only a definition's text settles).
 use relation::Effect;
+use spec_file::NONTERMINALS;
 ghost use mathlib.Core.Path.{_≡_};
 ghost use Prim.Native.Nat.{_+_};
 ghost use Rattle.spec_order.specs.Journal.{capped};
+ghost use Rattle.spec_calls.specs.Base.{membersOf, isOneOf};
 ghost use Rattle.spec_calls.specs.Rows.{blank};
 
 // The most rows of a journal.
@@ -50,10 +54,26 @@ impl Row {
     }
 }
 
-// What a caller chooses for a check beside the file and the journal: `budget` is the number of joins that it may make. One struct, so that
-// one choice more changes the calls that make it or read the field, and no call between them.
+// What a caller chooses for a check beside the file and the journal: `budget` is the number of joins that it may make, and `starts` the set of
+// the nonterminals whose words have to be accepted, bit p for nonterminal p. One struct, so that one choice more changes the calls that make
+// it or read the field, and no call between them.
 pub struct Options {
     pub budget: u64,
+    pub starts: u64,
+}
+
+// The set of the initial nonterminal alone.
+pub const INITIAL_ALONE: u64 = 1;
+
+// Returns whether the nonterminal `p` is in `set`. A byte that is no nonterminal is in no set.
+pub fn is_member(set: u64, p: u8) -> bool
+    ensures { λ r. ⌜ r ≡ isOneOf (membersOf set) p ⌝ }
+{
+    if NONTERMINALS <= p {
+        return false;
+    }
+    let place = p as u32;
+    (set >> place) & 1 == 1
 }
 
 // Returns the sum of the lengths `a` and `b`, or LONG_WORD where it is that or more.

@@ -1,5 +1,5 @@
 // What a plan file of 8-byte records says, and the types in which the code says it. Definitions in specs/: Limits (document 01's numbers),
-// Forms (the form of records), Records (records and their bytes), Refusals (numbers 1 to 7 and 12), Reading and Walk (steps of a reader, the stretch),
+// Forms (the forms of records, of 8 and of 16 bytes), Records (records and their bytes), Refusals (numbers 1 to 7 and 12), Reading and Walk (steps of a reader, the stretch),
 // Views (the grammar and the automaton), Entries (counts, readings by number), Answers (the code's types as the definitions have them). Laws of
 // a file that is not refused: Valid, Ranges, Sorted and Rising (rules first, then transitions, then finals), EntryLaws, StretchLaws; of reading
 // by steps WalkLaws; of the order of refusals RefusalLaws.

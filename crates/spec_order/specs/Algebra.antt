@@ -19,8 +19,8 @@ pub record Algebra (E : Type 0) : Type 0 where
   pub forms : Forms E
   -- contained or equal
   pub below : E → E → Bool
-  -- a nonterminal whose words count
-  pub starts : ℕ → Bool
+  -- the nonterminals whose words count
+  pub starts : List ℕ
   -- a new row of this nonterminal with this effect breaks the check
   pub breaks : ℕ → E → Bool
 
@@ -33,4 +33,4 @@ pub record Laws {E : Type 0} (A : Algebra E) : Type 0 where
   -- where an effect breaks, a smaller one does
   pub breaks-below : (x : ℕ) (d e : E) → A .below d e ≡ true → A .breaks x e ≡ true → A .breaks x d ≡ true
   -- only a nonterminal whose words count breaks
-  pub breaks-starts : (x : ℕ) (e : E) → A .breaks x e ≡ true → A .starts x ≡ true
+  pub breaks-starts : (x : ℕ) (e : E) → A .breaks x e ≡ true → In x (A .starts)

@@ -9,13 +9,13 @@ use native.Mathlib.Omega.{arith}
 use lib.Dec.{eqb}
 use lib.ListN.{length, length-append, length-map}
 use borrow.Author.Tests.{eqb-true, eqb-false}
-use Rattle.spec_basics.specs.Elements.{any, concatMap}
+use Rattle.spec_basics.specs.Elements.{each, concatMap}
 use Rattle.spec_basics.specs.Lists.{length-concatMap}
 use Rattle.spec_language.specs.Grammar.{Symbol, terminal, nonterminal, Body, empty, one, two, Rule}
 use Rattle.spec_order.specs.Algebra.{Algebra}
 use Rattle.spec_order.specs.Candidates.{Choice, Candidate, liveRows, sole, paired, choices, bodyCandidates, passCandidates}
 use Rattle.spec_order.specs.Journal.{Row, absent, liveOf}
-use Rattle.spec_order.specs.Order.{Progress, start, Verdict, holds, broken, full, spent, empty, Outcome, going, stopped, Answer, answer, finishBy, startRow, finish, closeBy, close, onePass, passes, check}
+use Rattle.spec_order.specs.Order.{Progress, start, Verdict, holds, broken, full, spent, empty, Outcome, going, stopped, Answer, answer, finishBy, hasRow, finish, closeBy, close, onePass, passes, check}
 use Rattle.spec_order.specs.Truth.{length-added}
 use Rattle.spec_order.specs.Stopping.{Found, Halt, lastJoin, Begun, Stops, Ends}
 use Rattle.spec_order.specs.Walking.{Post}
@@ -224,8 +224,8 @@ module _ {E : Type 0} (A : Algebra E) (m : ℕ) (few : (x y : E) → length (A .
           fork : (x : Bool) → eqb (length (t .rows)) (length (s .rows)) ≡ x → Exact (closeBy (A .starts) x (suc h) (passes A rules J B f (suc (suc h))) t)
           fork true q =
               record {
-                by-verdict = rowless (any (startRow (A .starts)) (t .rows));
-                stops = at-end (any (startRow (A .starts)) (t .rows)) (ends t e (eqb-true (length (t .rows)) (length (s .rows)) q) p);
+                by-verdict = rowless (each (hasRow (t .rows)) (A .starts));
+                stops = at-end (each (hasRow (t .rows)) (A .starts)) (ends t e (eqb-true (length (t .rows)) (length (s .rows)) q) p);
                 used-is = refl;
                 joins-bound = top (t .joins) (le-of-eq (p .joins-are));
                 rows-bound = p .rows-fit;

@@ -1,22 +1,22 @@
 -- The end of a check: each row of its journal is covered by a live row of its nonterminal, so that a nonterminal has a live row exactly where it
 -- has a row. Assumes nothing.
-use mathlib.Core.Path.{_≡_, sym, ap, _∙_, subst}
+use mathlib.Core.Path.{_≡_, sym, subst}
 use mathlib.Core.Logic.{_⊎_, inl, inr}
-use mathlib.Core.Bool.{Bool, true}
+use mathlib.Core.Bool.{true}
 use mathlib.Core.List.{List, [], _∷_, map}
 use Prim.Native.Nat.{ℕ, suc}
 use lib.Dec.{eqb}
 use borrow.Author.Tests.{eqb-true}
 use Rattle.spec_basics.specs.Elements.{In, any}
 use Rattle.spec_basics.specs.Lists.{in-cases, map-in, any-of, any-at}
-use Rattle.spec_basics.specs.Tests.{and-fst, and-snd, and-intro, iff-equal}
+use Rattle.spec_basics.specs.Tests.{and-fst, iff-equal}
 use Rattle.spec_language.specs.Grammar.{Rule}
 use Rattle.spec_order.specs.Algebra.{Algebra, Laws}
 use Rattle.spec_order.specs.Candidates.{Candidate}
 use Rattle.spec_order.specs.Coverage.{Covered, added-covered, covered-added}
 use Rattle.spec_order.specs.Journal.{Row, live, liveOf}
 use Rattle.spec_order.specs.Journals.{journal-ind}
-use Rattle.spec_order.specs.Order.{start, born, retire, added, startRow, check}
+use Rattle.spec_order.specs.Order.{start, born, retire, added, hasRow, check}
 
 module _ {E : Type 0} (A : Algebra E) (L : Laws A) where
   -- a live row of its nonterminal covers each row
@@ -40,17 +40,14 @@ module _ {E : Type 0} (A : Algebra E) (L : Laws A) where
       journal-ind A rules J B EachCovered (λ rows₀ rows. EachCovered rows) (λ rows p. p) (λ h rows₀ rows c m d p q. each-added (suc h) c rows q) (λ rows₀ rows q. q)
       (suc J) 0 start (λ r m. absurd m)
 
-  -- what `finish` asks of live rows, it could ask of all
-  pub live-or-retired : (rules : List Rule) (J B : ℕ)
-      → any (startRow (A .starts)) (check A rules J B .journal) ≡ any (λ (r : Row E). A .starts (r .head)) (check A rules J B .journal)
-  unfolding startRow liveOf
-  live-or-retired rules J B =
+  -- what `finish` asks of the live rows of a nonterminal, it could ask of all of its rows
+  pub live-or-retired : (rules : List Rule) (J B x : ℕ) → hasRow (check A rules J B .journal) x ≡ any (λ (r : Row E). eqb (r .head) x) (check A rules J B .journal)
+  unfolding hasRow liveOf
+  live-or-retired rules J B x =
       let rows = check A rules J B .journal in
-      iff-equal (any (startRow (A .starts)) rows) (any (λ (r : Row E). A .starts (r .head)) rows)
-      (λ e. let m = any-of (startRow (A .starts)) rows e in any-at (λ (r : Row E). A .starts (r .head)) (m .0) rows (m .1) (and-fst (A .starts (m .0 .head)) (live (m .0)) (m .2)))
+      iff-equal (any (liveOf x) rows) (any (λ (r : Row E). eqb (r .head) x) rows)
+      (λ e. let m = any-of (liveOf x) rows e in any-at (λ (r : Row E). eqb (r .head) x) (m .0) rows (m .1) (and-fst (eqb (m .0 .head) x) (live (m .0)) (m .2)))
       (λ e.
-      let m = any-of (λ (r : Row E). A .starts (r .head)) rows e in
+      let m = any-of (λ (r : Row E). eqb (r .head) x) rows e in
       let v = check-covered rules J B (m .0) (m .1) in
-      let same : v .row .head ≡ m .0 .head = eqb-true (v .row .head) (m .0 .head) (and-fst (eqb (v .row .head) (m .0 .head)) (live (v .row)) (v .alive)) in
-      any-at (startRow (A .starts)) (v .row) rows (v .listed)
-      (and-intro (A .starts (v .row .head)) (live (v .row)) (ap (A .starts) same ∙ m .2) (and-snd (eqb (v .row .head) (m .0 .head)) (live (v .row)) (v .alive))))
+      any-at (liveOf x) (v .row) rows (v .listed) (subst (λ (n : ℕ). liveOf n (v .row) ≡ true) (eqb-true (m .0 .head) x (m .2)) (v .alive)))

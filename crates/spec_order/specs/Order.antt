@@ -5,10 +5,10 @@ use mathlib.Core.List.{List, [], _∷_, _++_, map}
 use Prim.Native.Nat.{ℕ, zero, suc}
 use lib.Dec.{eqb}
 use lib.ListN.{length}
-use Rattle.spec_basics.specs.Elements.{any}
+use Rattle.spec_basics.specs.Elements.{any, each}
 use Rattle.spec_language.specs.Grammar.{Rule}
 use Rattle.spec_order.specs.Algebra.{Algebra}
-use Rattle.spec_order.specs.Journal.{Row, absent, live, liveOf}
+use Rattle.spec_order.specs.Journal.{Row, absent, liveOf}
 use Rattle.spec_order.specs.Candidates.{Candidate, passCandidates}
 
 -- the used rows, and the joins made
@@ -89,21 +89,21 @@ module _ {E : Type 0} (below : E → E → Bool) where
 
 -- ---- the check
 
--- the verdict of a check whose last pass added no row: the flag says whether a nonterminal whose words count has a live row
+-- the verdict of a check whose last pass added no row: the flag says whether each nonterminal whose words count has a live row
 abbrev pub finishBy : Bool → Verdict
 finishBy true = holds
 finishBy false = empty
 
 module _ {E : Type 0} where
-  -- the row is live, and of a nonterminal whose words count
-  unfoldable pub startRow : (ℕ → Bool) → Row E → Bool
-  startRow starts r = starts (r .head) && live r
+  -- a live row is one of the nonterminal
+  unfoldable pub hasRow : List (Row E) → ℕ → Bool
+  hasRow rows x = any (liveOf x) rows
 
-  -- that verdict, from the nonterminals whose words count and the rows
-  abbrev pub finish : (ℕ → Bool) → List (Row E) → Verdict
-  finish starts rows = finishBy (any (startRow starts) rows)
+  -- that verdict, from the nonterminals whose words count and the rows: "it is empty if some member has no run, and holds if all have"
+  abbrev pub finish : List ℕ → List (Row E) → Verdict
+  finish starts rows = finishBy (each (hasRow rows) starts)
 
-module _ {E : Type 0} (starts : ℕ → Bool) where
+module _ {E : Type 0} (starts : List ℕ) where
   -- the flag says whether pass k added no row: then the check ends; `next` is the rest of the check otherwise
   abbrev pub closeBy : Bool → ℕ → (Progress E → Answer E) → Progress E → Answer E
   closeBy true k next s = answer (finish starts (s .rows)) k absent s

@@ -2,15 +2,15 @@
 -- (the left symbol outer, the right one inner, rows rising), what each row points to, and the passes in which rows are added and retire.
 -- And the verdict at the end of a check. Assumes nothing.
 use mathlib.Core.Path.{_≡_, refl}
-use mathlib.Core.Bool.{true, false}
+use mathlib.Core.Bool.{false}
 use mathlib.Core.List.{List, [], _∷_}
 use Prim.Native.Nat.{ℕ, _+_}
-use lib.Dec.{eqb, leb}
+use lib.Dec.{leb}
 use Rattle.spec_language.specs.Grammar.{Symbol, terminal, nonterminal, one, two, Rule}
 use Rattle.spec_order.specs.Algebra.{Algebra}
 use Rattle.spec_order.specs.Journal.{Row, absent, capped, live, liveOf}
 use Rattle.spec_order.specs.Candidates.{liveRows, sole, paired, bare, choices, bodyCandidates, passCandidates}
-use Rattle.spec_order.specs.Order.{Verdict, holds, empty, born, answer, dropped, larger, retire, added, decide, consider, walk, startRow, finish, onePass, passes, check}
+use Rattle.spec_order.specs.Order.{Verdict, holds, empty, born, answer, dropped, larger, retire, added, decide, consider, walk, hasRow, finish, onePass, passes, check}
 use Rattle.spec_order.specs.Example.{toy}
 
 -- the numbers that name no row and cap a length
@@ -30,7 +30,7 @@ abbrev pub row : ℕ → ℕ → ℕ → ℕ → ℕ → ℕ → ℕ → ℕ →
 row x r e i j n p q = record { head = x; rule = r; effect = e; left = i; right = j; len = n; birth = p; retired = q }
 
 pub journal : Algebra ℕ → List Rule → List (Row ℕ)
-unfolding check passes onePass walk consider decide added retire larger dropped startRow answer born passCandidates bodyCandidates choices bare sole paired liveRows live liveOf capped
+unfolding check passes onePass walk consider decide added retire larger dropped hasRow answer born passCandidates bodyCandidates choices bare sole paired liveRows live liveOf capped
 journal A rules = check A rules 9 99 .journal
 
 -- ---- two rows for each symbol of a body of two: the sums tell the pairs apart
@@ -56,7 +56,7 @@ left-outer = refl
 -- ---- effects of one nonterminal that fall from pass to pass, where the smaller number is the smaller effect
 
 abbrev pub falling : Algebra ℕ
-falling = record { forms = record { ofEmpty = 0; ofTerminal = λ c. c; ofPair = λ x y. (x + y) ∷ [] }; below = leb; starts = λ x. true; breaks = λ x e. false }
+falling = record { forms = record { ofEmpty = 0; ofTerminal = λ c. c; ofPair = λ x y. (x + y) ∷ [] }; below = leb; starts = []; breaks = λ x e. false }
 
 abbrev pub chain : List Rule
 chain =
@@ -74,11 +74,12 @@ pub row-passes : journal falling chain
 unfolding journal
 row-passes = refl
 
--- ---- the end of a check in which only the words of nonterminal 7 count
+-- ---- the end of a check
 
+-- in which only the words of nonterminal 7 count
 pub ended : List (Row ℕ) → Verdict
-unfolding startRow live
-ended rows = finish (λ x. eqb x 7) rows
+unfolding hasRow live liveOf
+ended rows = finish (7 ∷ []) rows
 
 -- it holds where 7 has a live row, also as the last of several. A row of another nonterminal is none, and neither is one that has retired
 pub ends :
@@ -89,3 +90,12 @@ pub ends :
     × (ended (row 7 0 5 65535 65535 1 1 2 ∷ row 0 1 5 65535 65535 1 1 0 ∷ row 7 2 3 65535 65535 1 2 0 ∷ []) ≡ holds)
 unfolding ended
 ends = (refl, refl, refl, refl, refl)
+
+-- in which the words of 7 and of 9 count: both have to have a live row. With no such nonterminal it holds
+pub ends-several :
+    (finish (7 ∷ 9 ∷ []) (row 9 0 5 65535 65535 1 1 0 ∷ row 7 1 5 65535 65535 1 1 0 ∷ []) ≡ holds)
+    × (finish (7 ∷ 9 ∷ []) (row 7 0 5 65535 65535 1 1 0 ∷ []) ≡ empty)
+    × (finish (7 ∷ 9 ∷ []) (row 9 0 5 65535 65535 1 1 0 ∷ []) ≡ empty)
+    × (finish {E = ℕ} [] [] ≡ holds)
+unfolding hasRow live liveOf
+ends-several = (refl, refl, refl, refl)

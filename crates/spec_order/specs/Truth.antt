@@ -12,9 +12,9 @@ use lib.ListN.{length, getD, length-append, length-map}
 use lib.Seq.{getD-at}
 use borrow.Author.Tests.{eqb-true}
 use lib.Pow.{low}
-use Rattle.spec_basics.specs.Elements.{In, any}
-use Rattle.spec_basics.specs.Lists.{in-cases, map-in, any-of, any-at}
-use Rattle.spec_basics.specs.Tests.{and-fst, and-snd, and-intro, fails}
+use Rattle.spec_basics.specs.Elements.{In, each}
+use Rattle.spec_basics.specs.Lists.{in-cases, map-in, any-of, any-at, each-at, each-fails}
+use Rattle.spec_basics.specs.Tests.{and-fst, and-snd, fails}
 use Rattle.spec_language.specs.Grammar.{Rule}
 use Rattle.spec_order.specs.Algebra.{Algebra, Laws}
 use Rattle.spec_order.specs.Behind.{Spelling, rowWord, wordsFrom, wordsOf, wordBehind}
@@ -23,7 +23,7 @@ use Rattle.spec_order.specs.Carrying.{within-le}
 use Rattle.spec_order.specs.Completeness.{effectValues, Above, FormsInto, higher, closed, LiveIn, follows}
 use Rattle.spec_order.specs.Derivation.{Yields}
 use Rattle.spec_order.specs.Journal.{Row, absent, noRow, live, liveOf}
-use Rattle.spec_order.specs.Order.{Progress, Verdict, holds, broken, full, spent, empty, Outcome, going, stopped, Answer, born, answer, retire, added, consider, finishBy, startRow, finish, closeBy, close, onePass, passes, check}
+use Rattle.spec_order.specs.Order.{Progress, Verdict, holds, broken, full, spent, empty, Outcome, going, stopped, Answer, born, answer, retire, added, consider, finishBy, hasRow, finish, closeBy, close, onePass, passes, check}
 use Rattle.spec_order.specs.SideBySide.{side-at, side-in}
 use Rattle.spec_order.specs.Soundness.{spelledValues, Sizes, words-added, RowSound, Sound, sound-taller, CandidateSound, sound-added, candidates-sound}
 use Rattle.spec_order.specs.Walking.{Post, Covers, step-post, walk-post, walk-covers}
@@ -61,8 +61,8 @@ module _ {E W : Type 0} (A : Algebra E) (S : Spelling E W) (rules : List Rule) w
 
   -- what a verdict says: of a broken one also that its pass is the least height of a derivation that breaks
   abbrev pub SaysBy : Verdict → Answer E → Type 0
-  SaysBy holds a = Settled a × (any (startRow (A .starts)) (a .journal) ≡ true)
-  SaysBy empty a = Settled a × (any (startRow (A .starts)) (a .journal) ≡ false)
+  SaysBy holds a = Settled a × (each (hasRow (a .journal)) (A .starts) ≡ true)
+  SaysBy empty a = Settled a × (each (hasRow (a .journal)) (A .starts) ≡ false)
   SaysBy broken a =
       Yields (spelledValues A S) rules (a .pass) (shownRow A a .head) (shown a, shownRow A a .effect) × (A .breaks (shownRow A a .head) (shownRow A a .effect) ≡ true) × (a .row < a .used)
       × ((h : ℕ) → h < a .pass → (p : ℕ) (e : E) → Gets A rules h p e → A .breaks p e ≡ false)
@@ -167,7 +167,7 @@ module _ {E W : Type 0} (A : Algebra E) (L : Laws A) (S : Spelling E W) (Z : Siz
   passes-say (suc f) h s b =
       by (onePass A rules J B (suc h) s) refl (one-pass h s b) (walk-covers A J B (suc h) L (passCandidates (A .forms) (s .rows) 0 rules) s) (passes-say f (suc h))
     where
-      finished : (t : Progress E) → Settled A S rules (answer (finish (A .starts) (t .rows)) (suc h) absent t) → (x : Bool) → any (startRow (A .starts)) (t .rows) ≡ x
+      finished : (t : Progress E) → Settled A S rules (answer (finish (A .starts) (t .rows)) (suc h) absent t) → (x : Bool) → each (hasRow (t .rows)) (A .starts) ≡ x
           → SaysBy A S rules (finishBy x) (answer (finish (A .starts) (t .rows)) (suc h) absent t)
       finished t y true e = (y, e)
       finished t y false e = (y, e)
@@ -179,7 +179,7 @@ module _ {E W : Type 0} (A : Algebra E) (L : Laws A) (S : Spelling E W) (Z : Siz
       fork t w true e d v next =
           let same : t .rows ≡ s .rows = d .same (eqb-true (length (t .rows)) (length (s .rows)) e) in
           let covers = subst (λ (x : List (Row E)). FormsInto A rules (LiveIn x) (LiveIn (t .rows))) (sym same) (follows A (s .rows) rules (t .rows) (v .each)) in
-          record { sound = d .sound; verdict = finished t (d .quiet, covers) (any (startRow (A .starts)) (t .rows)) refl }
+          record { sound = d .sound; verdict = finished t (d .quiet, covers) (each (hasRow (t .rows)) (A .starts)) refl }
       fork t w false e d v next = next t (after-pass h s t b w)
 
       by : (r : Outcome E) → onePass A rules J B (suc h) s ≡ r → Post (During h (s .rows)) (End (suc h)) r
@@ -201,25 +201,23 @@ module _ {E W : Type 0} (A : Algebra E) (L : Laws A) (S : Spelling E W) (Z : Siz
   pub settled-calm : (a : Answer E) → Settled A S rules a → (h p : ℕ) (e : E) → Gets A rules h p e → A .breaks p e ≡ false
   settled-calm a y h p e g = calm (a .journal) (y .0) p e (settled-covers a y h p e g)
 
-  -- after "holds" a nonterminal whose words count derives the word behind one of its rows
+  -- after "holds" each nonterminal whose words count derives the word behind one of its rows
   pub holds-derives : (a : Answer E) → Sound A S rules (a .pass) (a .journal) → SaysBy A S rules holds a
-      → (h p : ℕ) × (w : W) × (e : E) × (A .starts p ≡ true) × Yields (spelledValues A S) rules h p (w, e)
-  unfolding startRow
-  holds-derives a sound y =
-      let m = any-of (startRow (A .starts)) (a .journal) (y .1) in
+      → (p : ℕ) → In p (A .starts) → (h : ℕ) × (w : W) × (e : E) × Yields (spelledValues A S) rules h p (w, e)
+  unfolding hasRow liveOf
+  holds-derives a sound y p start =
+      let m = any-of (liveOf p) (a .journal) (each-at (hasRow (a .journal)) p (A .starts) start (y .1)) in
       let r : Row E = m .0 in
       let d = side-in (RowSound A S rules (a .pass)) r (a .journal) (wordsOf S rules (a .journal)) sound (m .1) in
-      (r .birth, r .head, d .0, r .effect, and-fst (A .starts (r .head)) (live r) (m .2), d .1 .derived)
+      let head : r .head ≡ p = eqb-true (r .head) p (and-fst (eqb (r .head) p) (live r) (m .2)) in
+      (r .birth, d .0, r .effect, subst (λ (x : ℕ). Yields (spelledValues A S) rules (r .birth) x (d .0, r .effect)) head (d .1 .derived))
 
-  -- after "empty" no such nonterminal derives anything: what it derived, a live row of it would cover
-  pub empty-derives : (a : Answer E) → SaysBy A S rules empty a → (h p : ℕ) (e : E) → A .starts p ≡ true → Gets A rules h p e → ⊥
-  unfolding startRow liveOf
-  empty-derives a y h p e start g =
-      let c = settled-covers a (y .0) h p e g in
-      let r : Row E = c .1 .0 in
-      let head : r .head ≡ p = eqb-true (r .head) p (and-fst (eqb (r .head) p) (live r) (c .1 .2)) in
-      let here : startRow (A .starts) r ≡ true = and-intro (A .starts (r .head)) (live r) (ap (A .starts) head ∙ start) (and-snd (eqb (r .head) p) (live r) (c .1 .2)) in
-      true≢false (sym (any-at (startRow (A .starts)) r (a .journal) (c .1 .1) here) ∙ y .1)
+  -- after "empty" one of them derives nothing: what it derived, a live row of it would cover
+  pub empty-derives : (a : Answer E) → SaysBy A S rules empty a → (p : ℕ) × In p (A .starts) × ((h : ℕ) (e : E) → Gets A rules h p e → ⊥)
+  unfolding hasRow
+  empty-derives a y =
+      let m = each-fails (hasRow (a .journal)) (A .starts) (y .1) in
+      (m .0, m .1, λ h e g. let c = settled-covers a (y .0) h (m .0) e g in true≢false (sym (any-at (liveOf (m .0)) (c .1 .0) (a .journal) (c .1 .1) (c .1 .2)) ∙ m .2))
 
 -- request C-21: a set without an entry that breaks, that covers every candidate formed from it
 pub accepted : {E : Type 0} (A : Algebra E) (L : Laws A) (rules : List Rule) (P : ℕ → E → Type 0) → FormsInto A rules P P → ((p : ℕ) (e : E) → P p e → A .breaks p e ≡ false)

@@ -23,4 +23,5 @@ pub mod MovingTruth
 pub mod LinkLaws
 pub mod NumberTruth
 pub mod UnfoldingTruth
+pub mod StartLaws
 pub mod Pins

@@ -1,9 +1,10 @@
 -- What a file of 16-byte records says, and the 8-byte file that it unfolds to (document 02, C-17). Definitions only. Assumes nothing.
 use mathlib.Core.Bool.{Bool, not, _||_, cond}
 use mathlib.Core.List.{List, [], _∷_, _++_, map}
-use Prim.Native.Nat.{ℕ, suc, _+_, _-_}
+use Prim.Native.Nat.{ℕ, zero, suc, _+_, _-_}
 use lib.Dec.{eqb, ltb}
 use lib.ListN.{length, replicate}
+use Rattle.relation.specs.Digits.{bit}
 use Rattle.spec_language.specs.Grammar.{Production}
 use Rattle.spec_language.specs.Automaton.{Automaton}
 use Rattle.spec_file.specs.Limits.{ruleLimit, terminals, nonterminals}
@@ -54,8 +55,16 @@ callByte x = terminals + x
 abbrev pub aboveByte : ℕ → ℕ
 aboveByte b = cond (ltb b terminals) 0 (suc (b - terminals))
 
--- the number of the first chain procedure: "numbered above the highest procedure in use as head or symbol", and not below `least`. C-18:
--- `least` is one above the highest starting procedure; before it 0
+-- one above the highest nonterminal of the set that is below m; 0 where there is none
+unfoldable pub aboveMembers : ℕ → ℕ → ℕ
+aboveMembers set zero = 0
+aboveMembers set (suc p) = cond (bit set p) (suc p) (aboveMembers set p)
+
+-- C-18: "Members count as in use when chain procedures are numbered": none of these is below this number
+abbrev pub leastFor : ℕ → ℕ
+leastFor set = aboveMembers set nonterminals
+
+-- the number of the first chain procedure: "numbered above the highest procedure in use as head or symbol", and not below `least`
 abbrev pub firstChain : ℕ → List (RuleOver ℕ) → ℕ
 firstChain least ps = firstFree aboveByte least ps
 

@@ -17,7 +17,8 @@ use Rattle.spec_file.specs.Refusals.{refuse, fault}
 use Rattle.spec_file.specs.Views.{productionsOf, automatonOf}
 use Rattle.spec_order.specs.Order.{Answer, holds, broken, full, spent, empty}
 use Rattle.spec_calls.specs.Replies.{Reply, refused, answered}
-use Rattle.spec_calls.specs.Checking.{Settings, checkOf, shown}
+use Rattle.spec_calls.specs.Checking.{Settings, checkOf, shown, shownHead}
+use Rattle.spec_calls.specs.DemandThree.{Member}
 use Rattle.spec_unfold.specs.Unfolding.{wideProductionsOf, wideAutomatonOf}
 
 -- ---- the chain procedures; ps: the rules of a file, in file order
@@ -68,23 +69,30 @@ IsLink first ps q = (before : List Production) × (p : Production) × (after : L
 -- ---- demand 3 for a 16-byte file
 
 module _ (bs : List ℕ) where
-  -- the initial symbol derives the word
-  abbrev pub WideDerivable : List ℕ → Type 0
-  WideDerivable w = Language (wideProductionsOf bs) initial w
+  -- p derives some word; none
+  abbrev pub WideSomeFrom : ℕ → Type 0
+  WideSomeFrom p = (w : List ℕ) × Language (wideProductionsOf bs) p w
 
-  abbrev pub WideCounterexample : List ℕ → Type 0
-  WideCounterexample w = WideDerivable w × TurnsAway (wideAutomatonOf bs) w
+  abbrev pub WideNoneFrom : ℕ → Type 0
+  WideNoneFrom p = (w : List ℕ) → Language (wideProductionsOf bs) p w → ⊥
 
-  -- what the answer a, which shows the word u, says of the 16-byte file: OneVerdict's words on verdicts, of this file's runs
-  pub record WideVerdict (a : Answer ℕ) (u : List ℕ) : Type 0 where
-    pub holds-for-all : a .verdict ≡ holds → (w : List ℕ) → WideDerivable w → Accepts (wideAutomatonOf bs) w
-    pub holds-for-some : a .verdict ≡ holds → (w : List ℕ) × WideDerivable w
-    pub empty-for-none : a .verdict ≡ empty → (w : List ℕ) → WideDerivable w → ⊥
-    pub broken-shows : a .verdict ≡ broken → WideCounterexample u
-    pub broken-exactly : (a .verdict ≡ full → ⊥) → (a .verdict ≡ spent → ⊥) → (a .verdict ≡ broken) ↔ ((w : List ℕ) × WideCounterexample w)
-    pub empty-exactly : (a .verdict ≡ full → ⊥) → (a .verdict ≡ spent → ⊥) → (a .verdict ≡ empty) ↔ ((w : List ℕ) → WideDerivable w → ⊥)
-    pub holds-exactly : (a .verdict ≡ full → ⊥) → (a .verdict ≡ spent → ⊥)
-        → (a .verdict ≡ holds) ↔ (((w : List ℕ) × WideDerivable w) × ((w : List ℕ) → WideDerivable w → Accepts (wideAutomatonOf bs) w))
+  -- the member p derives the word, and it is turned away
+  abbrev pub WideCounterexample : Settings → ℕ → List ℕ → Type 0
+  WideCounterexample g p w = Member g p × Language (wideProductionsOf bs) p w × TurnsAway (wideAutomatonOf bs) w
+
+  -- every word of every member is accepted
+  abbrev pub WideAccepted : Settings → Type 0
+  WideAccepted g = (p : ℕ) → Member g p → (w : List ℕ) → Language (wideProductionsOf bs) p w → Accepts (wideAutomatonOf bs) w
+
+  -- what the answer a, which shows the word u of the procedure x, says of the 16-byte file: OneVerdict's words on verdicts, of this file's runs
+  pub record WideVerdict (g : Settings) (a : Answer ℕ) (x : ℕ) (u : List ℕ) : Type 0 where
+    pub holds-for-all : a .verdict ≡ holds → WideAccepted g
+    pub holds-for-some : a .verdict ≡ holds → (p : ℕ) → Member g p → WideSomeFrom p
+    pub empty-for-none : a .verdict ≡ empty → (p : ℕ) × Member g p × WideNoneFrom p
+    pub broken-shows : a .verdict ≡ broken → WideCounterexample g x u
+    pub broken-exactly : (a .verdict ≡ full → ⊥) → (a .verdict ≡ spent → ⊥) → (a .verdict ≡ broken) ↔ ((p : ℕ) × (w : List ℕ) × WideCounterexample g p w)
+    pub empty-exactly : (a .verdict ≡ full → ⊥) → (a .verdict ≡ spent → ⊥) → (a .verdict ≡ empty) ↔ (WideAccepted g × ((p : ℕ) × Member g p × WideNoneFrom p))
+    pub holds-exactly : (a .verdict ≡ full → ⊥) → (a .verdict ≡ spent → ⊥) → (a .verdict ≡ holds) ↔ (WideAccepted g × ((p : ℕ) → Member g p → WideSomeFrom p))
 
 -- ---- the reply
 
@@ -107,8 +115,10 @@ pub record UnfoldShows (least : ℕ) (bs old new : List ℕ) (n : ℕ) : Type 0 
   pub same-runs : (x : ℕ) → (ChainProcedure first (wideProductionsOf bs) x → ⊥) → (w : List ℕ) → Language (wideProductionsOf bs) x w ↔ Language (productionsOf (take n new)) x w
   pub no-chain-in-use : (x : ℕ) → InUse (wideProductionsOf bs) x → ChainProcedure first (wideProductionsOf bs) x → ⊥
   pub no-chain-initial : ChainProcedure first (wideProductionsOf bs) initial → ⊥
-  -- a check of the unfolded file is one of the 16-byte file
-  pub verdict : (g : Settings) (a : Answer ℕ) → checkOf (take n new) g ≡ answered a → WideVerdict bs a (shown (take n new) a)
+  pub no-chain-below : (x : ℕ) → x < least → ChainProcedure first (wideProductionsOf bs) x → ⊥
+  -- a check of the unfolded file is one of the 16-byte file, where no member is a chain procedure
+  pub verdict : (g : Settings) → ((p : ℕ) → Member g p → ChainProcedure first (wideProductionsOf bs) p → ⊥)
+      → (a : Answer ℕ) → checkOf (take n new) g ≡ answered a → WideVerdict bs g a (shownHead a) (shown (take n new) a)
 
 -- a refused call leaves the output as it was
 abbrev pub UnfoldMeans : ℕ → List ℕ → List ℕ → List ℕ → Reply ℕ → Type 0

@@ -19,8 +19,8 @@ use Rattle.spec_file.specs.Refusals.{fault, faultIn}
 use Rattle.spec_file.specs.Views.{ruleOf, rulesOf, productionsOf, automatonOf}
 use Rattle.spec_order.specs.Order.{Answer}
 use Rattle.spec_calls.specs.Replies.{Reply, refused, answered}
-use Rattle.spec_calls.specs.Checking.{Settings, shown}
-use Rattle.spec_calls.specs.DemandThree.{OneVerdict}
+use Rattle.spec_calls.specs.Checking.{Settings, shown, shownHead}
+use Rattle.spec_calls.specs.DemandThree.{Member, SomeFrom, NoneFrom, Counterexample, AllAccepted, OneVerdict}
 use Rattle.spec_calls.specs.Promising.{promises}
 use Rattle.spec_calls.specs.Writing.{writtenBy}
 use Rattle.spec_records.specs.Blocks.{recordsOf}
@@ -33,12 +33,12 @@ use Rattle.spec_unfold.specs.SortingLaws.{length-all}
 use Rattle.spec_unfold.specs.Unfolding.{byteRules, spelled, wideProductionsOf, wideAutomatonOf, callByte, firstChain, chainedRules, ruleBytes, unfoldedFile, tooMany}
 use Rattle.spec_unfold.specs.FreshLaws.{symbolic, spelled-symbolic, unfolded-symbolic}
 use Rattle.spec_unfold.specs.UnfoldingLaws.{unfolded-passes}
-use Rattle.spec_unfold.specs.SameRuns.{same-automaton, rules-sorted, to-chains, from-chains, same-everywhere, initial-first, same-initial}
+use Rattle.spec_unfold.specs.SameRuns.{same-automaton, rules-sorted, to-chains, from-chains, same-everywhere, initial-first}
 use Rattle.spec_unfold.specs.LinkLaws.{links-exactly}
 use Rattle.spec_unfold.specs.NumberTruth.{taken-spelled, first-above}
 use Rattle.spec_unfold.specs.Calls.{unfoldOf, unfoldAfter}
 use Rattle.spec_unfold.specs.CallLaws.{after-length, unfold-answers}
-use Rattle.spec_unfold.specs.UnfoldingMeans.{takenBy, FirstAbove, ChainProcedure, IsLink, WideDerivable, WideCounterexample, WideVerdict, UnfoldMeans}
+use Rattle.spec_unfold.specs.UnfoldingMeans.{takenBy, FirstAbove, ChainProcedure, IsLink, WideSomeFrom, WideNoneFrom, WideCounterexample, WideAccepted, WideVerdict, UnfoldMeans}
 
 module _ (least : ℕ) (bs : List ℕ) (v : faultIn sixteen bs .number ≡ 0) (fits : tooMany least (byteRules (recordsOf 16 bs)) ≡ false) where
   abbrev ps : List (RuleOver ℕ)
@@ -103,36 +103,47 @@ module _ (least : ℕ) (bs : List ℕ) (v : faultIn sixteen bs .number ≡ 0) (f
   from-automaton : (P : Automaton → Type 0) → P (wideAutomatonOf bs) → P (automatonOf file)
   from-automaton P h = subst P (sym (same-automaton least bs v fits)) h
 
-  derived : (w : List ℕ) → WideDerivable bs w ↔ Language (productionsOf file) initial w
-  derived w = same-initial least bs v fits w
+  -- g: the settings of a check of the unfolded file, of whose members none is a chain procedure
+  module _ (g : Settings) (original : (p : ℕ) → Member g p → ChainProcedure (firstChain least ps) (wideProductionsOf bs) p → ⊥) where
+    derived : (p : ℕ) → Member g p → (w : List ℕ) → Language (wideProductionsOf bs) p w ↔ Language (productionsOf file) p w
+    derived p m w = runs p (original p m) w
 
-  verdict : (g : Settings) (a : Answer ℕ) → OneVerdict file g a → WideVerdict bs a (shown file a)
-  verdict g a one =
-      record {
-        holds-for-all = λ e w d. of-automaton (λ (A : Automaton). Accepts A w) (one .holds-for-all e w (derived w .0 d));
-        holds-for-some = λ e. some (one .holds-for-some e);
-        empty-for-none = λ e w d. one .empty-for-none e w (derived w .0 d);
-        broken-shows = λ e. counter (shown file a) (one .broken-shows e);
-        broken-exactly = λ f s. (
-          λ e. (shown file a, counter (shown file a) (one .broken-shows e)),
-          λ c. one .broken-exactly f s .1 (c .0, (derived (c .0) .0 (c .1 .0), from-automaton (λ (A : Automaton). TurnsAway A (c .0)) (c .1 .1))),
-        );
-        empty-exactly = λ f s. (
-          λ e w d. one .empty-for-none e w (derived w .0 d),
-          λ n. one .empty-exactly f s .1 (λ w d. n w (derived w .1 d)),
-        );
-        holds-exactly = λ f s. (
-          λ e. (some (one .holds-for-some e), λ w d. of-automaton (λ (A : Automaton). Accepts A w) (one .holds-for-all e w (derived w .0 d))),
-          λ h. one .holds-exactly f s .1
-              ((h .0 .0, derived (h .0 .0) .0 (h .0 .1)), λ w d. from-automaton (λ (A : Automaton). Accepts A w) (h .1 w (derived w .1 d))),
-        );
-      }
-    where
-      some : ((w : List ℕ) × Language (productionsOf file) initial w) → (w : List ℕ) × WideDerivable bs w
-      some t = (t .0, derived (t .0) .1 (t .1))
+    some : (p : ℕ) → Member g p → SomeFrom file p → WideSomeFrom bs p
+    some p m t = (t .0, derived p m (t .0) .1 (t .1))
 
-      counter : (w : List ℕ) → Language (productionsOf file) initial w × TurnsAway (automatonOf file) w → WideCounterexample bs w
-      counter w c = (derived w .1 (c .0), of-automaton (λ (A : Automaton). TurnsAway A w) (c .1))
+    none : (p : ℕ) → Member g p → NoneFrom file p → WideNoneFrom bs p
+    none p m n w d = n w (derived p m w .0 d)
+
+    accepted : AllAccepted file g → WideAccepted bs g
+    accepted h p m w d = of-automaton (λ (A : Automaton). Accepts A w) (h p m w (derived p m w .0 d))
+
+    all-accepted : WideAccepted bs g → AllAccepted file g
+    all-accepted h p m w d = from-automaton (λ (A : Automaton). Accepts A w) (h p m w (derived p m w .1 d))
+
+    counter : (p : ℕ) (w : List ℕ) → Counterexample file g p w → WideCounterexample bs g p w
+    counter p w c = (c .0, derived p (c .0) w .1 (c .1), of-automaton (λ (A : Automaton). TurnsAway A w) (c .2))
+
+    verdict : (a : Answer ℕ) → OneVerdict file g a → WideVerdict bs g a (shownHead a) (shown file a)
+    verdict a one =
+        record {
+          holds-for-all = λ e. accepted (one .holds-for-all e);
+          holds-for-some = λ e p m. some p m (one .holds-for-some e p m);
+          empty-for-none = λ e. let n = one .empty-for-none e in (n .0, n .1, none (n .0) (n .1) (n .2));
+          broken-shows = λ e. counter (shownHead a) (shown file a) (one .broken-shows e);
+          broken-exactly = λ f s. (
+            λ e. (shownHead a, shown file a, counter (shownHead a) (shown file a) (one .broken-shows e)),
+            λ c. one .broken-exactly f s .1
+                (c .0, c .1, (c .2 .0, derived (c .0) (c .2 .0) (c .1) .0 (c .2 .1), from-automaton (λ (A : Automaton). TurnsAway A (c .1)) (c .2 .2))),
+          );
+          empty-exactly = λ f s. (
+            λ e. let n = one .empty-exactly f s .0 e in (accepted (n .0), (n .1 .0, n .1 .1, none (n .1 .0) (n .1 .1) (n .1 .2))),
+            λ h. one .empty-exactly f s .1 (all-accepted (h .0), (h .1 .0, h .1 .1, λ w d. h .1 .2 w (derived (h .1 .0) (h .1 .1) w .1 d))),
+          );
+          holds-exactly = λ f s. (
+            λ e. let n = one .holds-exactly f s .0 e in (accepted (n .0), λ p m. some p m (n .1 p m)),
+            λ h. one .holds-exactly f s .1 (all-accepted (h .0), λ p m. let t = h .1 p m in (t .0, derived p m (t .0) .0 (t .1))),
+          );
+        }
 
 -- ---- the call
 
@@ -160,7 +171,8 @@ unfold-means least bs out = by (unfoldOf least bs (length out)) refl
           same-runs = λ x c w. rw is (runs least bs v f x c w);
           no-chain-in-use = λ x u c. let z = above .above-use x u in let y : ⊥ = omega (arith, c .0) in y;
           no-chain-initial = initial-original least bs v f;
-          verdict = λ g b q. rw is (verdict least bs v f g b (promises (unfoldedFile least bs) g b (rw is at q) .one-verdict));
+          no-chain-below = λ x l c. let y : ⊥ = omega (arith, l, above .above-least, c .0) in y;
+          verdict = λ g o b q. rw is (verdict least bs v f g o b (promises (unfoldedFile least bs) g b (rw is at q) .one-verdict));
         }
       where
         above : FirstAbove least (wideProductionsOf bs) (firstChain least (byteRules (recordsOf 16 bs)))

@@ -2,6 +2,7 @@
 use call_judge::Judged;
 use host_result::CheckResult;
 use relation::Relation;
+use spec_calls::INITIAL_ALONE;
 use spec_calls::Options;
 use spec_calls::Row;
 use test_random::Trial;
@@ -77,7 +78,17 @@ fn looked_at(used: u64) -> usize {
 
 fn ask(file: &[u8], rows: usize, old: Row, budget: u64, sample_row: usize) -> CheckResult {
     let mut buffer = [0u8; 4096];
-    host_check::check_and_write(file, rows, old, Options { budget }, sample_row, &mut buffer)
+    host_check::check_and_write(
+        file,
+        rows,
+        old,
+        Options {
+            budget,
+            starts: INITIAL_ALONE,
+        },
+        sample_row,
+        &mut buffer,
+    )
 }
 
 fn put(journal: &mut [Numbers], i: usize, row: Numbers) {
@@ -133,6 +144,17 @@ fn shown(file: &[u8], journal: &[Numbers], told: CheckResult, buffer: &[u8]) -> 
         )
 }
 
+// Returns the number of the verdict that the unpruned search gives for the set `starts`.
+fn expected(verdict: Verdict, starts: u64) -> u64 {
+    if verdict.turned & starts != 0 {
+        return host_result::BROKEN;
+    }
+    if verdict.worded & starts == starts {
+        return host_result::HOLDS;
+    }
+    host_result::EMPTY
+}
+
 // Tests whether the verdict is the one of the unpruned search, and a broken one has a word to show.
 fn right(
     file: &[u8],
@@ -141,13 +163,11 @@ fn right(
     buffer: &[u8],
     verdict: Verdict,
 ) -> bool {
-    if verdict.broken {
-        return (told.code == host_result::BROKEN) & shown(file, journal, told, buffer);
+    if told.code == host_result::BROKEN {
+        return (expected(verdict, INITIAL_ALONE) == host_result::BROKEN)
+            & shown(file, journal, told, buffer);
     }
-    if verdict.words {
-        return told.code == host_result::HOLDS;
-    }
-    told.code == host_result::EMPTY
+    told.code == expected(verdict, INITIAL_ALONE)
 }
 
 // Tests whether the used rows have relations that the unpruned search found, and the live ones are an antichain; if the check holds or is empty,
@@ -201,6 +221,73 @@ fn fair(told: CheckResult, small: CheckResult, few: usize, budget: u64) -> bool 
     same(told, small)
 }
 
+// ---- sets of nonterminals
+
+// Returns the set that is tried: the drawn one, or of it those that have a word, or those of which none is turned away, or both.
+fn tried(drawn: u64, kind: u64, verdict: Verdict) -> u64 {
+    let calm = drawn & !verdict.turned;
+    match kind {
+        0 => drawn,
+        1 => drawn & verdict.worded,
+        2 => calm,
+        _ => calm & verdict.worded,
+    }
+}
+
+// Tests whether the first `size` letters of `buffer` are a word of the nonterminal `head`, by the list: it has one with the word's relation.
+fn is_word(
+    file: &[u8],
+    found: &Found,
+    count: usize,
+    head: u64,
+    buffer: &[u8],
+    size: usize,
+) -> bool {
+    let symbol = test_unpruned::TERMINALS + head % test_unpruned::NONTERMINALS;
+    let relation = test_unpruned::word(file, buffer, size);
+    test_unpruned::listed(found, count, test_unpruned::pair(symbol, relation))
+}
+
+// Tests whether a broken answer to a check from the set `starts` shows a word of a member, and that is turned away.
+fn shown_from(
+    file: &[u8],
+    found: &Found,
+    count: usize,
+    starts: u64,
+    told: CheckResult,
+    buffer: &[u8],
+) -> bool {
+    let size = told.length as usize;
+    (told.refused == 0)
+        & ((starts >> (told.head % 64)) % 2 == 1)
+        & is_word(file, found, count, told.head, buffer, size)
+        & turned_away(file, buffer, size)
+}
+
+// The verdict's number of a check from a set, and whether it is right.
+struct FromSet {
+    code: u64,
+    right: bool,
+}
+
+// Checks `file` from the set `starts`, and compares with the unpruned search.
+fn check_from(file: &[u8], found: &Found, count: usize, verdict: Verdict, starts: u64) -> FromSet {
+    let mut buffer = [0u8; 4096];
+    let options = Options {
+        budget: BUDGET,
+        starts,
+    };
+    let told = host_check::check_and_write(file, ROWS, Row::blank(), options, 0, &mut buffer);
+    let shows = (told.code != host_result::BROKEN)
+        | shown_from(file, found, count, starts, told, &buffer);
+    FromSet {
+        code: told.code,
+        right: (told.code == expected(verdict, starts)) & shows,
+    }
+}
+
+// ---- a file
+
 // Returns 6 unless the check of `file` is refused with 12 at record `record`, its first move on a remark; 0 if it is.
 pub fn refusal(file: &[u8], record: usize) -> u64 {
     let told = ask(file, ROWS, Row::blank(), BUDGET, 0);
@@ -211,7 +298,14 @@ pub fn refusal(file: &[u8], record: usize) -> u64 {
 }
 
 // Returns the number of the first comparison that fails; 0 if none does.
-fn first_failing(verdict: bool, relations: bool, more: bool, old: bool, less: bool) -> u64 {
+fn first_failing(
+    verdict: bool,
+    relations: bool,
+    more: bool,
+    old: bool,
+    less: bool,
+    from_set: bool,
+) -> u64 {
     if !verdict {
         return 1;
     }
@@ -227,14 +321,19 @@ fn first_failing(verdict: bool, relations: bool, more: bool, old: bool, less: bo
     if !less {
         return 5;
     }
+    if !from_set {
+        return 7;
+    }
     0
 }
 
-// The result for one file: the verdict and the used rows, the verdict with few rows and a small budget, and the first comparison that failed.
+// The result for one file: the verdict and the used rows, the verdict with few rows and a small budget, the verdict from a set, and the first
+// comparison that failed.
 pub struct Outcome {
     pub verdict: u64,
     pub used: u64,
     pub small: u64,
+    pub from_set: u64,
     pub failing: u64,
 }
 
@@ -252,7 +351,10 @@ pub fn compare(
         file,
         ROWS,
         old,
-        Options { budget: BUDGET },
+        Options {
+            budget: BUDGET,
+            starts: INITIAL_ALONE,
+        },
         0,
         &mut buffer,
     );
@@ -261,17 +363,21 @@ pub fn compare(
     collect(file, ROWS, old, BUDGET, n, &mut journal);
     let small = ask(file, trial.few, old, trial.budget, 0);
     let other = trial.old;
+    let starts = tried(trial.set, trial.budget % 4, verdict);
+    let from_set = check_from(file, found, count, verdict, starts);
     let failing = first_failing(
         right(file, &journal, told, &buffer, verdict),
         accounted(&journal, told, found, count),
         same_with_more(file, &journal, told),
         same_with_old(file, &journal, told, other),
         fair(told, small, trial.few, trial.budget),
+        from_set.right,
     );
     Outcome {
         verdict: told.code,
         used: told.used,
         small: small.code,
+        from_set: from_set.code,
         failing,
     }
 }

@@ -11,10 +11,13 @@
 // 5. With 1 to 6 rows and a budget of 0 to 40 the answer is spent with as many joins as the budget has and fewer than the check makes,
 //    or full with all rows used and fewer than the check uses, or the same whole answer.
 // 6. A file with a move on a remark is refused with 12, at the first such record, and nothing else is tried on it.
+// 7. From a set of nonterminals the verdict is broken if the search found a word of a member that is turned away, else empty if a member has
+//    no word, else holds. The word that is shown is one of the member that is told, by the search's list, and is turned away by judging.
 //
 // Written are the counts of files, of those that hold, of empty ones, of those among these two in which the check keeps fewer rows than there
-// are relations, of broken ones; of full, spent and other answers under 5; of refused files; of files with more relations than the
-// search has room for, which are skipped; and of mismatches, each of which is also written with the file's number and the comparison that fails.
+// are relations, of broken ones; of full, spent and other answers under 5; of answers under 7 that hold, are empty, are broken; of refused
+// files; of files with more relations than the search has room for, which are skipped; and of mismatches, each of which is also written with
+// the file's number and the comparison that fails.
 mod comparison;
 
 use comparison::Outcome;
@@ -38,13 +41,19 @@ const SPENT: usize = 5;
 
 const NEITHER: usize = 6;
 
-const REFUSED: usize = 7;
+const FROM_HOLDS: usize = 7;
 
-const SKIPPED: usize = 8;
+const FROM_EMPTY: usize = 8;
 
-const MISMATCHES: usize = 9;
+const FROM_BROKEN: usize = 9;
 
-const COUNTS: usize = 10;
+const REFUSED: usize = 10;
+
+const SKIPPED: usize = 11;
+
+const MISMATCHES: usize = 12;
+
+const COUNTS: usize = 13;
 
 type Tally = [u64; COUNTS];
 
@@ -88,6 +97,17 @@ fn count_small(tally: &mut Tally, verdict: u64) {
     }
 }
 
+// Counts the verdict from a set.
+fn count_from_set(tally: &mut Tally, verdict: u64) {
+    if verdict == host_result::HOLDS {
+        count_one(tally, FROM_HOLDS);
+    } else if verdict == host_result::EMPTY {
+        count_one(tally, FROM_EMPTY);
+    } else {
+        count_one(tally, FROM_BROKEN);
+    }
+}
+
 fn count_mismatch(tally: &mut Tally, number: u64, failing: u64) {
     if failing != 0 {
         count_one(tally, MISMATCHES);
@@ -119,6 +139,7 @@ fn try_file(number: u64, buffer: &[u8; 192], size: usize, trial: Trial, tally: &
     let outcome = comparison::compare(file, &found, count, verdict, trial);
     count_verdict(tally, outcome, verdict);
     count_small(tally, outcome.small);
+    count_from_set(tally, outcome.from_set);
     count_mismatch(tally, number, outcome.failing);
 }
 
@@ -149,6 +170,15 @@ fn report_trials(tally: Tally) {
     line(b"full ", tally[FULL]);
     line(b"spent ", tally[SPENT]);
     line(b"neither ", tally[NEITHER]);
+}
+
+fn report_sets(tally: Tally) {
+    line(b"from a set holds ", tally[FROM_HOLDS]);
+    line(b"from a set empty ", tally[FROM_EMPTY]);
+    line(b"from a set broken ", tally[FROM_BROKEN]);
+}
+
+fn report_rest(tally: Tally) {
     line(b"refused ", tally[REFUSED]);
     line(b"skipped ", tally[SKIPPED]);
     line(b"mismatches ", tally[MISMATCHES]);
@@ -159,4 +189,6 @@ fn main() {
     try_all(&mut tally);
     report_checks(tally);
     report_trials(tally);
+    report_sets(tally);
+    report_rest(tally);
 }

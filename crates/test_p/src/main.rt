@@ -2,6 +2,7 @@
 // The stored output is what document 01 asks for, and for plans without runs what C-15 of document 02 does; test_judging compares the judged runs.
 use libc::STDOUT_FILENO;
 use relation::Relation;
+use spec_calls::INITIAL_ALONE;
 use spec_calls::Options;
 use spec_calls::Row;
 
@@ -167,7 +168,16 @@ const EQUAL: [u8; 16] = [1, 0, 0, 0, 0, 0, 0, 0, 1, 0, 0, 0, 0, 0, 0, 0];
 // Prints the text of a check of `file` over `rows` rows, each initialised to `old`, with a budget of `budget` joins.
 fn print(file: &[u8], rows: usize, old: Row, budget: u64) {
     let mut text = [0u8; host_report::TEXT];
-    let size = host_report::render(file, rows, old, Options { budget }, &mut text);
+    let size = host_report::render(
+        file,
+        rows,
+        old,
+        Options {
+            budget,
+            starts: INITIAL_ALONE,
+        },
+        &mut text,
+    );
     io::write_all(STDOUT_FILENO, &text[..size]);
 }
 

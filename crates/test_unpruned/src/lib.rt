@@ -386,12 +386,25 @@ pub fn search(file: &[u8], found: &mut Found) -> usize {
     count
 }
 
-// What a list says: whether nonterminal 0 has a word, whether one of its words is turned away, and how many relations belong to
-// nonterminals.
+// What a list says: the set of the nonterminals that have a word, the set of those of which a word is turned away, bit p for nonterminal p in
+// each, and how many relations belong to nonterminals.
 pub struct Verdict {
-    pub words: bool,
-    pub broken: bool,
+    pub worded: u64,
+    pub turned: u64,
     pub relations: u64,
+}
+
+// Returns the set of the nonterminal of `pair`.
+fn alone(pair: Pair) -> u64 {
+    1u64 << (pair[0] % NONTERMINALS)
+}
+
+// Returns the same set if the relation of `pair` is turned away, and else that of none.
+fn turned(file: &[u8], pair: Pair) -> u64 {
+    if rejecting(file, relation_of(pair)) {
+        return alone(pair);
+    }
+    0
 }
 
 // Adds `pair` to what the list says.
@@ -400,8 +413,8 @@ fn with_pair(said: Verdict, file: &[u8], pair: Pair) -> Verdict {
         return said;
     }
     Verdict {
-        words: said.words | (pair[0] == TERMINALS),
-        broken: said.broken | ((pair[0] == TERMINALS) & rejecting(file, relation_of(pair))),
+        worded: said.worded | alone(pair),
+        turned: said.turned | turned(file, pair),
         relations: std::num::wrapping_add_u64(said.relations, 1),
     }
 }
@@ -409,8 +422,8 @@ fn with_pair(said: Verdict, file: &[u8], pair: Pair) -> Verdict {
 // Returns what the first `count` pairs of `found` say.
 pub fn decide(file: &[u8], found: &Found, count: usize) -> Verdict {
     let mut said = Verdict {
-        words: false,
-        broken: false,
+        worded: 0,
+        turned: 0,
         relations: 0,
     };
     for i in 0..count {

@@ -2,6 +2,7 @@
 // result byte by byte, and how many bytes of the output are as they were. The stored output is what document 02, C-17, asks for.
 use call_move::Moved;
 use file_wide_checks::WideRecord;
+use spec_calls::INITIAL_ALONE;
 use test_files::HELD;
 use test_files::LARGEST;
 use test_files::SAMPLE;
@@ -100,7 +101,7 @@ fn narrow(label: &[u8], file: &[u8], out: &mut [u8]) {
 
 fn unfold(label: &[u8], file: &[u8], out: &mut [u8]) {
     print_label(label);
-    let answer = call_unfold::unfold(file, out);
+    let answer = call_unfold::unfold(file, INITIAL_ALONE, out);
     print_moved(answer, out);
 }
 

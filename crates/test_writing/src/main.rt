@@ -3,6 +3,7 @@
 use call_write::Writing;
 use relation::Relation;
 use spec_calls::ABSENT;
+use spec_calls::INITIAL_ALONE;
 use spec_calls::Options;
 use spec_calls::Row;
 use test_damaged::write_damaged;
@@ -37,7 +38,10 @@ struct Asked {
 // Returns row `place` of the journal after a check of `file` over `lent` rows.
 fn row_at(file: &[u8], lent: usize, place: usize) -> Row {
     let mut run = [0u8; 8];
-    let options = Options { budget: BUDGET };
+    let options = Options {
+        budget: BUDGET,
+        starts: INITIAL_ALONE,
+    };
     let told = host_check::check_and_write(file, lent, Row::blank(), options, place, &mut run);
     told.sample
 }
@@ -134,7 +138,10 @@ fn written(file: &[u8], place: usize, row: Row, asked: Asked, buffer: &mut [u8])
         return write_damaged(
             file,
             asked.lent,
-            Options { budget: BUDGET },
+            Options {
+                budget: BUDGET,
+                starts: INITIAL_ALONE,
+            },
             place,
             row,
             asked.used,
@@ -145,7 +152,10 @@ fn written(file: &[u8], place: usize, row: Row, asked: Asked, buffer: &mut [u8])
     write_damaged(
         file,
         asked.lent,
-        Options { budget: BUDGET },
+        Options {
+            budget: BUDGET,
+            starts: INITIAL_ALONE,
+        },
         place,
         row,
         asked.used,

@@ -1,4 +1,4 @@
-//! Document 01, with C-11, C-12 and C-14 to C-17 of document 02, in plain Rust: reading, judging, the check in its working order, run writing,
+//! Document 01, with C-11, C-12 and C-14 to C-18 of document 02, in plain Rust: reading, judging, the check in its working order, run writing,
 //! the recognizing of runs, the listing of a sheet's gaps and doubles, and the moving and unfolding of sixteen-byte records.
 //!
 //! It is written from the papers alone and shares nothing with the proved library. The tests of the crate `bolfrega` compare
@@ -31,8 +31,11 @@ pub use file::{read, Body, Plan, Refusal, Rule, Symbol, FIRST_REMARK};
 pub use gaps::list;
 pub use judging::judge;
 pub use order::{search, Answer, Row, Search, Verdict, ABSENT};
-pub use wide::{narrow, unfold, widen};
+pub use wide::{narrow, unfold, unfold_from, widen};
 pub use writing::write_run;
+
+/// The set of procedure 0 alone. A set of procedures is a word, bit p for procedure p (C-18).
+pub const INITIAL: u64 = 1;
 
 /// The most rows that a journal may have.
 pub const MOST_ROWS: usize = 4_096;
@@ -48,6 +51,8 @@ pub struct Checked {
 /// The row of a broken answer, and what became of its run.
 #[derive(Clone, Copy, Debug, PartialEq, Eq)]
 pub struct Broken {
+    /// The procedure of the row: the member whose run is turned away.
+    pub procedure: u8,
     pub row: u16,
     pub pairs: u32,
     /// The row's length field: 65,535 means that or more.
@@ -56,13 +61,18 @@ pub struct Broken {
     pub written: Result<usize, Refusal>,
 }
 
-/// Checks a file with a journal of `rows` rows, and writes the run of a broken answer to `buffer`.
+/// Checks a file for procedure 0 alone, with a journal of `rows` rows, and writes the run of a broken answer to `buffer`.
 pub fn check(file: &[u8], rows: usize, budget: u64, buffer: &mut [u8]) -> Result<Checked, Refusal> {
+    check_from(file, INITIAL, rows, budget, buffer)
+}
+
+/// Checks a file for a set of starting procedures, with a journal of `rows` rows, and writes the run of a broken answer to `buffer`.
+pub fn check_from(file: &[u8], starts: u64, rows: usize, budget: u64, buffer: &mut [u8]) -> Result<Checked, Refusal> {
     let plan = read(file)?;
     if rows == 0 || rows > MOST_ROWS {
         return Err(Refusal::new(8));
     }
-    let found = search(&plan, rows, budget);
+    let found = search(&plan, starts, rows, budget);
     let broken = (found.answer.verdict == Verdict::Broken).then(|| show(&plan, &found, buffer));
     Ok(Checked {
         answer: found.answer,
@@ -75,6 +85,7 @@ fn show(plan: &Plan, found: &Search, buffer: &mut [u8]) -> Broken {
     let row = found.answer.row;
     let kept = &found.rows[usize::from(row)];
     Broken {
+        procedure: kept.procedure,
         row,
         pairs: kept.effect.pairs(),
         length: kept.length,

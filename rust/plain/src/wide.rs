@@ -2,6 +2,7 @@
 
 use crate::file::{read, Refusal, FIRST_REMARK, LAST_CODE, LAST_PROCEDURE, LAST_STAGE, LAST_SYMBOL};
 use crate::file::{FINISHING, MOST_MOVES, MOST_RECORDS, MOST_RULES, MOVE, RECORD, RULE};
+use crate::INITIAL;
 
 const WIDE_RECORD: usize = 16;
 const LONGEST_BODY: u8 = 12;
@@ -29,11 +30,18 @@ pub fn narrow(file: &[u8], out: &mut [u8]) -> Result<usize, Refusal> {
     put(&front_halves(&records), out)
 }
 
-/// Unfolds a file of sixteen-byte records. Writes the result to the front of `out` and returns its length.
+/// Unfolds a file of sixteen-byte records for procedure 0 alone. Writes the result to the front of `out` and returns its length.
 pub fn unfold(file: &[u8], out: &mut [u8]) -> Result<usize, Refusal> {
+    unfold_from(file, INITIAL, out)
+}
+
+/// Unfolds a file of sixteen-byte records for a set of starting procedures, which count as in use (C-18). Writes the result to the front of
+/// `out` and returns its length.
+pub fn unfold_from(file: &[u8], starts: u64, out: &mut [u8]) -> Result<usize, Refusal> {
     let records = read_wide(file)?;
     let (rules, others): (Vec<&[u8]>, Vec<&[u8]>) = records.into_iter().partition(|record| record[0] == RULE);
-    let highest = rules.iter().flat_map(|rule| in_use(rule)).max();
+    let members = (0..=LAST_PROCEDURE).filter(|procedure| starts >> procedure & 1 == 1);
+    let highest = rules.iter().flat_map(|rule| in_use(rule)).chain(members).max();
     let free = highest.map_or(0, |highest| highest + 1);
     let longer = |rule: &&[u8]| body(rule).len().saturating_sub(LONGEST_OLD_BODY);
     let needed: usize = rules.iter().map(longer).sum();

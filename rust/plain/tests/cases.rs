@@ -1,6 +1,7 @@
 //! The cases of document 01, so that the plain implementation is tested where there is no proved library.
 
-use plain::{check, judge, narrow, read, unfold, widen, Answer, Refusal, Verdict, ABSENT, FIRST_REMARK};
+use plain::{check, check_from, judge, narrow, read, unfold, unfold_from, widen};
+use plain::{Answer, Refusal, Verdict, ABSENT, FIRST_REMARK};
 
 const PLAN_A: &[u8] = include_bytes!("../../../samples/plan-a.plan");
 const PLAN_B: &[u8] = include_bytes!("../../../samples/plan-b.plan");
@@ -105,4 +106,48 @@ fn sixteen_byte_records() {
     assert_eq!(out[..64], *PLAN_A);
     assert_eq!(unfold(&wide, &mut out), Ok(64));
     assert_eq!(out[..64], *PLAN_A);
+}
+
+/// A set of procedures as a word.
+fn set(procedures: &[u8]) -> u64 {
+    procedures.iter().fold(0, |set, procedure| set | 1 << procedure)
+}
+
+#[test]
+fn several_starting_procedures() {
+    let mut buffer = [9; 8];
+    let mut told = |file, starts| {
+        let checked = check_from(file, starts, 1_024, 1_000_000, &mut buffer).unwrap();
+        (checked.answer, checked.broken.map(|broken| broken.procedure))
+    };
+    // Procedure 0 alone: as ever. Procedure 1 gives nothing, and stage 0 is not finishing.
+    assert_eq!(told(PLAN_A, set(&[0])), (said(Verdict::Holds, 12, 4, 4), None));
+    assert_eq!(told(PLAN_A, set(&[1])), (said(Verdict::Broken, 1, 1, 1), Some(1)));
+    assert_eq!(told(PLAN_A, set(&[0, 2])), (said(Verdict::Broken, 4, 3, 2), Some(2)));
+    // Procedure 63 has no rule.
+    assert_eq!(told(PLAN_A, set(&[0, 63])), (said(Verdict::Empty, 12, 4, 4), None));
+    assert_eq!(told(PLAN_A, set(&[63])), (said(Verdict::Empty, 12, 4, 4), None));
+    // With no member it is never broken or empty.
+    assert_eq!(told(PLAN_B, 0).0.verdict, Verdict::Holds);
+    assert_eq!(told(&[], 0), (said(Verdict::Holds, 0, 0, 1), None));
+    assert_eq!(told(&[], u64::MAX), (said(Verdict::Empty, 0, 0, 1), None));
+}
+
+#[test]
+fn members_are_in_use() {
+    let wide = [1, 0, 3, 5, 6, 7, 0, 0, 0, 0, 0, 0, 0, 0, 0, 0];
+    let mut out = [0; 16];
+    for (starts, chain) in [(set(&[]), 1), (set(&[0]), 1), (set(&[5]), 6), (set(&[2, 62]), 63)] {
+        assert_eq!(unfold_from(&wide, starts, &mut out), Ok(16));
+        assert_eq!(out, [1, 0, 2, 5, 128 + chain, 0, 0, 0, 1, chain, 2, 6, 7, 0, 0, 0]);
+    }
+    assert_eq!(
+        unfold_from(&wide, set(&[63]), &mut out),
+        Err(Refusal { number: 18, record: 0 })
+    );
+    // No chain procedure is needed.
+    assert_eq!(
+        unfold_from(&[1, 0, 2, 5, 6, 0, 0, 0, 0, 0, 0, 0, 0, 0, 0, 0], u64::MAX, &mut out),
+        Ok(8)
+    );
 }

@@ -3,8 +3,10 @@
 
 #![allow(dead_code)] // each test file uses some of these
 
-use bolfrega::raw::{self, Details};
-use bolfrega::{Answer, Judgement, Refusal, Verdict};
+pub mod rules;
+
+use bolfrega::raw::{self, Details, DetailsFrom};
+use bolfrega::{Answer, AnswerFrom, Judgement, Refusal, Starts, Verdict};
 use plain::making::{Making, Numbers};
 use plain::FIRST_REMARK;
 
@@ -97,42 +99,62 @@ pub enum Conversion {
     Widen,
     Narrow,
     Unfold,
+    UnfoldFrom(Starts),
+}
+
+impl Conversion {
+    fn plainly(self, file: &[u8], out: &mut [u8]) -> Result<usize, plain::Refusal> {
+        match self {
+            Conversion::Widen => plain::widen(file, out),
+            Conversion::Narrow => plain::narrow(file, out),
+            Conversion::Unfold => plain::unfold(file, out),
+            Conversion::UnfoldFrom(starts) => plain::unfold_from(file, starts.bits(), out),
+        }
+    }
+
+    fn raw(self, file: &[u8], record: &mut u64, length: &mut u64, out: &mut [u8]) -> u64 {
+        match self {
+            Conversion::Widen => raw::widen(file, record, length, out),
+            Conversion::Narrow => raw::narrow(file, record, length, out),
+            Conversion::Unfold => raw::unfold(file, record, length, out),
+            Conversion::UnfoldFrom(starts) => raw::unfold_from(file, starts.bits(), record, length, out),
+        }
+    }
+
+    fn into(self, file: &[u8], out: &mut [u8]) -> Result<usize, Refusal> {
+        match self {
+            Conversion::Widen => bolfrega::widen_into(file, out),
+            Conversion::Narrow => bolfrega::narrow_into(file, out),
+            Conversion::Unfold => bolfrega::unfold_into(file, out),
+            Conversion::UnfoldFrom(starts) => bolfrega::unfold_from_into(file, starts, out),
+        }
+    }
+
+    fn whole(self, file: &[u8]) -> Result<Vec<u8>, Refusal> {
+        match self {
+            Conversion::Widen => bolfrega::widen(file),
+            Conversion::Narrow => bolfrega::narrow(file),
+            Conversion::Unfold => bolfrega::unfold(file),
+            Conversion::UnfoldFrom(starts) => bolfrega::unfold_from(file, starts),
+        }
+    }
+
+    /// The room that always suffices.
+    fn most(self) -> usize {
+        match self {
+            Conversion::Widen => bolfrega::WIDE_BYTES,
+            _ => bolfrega::FILE_BYTES,
+        }
+    }
 }
 
 /// Converts a file, over an output of `room` bytes that hold something else, with some more behind it. Returns the code, the record and the
 /// result, which is empty if the call is refused.
 pub fn converting(call: Conversion, file: &[u8], room: usize) -> (u64, u64, Vec<u8>) {
-    type Plainly = fn(&[u8], &mut [u8]) -> Result<usize, plain::Refusal>;
-    type Raw = fn(&[u8], &mut u64, &mut u64, &mut [u8]) -> u64;
-    type Whole = fn(&[u8]) -> Result<Vec<u8>, Refusal>;
-    type Into = fn(&[u8], &mut [u8]) -> Result<usize, Refusal>;
-    let (plainly, raw, whole, into, most): (Plainly, Raw, Whole, Into, usize) = match call {
-        Conversion::Widen => (
-            plain::widen,
-            raw::widen,
-            bolfrega::widen,
-            bolfrega::widen_into,
-            bolfrega::WIDE_BYTES,
-        ),
-        Conversion::Narrow => (
-            plain::narrow,
-            raw::narrow,
-            bolfrega::narrow,
-            bolfrega::narrow_into,
-            bolfrega::FILE_BYTES,
-        ),
-        Conversion::Unfold => (
-            plain::unfold,
-            raw::unfold,
-            bolfrega::unfold,
-            bolfrega::unfold_into,
-            bolfrega::FILE_BYTES,
-        ),
-    };
     let what = || format!("{call:?} over {room} bytes: {file:?}");
 
     let mut expected = patterned(room + BEHIND);
-    let answer = plainly(file, &mut expected[..room]).map_err(numbers);
+    let answer = call.plainly(file, &mut expected[..room]).map_err(numbers);
     let (code, record) = answer.map_or_else(|refused| refused, |_| (115, 0));
     let length = answer.unwrap_or(0);
     // Whatever the result is, all bytes past it are as they were.
@@ -140,19 +162,23 @@ pub fn converting(call: Conversion, file: &[u8], room: usize) -> (u64, u64, Vec<
     assert!(expected[length..] == before[length..], "past the result of {}", what());
 
     let (mut their_record, mut their_length, mut out) = (BEFORE, BEFORE, patterned(room + BEHIND));
-    let their_code = raw(file, &mut their_record, &mut their_length, &mut out[..room]);
+    let their_code = call.raw(file, &mut their_record, &mut their_length, &mut out[..room]);
     let theirs = (their_code, their_record, their_length);
     assert_eq!(theirs, (code, record, length as u64), "{}", what());
     assert!(out == expected, "the output after {}", what());
 
     let mut third = patterned(room + BEHIND);
-    assert_eq!(into(file, &mut third[..room]).map_err(shown), answer, "{}", what());
+    assert_eq!(call.into(file, &mut third[..room]).map_err(shown), answer, "{}", what());
     assert!(third == expected, "the output after {}", what());
-    if room >= most {
+    if room >= call.most() {
         let result = answer.map(|length| expected[..length].to_vec());
-        assert_eq!(whole(file).map_err(shown), result, "{}", what());
+        assert_eq!(call.whole(file).map_err(shown), result, "{}", what());
     }
     expected.truncate(length);
+    if call == Conversion::Unfold {
+        let from_initial = converting(Conversion::UnfoldFrom(Starts::INITIAL), file, room);
+        assert!(from_initial == (code, record, expected.clone()), "{}", what());
+    }
     (code, record, expected)
 }
 
@@ -177,10 +203,11 @@ pub fn with_every_room(call: Conversion, file: &[u8]) -> (u64, u64, Vec<u8>) {
     (code, record, result)
 }
 
-/// Checks a file, with a run buffer of `room` bytes. Returns the code, the details and the buffer.
+/// Checks a file for the set of procedure 0 alone: without and with naming it. The run buffer has `room` bytes. Returns the code, the details
+/// and the buffer.
 pub fn checking(file: &[u8], rows: usize, budget: u64, room: usize) -> (u64, Details, Vec<u8>) {
-    let mut buffer = patterned(room);
-    let (code, details) = plainly(file, rows, budget, &mut buffer);
+    let (code, [details @ .., procedure], buffer) = checking_from(file, Starts::INITIAL, rows, budget, room);
+    assert_eq!(procedure, 0, "{file:?}");
 
     let (mut their_details, mut their_buffer) = ([BEFORE; 8], patterned(room));
     let their_code = raw::check(file, rows, budget, &mut their_details, &mut their_buffer);
@@ -192,6 +219,33 @@ pub fn checking(file: &[u8], rows: usize, budget: u64, room: usize) -> (u64, Det
     let answer = bolfrega::check(file, rows, budget, &mut third);
     assert_eq!(spelled(&answer), (code, details), "{}", what());
     assert!(third == buffer, "the buffer after {}", what());
+    (code, details, buffer)
+}
+
+/// Checks a file for a set of starting procedures, with a run buffer of `room` bytes and some more behind it. Returns the code, the details and
+/// the buffer.
+pub fn checking_from(file: &[u8], starts: Starts, rows: usize, budget: u64, room: usize) -> (u64, DetailsFrom, Vec<u8>) {
+    let mut buffer = patterned(room + BEHIND);
+    let (code, details) = plainly(file, starts, rows, budget, &mut buffer[..room]);
+
+    let (mut their_details, mut their_buffer) = ([BEFORE; 9], patterned(room + BEHIND));
+    let their_code = raw::check_from(
+        file,
+        starts.bits(),
+        rows,
+        budget,
+        &mut their_details,
+        &mut their_buffer[..room],
+    );
+    let what = || format!("checking from {starts:?} with {rows} rows, budget {budget}, {room} bytes: {file:?}");
+    assert_eq!((their_code, their_details), (code, details), "{}", what());
+    assert!(their_buffer == buffer, "the buffer after {}", what());
+
+    let mut third = patterned(room + BEHIND);
+    let answer = bolfrega::check_from(file, starts, rows, budget, &mut third[..room]);
+    assert_eq!(spelled_from(&answer), (code, details), "{}", what());
+    assert!(third == buffer, "the buffer after {}", what());
+    buffer.truncate(room);
     (code, details, buffer)
 }
 
@@ -207,22 +261,23 @@ pub fn patterned(room: usize) -> Vec<u8> {
 }
 
 /// What the library is to return and fill in, by the plain implementation.
-fn plainly(file: &[u8], rows: usize, budget: u64, buffer: &mut [u8]) -> (u64, Details) {
-    let checked = match plain::check(file, rows, budget, buffer) {
+fn plainly(file: &[u8], starts: Starts, rows: usize, budget: u64, buffer: &mut [u8]) -> (u64, DetailsFrom) {
+    let checked = match plain::check_from(file, starts.bits(), rows, budget, buffer) {
         Ok(checked) => checked,
         Err(refusal) => {
             let (number, record) = numbers(refusal);
-            return (number, [record, 0, 0, 0, 0, 0, 0, 0]);
+            return (number, [record, 0, 0, 0, 0, 0, 0, 0, 0]);
         }
     };
     let said = checked.answer;
-    let (pairs, length, refused) = match checked.broken {
+    let (pairs, length, refused, procedure) = match checked.broken {
         Some(broken) => (
             broken.pairs,
             broken.length,
             broken.written.map_or_else(|refusal| refusal.number, |_| 0),
+            broken.procedure,
         ),
-        None => (0, 0, 0),
+        None => (0, 0, 0, 0),
     };
     let code = match said.verdict {
         plain::Verdict::Holds => 100,
@@ -233,7 +288,8 @@ fn plainly(file: &[u8], rows: usize, budget: u64, buffer: &mut [u8]) -> (u64, De
     };
     let counts = [0, said.joins, said.used as u64, said.pass.into()];
     let shown = [said.row.into(), pairs.into(), length.into(), refused.into()];
-    (code, [counts, shown].concat().try_into().unwrap())
+    let details = [&counts[..], &shown, &[procedure.into()]].concat();
+    (code, details.try_into().unwrap())
 }
 
 /// The code and the details that an answer of the crate's own types came from.
@@ -257,6 +313,15 @@ fn spelled(answer: &Result<Answer, Refusal>) -> (u64, Details) {
         other => panic!("{other:?}"),
     };
     (code, [0, answer.joins, answer.used, answer.pass, row, pairs, length, refused])
+}
+
+/// The same of an answer from several procedures.
+fn spelled_from(told: &Result<AnswerFrom, Refusal>) -> (u64, DetailsFrom) {
+    let (code, details) = spelled(&told.as_ref().map(|told| told.answer).map_err(|&refusal| refusal));
+    let procedure = told.as_ref().ok().and_then(|told| told.procedure);
+    assert_eq!(procedure.is_some(), code == 101);
+    let details = [&details[..], &[procedure.unwrap_or(0).into()]].concat();
+    (code, details.try_into().unwrap())
 }
 
 fn numbers(refusal: plain::Refusal) -> (u64, u64) {

@@ -19,8 +19,8 @@ open-pass-requires c κs =
     let a = d .args in
     may-open (a .file .now) (settingsOf (a .rows) (a .options)) _ _ _ _ (c .before .before .before .before .before .rule-table .ensures) _ (d .pre) _ (c .before .before .before .before .wait2 .ensures)
 
-start-linked-requires : tie.Need-start-linked-requires
-start-linked-requires c κs =
+all-linked-requires : tie.Need-all-linked-requires
+all-linked-requires c κs =
     let d = c .before .before .before .before .before .before .before .before .before .before .before .before .before .before .before .before .before .before .before in
     search (needs, ap length (d .pre) ∙ length-replicate tableCells end)
 
@@ -29,7 +29,7 @@ returns-2 c =
     let d = c .before .before .before .before .before .before .before .before .before .before .before .before .before .before .before .before .before .before .before .before .before in
     let a = d .args in
     starts (a .file .now) (settingsOf (a .rows) (a .options)) _ (c .before .before .before .before .before .before .before .before .before .before .before .before .before .before .letter-relations .ensures) _ (c .before .before .before .before .before .before .before .before .before .before .before .before .before .final-states .ensures)
-    _ _ _ (c .before .before .before .before .before .before .before .before .before .before .before .rule-table .ensures) _ _ (d .pre) _ (c .before .before .before .before .before .before .before .before .before .before .wait2 .ensures) _ (c .before .before .before .before .before .open-pass .ensures) _ (c .before .start-linked .ensures) _ (c .stand-or-finish .ensures) _
+    _ _ _ (c .before .before .before .before .before .before .before .before .before .before .before .rule-table .ensures) _ _ (d .pre) _ (c .before .before .before .before .before .before .before .before .before .before .wait2 .ensures) _ (c .before .before .before .before .before .open-pass .ensures) _ (c .before .all-linked .ensures) _ (c .stand-or-finish .ensures) _
     (c .before .before .before .before .before .before .before .before .before .before .before .before .before .before .before .before .before .before .refusal-for .ensures) (c .before .before .before .before .before .before .before .before .before .before .before .before .before .before .before .before .if1 .left)
 
 pub prepare-spec : {M : Type 1} → statement M
@@ -44,7 +44,7 @@ prepare-spec =
     (λ c κs. search needs)
     (λ c κs. search needs)
     open-pass-requires
-    start-linked-requires
+    all-linked-requires
     (λ c κs. search needs)
     (λ c. search needs)
     returns-2)

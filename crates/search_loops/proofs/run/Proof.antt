@@ -147,7 +147,7 @@ module _ {M : Type 1} (𝓤 : URA M) (H : Heap 𝓤) (A : Atoms 𝓤) (W : Given
     module _ (r : State) (t′ : List ℕ) (h₃ : Advances rules t (x .s) w l t′ r) where
       advanced : Running letters rules s₀ j₀ r j t′ × (candidatesLeft r < candidatesLeft (x .s))
       advanced =
-          let a = h₃ (problemIn (s₀ .terms .finals) letters rules) (problem-laws (s₀ .terms .finals) letters rules) s₀ j₀ j (candidateOf c) considered-here in
+          let a = h₃ (problemIn (s₀ .terms .starts) (s₀ .terms .finals) letters rules) (problem-laws (s₀ .terms .starts) (s₀ .terms .finals) letters rules) s₀ j₀ j (candidateOf c) considered-here in
           (record { all = x .running .all; search = a .0 }, a .1)
 
       next : Means state r → length j ≡ length j₀ → length t′ ≡ length t₀ → X

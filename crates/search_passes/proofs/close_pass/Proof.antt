@@ -7,7 +7,7 @@ use lib.Seq.{length-take-le}
 use borrow.Author.Needs.{needs}
 use Rattle.search_laws.specs.Contracts.{Answers}
 use Rattle.search_laws.specs.Running.{Onward}
-use Rattle.search_laws.specs.States.{startLinked, finished}
+use Rattle.search_laws.specs.States.{allLinked, finished}
 use Rattle.search_laws.specs.Walks.{passIn}
 use Rattle.search_laws.specs.declared.Outcome.the-variants.{Going}
 use Rattle.search_laws.specs.Problems.{withRules}
@@ -25,8 +25,8 @@ returns c P L B j₀ first j₁ j z rows y h x g =
     let rs = take (s .args .state .rules) (s .args .rules .now) in
     let Q = withRules P rs in
     let n : st .rules ≡ length rs = sym (length-take-le (st .rules) (s .args .rules .now) (s .pre .opens .count)) in
-    rw (c .finish .ensures, c .before .start-linked .ensures)
-    (subst (λ (b : Terms). Onward Q B j₀ (s .args .counts) (finished st b (s .args .counts) (startLinked (s .args .table .now))) j (s .args .table .now)) (sym (y .terms))
+    rw (c .finish .ensures, c .before .all-linked .ensures)
+    (subst (λ (b : Terms). Onward Q B j₀ (s .args .counts) (finished st b (s .args .counts) (allLinked (b .starts) (s .args .table .now))) j (s .args .table .now)) (sym (y .terms))
     (close-last Q B j₀ st rows n (y .at-pass) (y .before) h (subst (λ (b : Terms). Answers (Q .rowOf) B (passIn Q b first j₁) first j₁ j (Going (s .args .counts))) (y .terms) x) (z .limit) (s .args .table .now) g (c .before .before .before .if1 .taken)))
 
 asked : tie.Need-open-pass-requires
@@ -44,7 +44,7 @@ returns-2 c P L B j₀ first j₁ j z rows y h x g =
     let w = s .args .counts in
     let more : w .added ≡ 0 → ⊥ = c .before .before .before .before .before .before .before .before .if1 .left in
     let gave = subst (λ (b : Terms). Answers (Q .rowOf) B (passIn Q b first j₁) first j₁ j (Going w)) (y .terms) x in
-    rw (c .stand-or-finish .ensures, c .before .start-linked2 .ensures)
+    rw (c .stand-or-finish .ensures, c .before .all-linked2 .ensures)
     (onward-from Q B j₀ st rows n (le-refl (w .joins))
     (c .before .before .before .before .before .open-pass .ensures P L B j₀ j (y .pass + 1) (first .used) st refl z rows (close-again Q B j₀ st rows n (y .at-pass) (y .before) h gave more)
     (c .before .before .before .before .before .before .before .next-pass .ensures ∙ ap (λ (b : Terms). nextPass b (w .used)) (y .terms))

@@ -6,7 +6,7 @@ use lib.Seq.{length-take-le}
 use borrow.Author.Needs.{needs}
 use Rattle.search_laws.specs.Steps.{PassesOver}
 use Rattle.search_laws.specs.Running.{Onward}
-use Rattle.search_laws.specs.States.{startLinked, opening}
+use Rattle.search_laws.specs.States.{allLinked, opening}
 use Rattle.search_laws.specs.Problems.{withRules}
 use Rattle.search_laws.specs.RunningLaws.{opens-place, open-reached}
 use Rattle.search_state.specs.Layout.{rowCells}
@@ -28,7 +28,7 @@ returns c P L B j₀ j k m st count z rows a e known g =
     let s = c .before .before .before .before .before .before .before .before .before in
     let rs = take (s .args .n) (s .args .rules .now) in
     let Q = withRules P rs in
-    subst (λ (b : Terms). Onward Q B j₀ (s .args .counts) (opening st b (o .result) (startLinked (gathered .last .0))) j (gathered .last .0)) (sym e)
+    subst (λ (b : Terms). Onward Q B j₀ (s .args .counts) (opening st b (o .result) (allLinked (b .starts) (gathered .last .0))) j (gathered .last .0)) (sym e)
     (open-reached Q B j₀ st rows (count ∙ sym (length-take-le (s .args .n) (s .args .rules .now) (s .pre .count))) L z a m (subst (λ (b : Terms). b .old ≤ rowCells) e (s .pre .old)) known g (gathered .ensures) (p .result) (p .ensures)
     (subst (λ (b : Terms). PassesOver rs (gathered .last .0) b (record { counts = s .args .counts; place = p .result }) (o .result)) e (o .ensures)))
 

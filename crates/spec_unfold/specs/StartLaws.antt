@@ -56,6 +56,19 @@ member-below set p l h = members-below set nonterminals p l h
 pub least-limit : (set : ℕ) → leastFor set ≤ nonterminals
 least-limit set = members-limit set nonterminals
 
+-- and it is no higher than that takes
+members-least : (set m n : ℕ) → ((p : ℕ) → p < m → bit set p ≡ true → p < n) → aboveMembers set m ≤ n
+unfolding aboveMembers
+members-least set zero n h = omega arith
+members-least set (suc m) n h = by (bit set m) refl (members-least set m n (λ p l. h p (omega (arith, l))))
+  where
+    by : (b : Bool) → bit set m ≡ b → aboveMembers set m ≤ n → cond b (suc m) (aboveMembers set m) ≤ n
+    by true e i = h m (omega arith) e
+    by false e i = i
+
+pub least-exactly : (set n : ℕ) → ((p : ℕ) → p < nonterminals → bit set p ≡ true → p < n) → leastFor set ≤ n
+least-exactly set n h = members-least set nonterminals n h
+
 -- ---- the least number, procedure by procedure
 
 pub above-none : (set : ℕ) → 0 ≡ aboveMembers set 0

@@ -34,6 +34,15 @@ pub fn print_byte(x: u8) {
     print_number(x as u64);
 }
 
+// Prints each of `bytes` as `print_byte` does.
+pub fn print_bytes(bytes: &[u8]) {
+    let mut i: usize = 0;
+    while i < bytes.len() {
+        print_byte(bytes[i]);
+        i += 1;
+    }
+}
+
 pub fn print_label(label: &[u8]) {
     print(label);
     print(b": ");

@@ -16,7 +16,7 @@ use test_files::HELD;
 use test_files::SAMPLE;
 use test_files::front;
 use test_files::print;
-use test_files::print_byte;
+use test_files::print_bytes;
 use test_files::print_label;
 use test_files::print_number;
 use test_files::print_refused;
@@ -42,14 +42,6 @@ const PLAN_A: usize = 64;
 const EACH: usize = 528;
 
 // ---- printing
-
-fn print_bytes(bytes: &[u8]) {
-    let mut i: usize = 0;
-    while i < bytes.len() {
-        print_byte(bytes[i]);
-        i += 1;
-    }
-}
 
 // Prints the verdict with this `code`, or the number that refuses the check.
 fn print_code(code: u64) {

@@ -9,7 +9,7 @@ use test_files::SAMPLE;
 use test_files::fill;
 use test_files::front;
 use test_files::print;
-use test_files::print_byte;
+use test_files::print_bytes;
 use test_files::print_label;
 use test_files::print_number;
 use test_files::print_refused;
@@ -27,14 +27,6 @@ const ROOM: usize = 2064;
 const OLD: u8 = 255;
 
 // ---- printing
-
-fn print_bytes(bytes: &[u8]) {
-    let mut i: usize = 0;
-    while i < bytes.len() {
-        print_byte(bytes[i]);
-        i += 1;
-    }
-}
 
 fn print_kept(out: &[u8]) {
     let mut kept: usize = 0;

@@ -214,9 +214,14 @@ uint64_t bolfrega_unfold_from(const uint8_t *file, size_t file_length, uint64_t 
 /*
  * Checks a file's plan, the runs of procedure 0, against its order sheet, with a journal of `rows` rows and a budget of `budget` joins.
  *
- * It keeps its journal (352 KiB) and its tables (about 185 KiB) on the stack, and writing a run takes up to 576 KiB more (144 bytes for
+ * It keeps its journal (352 KiB) and its tables (about 345 KiB) on the stack, and writing a run takes up to 576 KiB more (144 bytes for
  * each row on the way down): a thread that calls it needs a stack of 1.5 MiB to be on the safe side. (The main thread of a Linux program
  * has 8 MiB.)
+ *
+ * How long it takes, as measured on one core of a server at 2.1 GHz (bench/README.md): some 15 microseconds for any file, most of them for
+ * clearing its journal and tables; then 10 to 80 nanoseconds for each join, and where thousands of rows of one procedure are looked through
+ * for most joins, up to a microsecond. Joins of rows that were there in the pass before are only counted: 62 thousand million of them took
+ * less than a second. So a budget of 1,000,000 joins ends a call within a second, and the files that we measure within 40 milliseconds.
  *
  * Returns, and sets all eight details:
  * - 1 to 7 or 12 if the file is refused; else 8 if `rows` is 0 or above 4,096. The record is that of bolfrega_refusal (0 for 1, 2 and 8), and
@@ -236,7 +241,7 @@ uint64_t bolfrega_check(const uint8_t *file, size_t file_length, size_t rows, ui
  * Checks a file's plan as bolfrega_check does, for the runs of every member of `starts`. With no member it never returns BOLFREGA_BROKEN or
  * BOLFREGA_EMPTY.
  *
- * It needs the stack of bolfrega_check.
+ * It needs the stack and the time of bolfrega_check.
  *
  * Returns, and sets all nine details:
  * - 1 to 7 or 12 if the file is refused; else 8 if `rows` is 0 or above 4,096. The record is that of bolfrega_refusal (0 for 1, 2 and 8), and

@@ -55,9 +55,15 @@
 //!
 //! # Stack
 //!
-//! [`check`], like [`check_from`], keeps its journal (352 KiB) and its tables (about 185 KiB) on the stack, and allocates nothing. Writing a
+//! [`check`], like [`check_from`], keeps its journal (352 KiB) and its tables (about 345 KiB) on the stack, and allocates nothing. Writing a
 //! run takes up to 576 KiB more (144 bytes for each row on the way down). A thread that calls it needs 1.5 MiB of stack to be on the safe
 //! side; Rust's threads have 2 MiB unless told otherwise.
+//!
+//! # Time
+//!
+//! As measured on one core of a server at 2.1 GHz, [`check`] takes some 15 microseconds for any file, then 10 to 80 nanoseconds for each join,
+//! and where thousands of rows of one procedure are looked through for most joins, up to a microsecond. Joins of rows that were there in the
+//! pass before are only counted. A budget of 1,000,000 joins ends a call within a second.
 
 #![deny(unsafe_code)]
 #![warn(missing_docs)]
@@ -190,7 +196,7 @@ pub fn judge(file: &[u8], run: &[u8]) -> Result<Judgement, Refusal> {
 /// with any other answer and with a refusal. It refuses a file with 1 to 7 or 12, and then with 8 a number of rows that is 0 or above
 /// [`MOST_ROWS`]. More rows and a larger budget never change an answer that is `Holds`, `Broken` or `Empty`.
 ///
-/// It keeps about 540 KiB on the stack ([see above](crate#stack)).
+/// It keeps about 700 KiB on the stack ([see above](crate#stack)).
 ///
 /// ```
 /// use bolfrega::{check, Refusal, Verdict};

@@ -84,7 +84,7 @@ pub struct AnswerFrom<'b> {
 /// no run; `Holds`: each has one, and the sheet accepts every run of every member. Without a member ([`Starts::NONE`]) no check is broken or
 /// empty: it holds, unless the rows or the joins run out first.
 ///
-/// It refuses what `check` refuses, and keeps about 540 KiB on the stack ([see above](crate#stack)).
+/// It refuses what `check` refuses, and keeps about 700 KiB on the stack ([see above](crate#stack)).
 ///
 /// ```
 /// use bolfrega::{check_from, Starts, Verdict};

@@ -1,4 +1,6 @@
 // The inclusion check on a file. It asks nothing of its caller; a refused call does not change the journal.
+use relation::Letter;
+use search_cover::NEAR_WORDS;
 use search_laws::Answer;
 use search_state::CELLS;
 use search_state::END_CELL;
@@ -38,6 +40,7 @@ pub fn check(file: &[u8], journal: &mut [Row], options: Options) -> Checked
     let mut letters: Letters = [0; LETTER_WORDS];
     let mut rules = [[0u8; 4]; RULE_LIMIT];
     let mut table = [END_CELL; CELLS];
+    let mut near: [Letter; NEAR_WORDS] = [0; NEAR_WORDS];
     let rows = journal.len();
     let start = call_check_start::prepare(
         file,
@@ -47,6 +50,13 @@ pub fn check(file: &[u8], journal: &mut [Row], options: Options) -> Checked
         rows,
         options,
     );
-    let last = search_loops::run(journal, &mut table, &letters, &rules, start.state);
+    let last = search_loops::run(
+        journal,
+        &mut table,
+        &mut near,
+        &letters,
+        &rules,
+        start.state,
+    );
     as_checked(start.refusal, last)
 }

@@ -8,6 +8,7 @@ pub mod Parts
 pub mod Counting
 pub mod Masks
 pub mod Representation
+pub mod Words
 pub mod Stored
 pub mod StoredLaws
 pub mod Turns

@@ -143,3 +143,35 @@ relations-with f k g i x here elsewhere =
         words-other old (i * relationWords) x relationWords (c * relationWords + a) (λ b l z. n (omega arith))
         ∙ word-at f k c a hc ha
         ∙ ap (λ (y : ℕ). piece wordDigits y a) (sym (elsewhere c n))
+
+-- ---- one relation stored in any table
+
+module _ (table : List ℕ) (i x : ℕ) where
+  pub stored-length : length (withRelation table i x) ≡ length table
+  unfolding withRelation
+  stored-length = length-words table (i * relationWords) x relationWords
+
+  -- an entry before its words, or after them
+  pub stored-outside : (p : ℕ) → ((a : ℕ) → a < relationWords → p ≡ i * relationWords + a → ⊥) → getD (withRelation table i x) p 0 ≡ getD table p 0
+  unfolding withRelation
+  stored-outside p h = words-other table (i * relationWords) x relationWords p h
+
+  -- the relation itself, if it fits its words
+  pub stored-same : (i + 1) * relationWords ≤ length table → x < 2 ^ (states * states) → value (relationIn (withRelation table i x) i) ≡ x
+  unfolding withRelation
+  stored-same room fits =
+      value-in (withRelation table i x) i
+      ∙ pieces-same wordDigits relationWords (λ a. getD (withRelation table i x) (i * relationWords + a) 0) (piece wordDigits x) (λ a l. words-same table (i * relationWords) x relationWords a l (omega (arith, room)))
+      ∙ pieces-of wordDigits relationWords x fits
+
+-- a relation whose words are the same in two tables
+pub value-same : (t t′ : List ℕ) (c : ℕ) → ((a : ℕ) → a < relationWords → getD t (c * relationWords + a) 0 ≡ getD t′ (c * relationWords + a) 0) → value (relationIn t c) ≡ value (relationIn t′ c)
+value-same t t′ c h =
+    value-in t c
+    ∙ pieces-same wordDigits relationWords (λ a. getD t (c * relationWords + a) 0) (λ a. getD t′ (c * relationWords + a) 0) h
+    ∙ sym (value-in t′ c)
+
+-- another relation of the table
+pub stored-other : (table : List ℕ) (i x c : ℕ) → (c ≡ i → ⊥) → value (relationIn (withRelation table i x) c) ≡ value (relationIn table c)
+stored-other table i x c n =
+    value-same (withRelation table i x) table c (λ a l. stored-outside table i x (c * relationWords + a) (λ b m e. n (omega (arith, l, m, e))))

@@ -1,3 +1,5 @@
+pub mod Near
 pub mod Steps
 pub mod Seeking
+pub mod NearLaws
 pub mod SeekLaws

@@ -17,11 +17,11 @@ use Rattle.spec_order.specs.Order as order
 use Rattle.spec_order.specs.Order.{dropped}
 use Rattle.search_state.specs.Layout.{rowCells, tableCells}
 use Rattle.search_order.specs.PlacesLeft.{PassFrom}
+use Rattle.search_spans.specs.Spans.{Measured}
 use Rattle.search_links.specs.Covers.{Covering, withoutEffect}
 use Rattle.search_links.specs.CoverLaws.{covering-links, covering-without}
 use Rattle.search_links.specs.RowLaws.{rows-length}
 use Rattle.search_retire.specs.Clearing.{ClearingEnd as Ending}
-use Rattle.search_cover.specs.SeekLaws.{seek-finds}
 use Rattle.search_cover.specs.Seeking.{Finds}
 use Rattle.search_cover.specs.declared.CoverCursor.{CoverCursor}
 use Rattle.search_state.specs.Fates.{fullIn}
@@ -75,7 +75,7 @@ module _ {E R : Type 0} {P : Problem E R} {rules : RuleBytes} {start : State} {j
   unspent = omega (arith, go .unspent, budget-is)
 
   finds : Finds (P .below) c (firstRows P u (x .before)) u (x .table) l
-  finds = seek-finds (x .found .0) (x .found .1)
+  finds = x .found .finds
 
   cells : length t ≡ tableCells
   cells = by (x .inserted .outcome)
@@ -156,13 +156,14 @@ module _ {E R : Type 0} {P : Problem E R} {rules : RuleBytes} {start : State} {j
       let used = decided-right .0 .room in
       record {
         full = ap (λ (z : Fate). z .full) (x .fate);
-        remember = record { used = omega (arith, room, few); table = cells; above = x .found .0 .slot .0; below = x .found .0 .slot .1; row = finds .row };
+        remember = record { used = omega (arith, room, few); table = cells; above = x .found .slot .0; below = x .found .slot .1; row = finds .row };
         decide = record { used = omega (arith, room, few); joins = unspent; added = omega (arith, go .in-pass .left .adds, go .begun .at-pass .none-added) };
         here = omega (arith, go .here, at .count);
         passes = record {
           table = cells;
           count = omega (arith, at .count, length-take (start .rules) rules);
           old = omega (arith, ap (λ (b : Terms). b .old) (go .begun .terms), go .begun .fits);
+          measured = subst (Measured (s .terms .old)) (sym (x .inserted .lists)) (go .in-pass .measured);
           places = subst₂ (λ (lists : List ℕ) (k : ℕ). PassFrom lists (take k rules) (s .place)) (sym (x .inserted .lists)) (sym rules-same) (go .in-pass .places);
         };
         links = record {
@@ -207,10 +208,12 @@ module _ {E R : Type 0} {P : Problem E R} {rules : RuleBytes} {start : State} {j
   left-is true y n = refl
   left-is false y n = absurd y
 
-  pub stopped-running : (p : Stop) → Right (outcome.Stopped p) → (t′ : List ℕ) → Running P rules start j₀ (stoppedIn s p) j t′ × (candidatesLeft (stoppedIn s p) < candidatesLeft s)
+  pub stopped-running : (p : Stop) → Right (outcome.Stopped p) → (t′ : List ℕ)
+      → Running P rules start j₀ (stoppedIn s p) j t′ × (candidatesLeft (stoppedIn s p) < candidatesLeft s) × (T (stoppedIn s p .going) → stoppedIn s p .counts .used ≡ countsIn (decidedIn s f) .used)
   stopped-running p a t′ = (
     resumes (record { size = x .inserted .size ∙ stands-on (x .running) (x .going) .size; rows = rows-of p; count = count-of p; goes = λ y. absurd (ended-so p y); ends = λ _. stopped-checked p a }),
     subst (λ (n : ℕ). candidatesLeft (stoppedIn s p) < n) (sym (left-is (s .going) (x .going) (s .terms .budget - s .counts .joins))) (none-left p),
+    λ y. absurd (ended-so p y),
   )
     where
       rows-of : (p : Stop) → stoppedIn s p .rows ≡ length j₀
@@ -240,7 +243,8 @@ module _ {E R : Type 0} {P : Problem E R} {rules : RuleBytes} {start : State} {j
       by false false true = refl
       by false false false = refl
 
-  pub going-running : Laws (algebraOf P) → (tn : List ℕ) → Remembers t tn → {w : Counts} → outcome.Going w ≡ became → {t′ : List ℕ} {r : State} → GoesOn P rules tn s w t′ r → Running P rules start j₀ r j t′ × (candidatesLeft r < candidatesLeft s)
+  pub going-running : Laws (algebraOf P) → (tn : List ℕ) → Remembers t tn → {w : Counts} → outcome.Going w ≡ became → {t′ : List ℕ} {r : State} → GoesOn P rules tn s w t′ r
+      → Running P rules start j₀ r j t′ × (candidatesLeft r < candidatesLeft s) × (T (r .going) → r .counts .used ≡ countsIn (decidedIn s f) .used)
   going-running L tn nt {w} e {t′} {r} g =
       let a = decided-right in
       let n : countsIn became .used ≤ rowCells = omega (arith, a .0 .room, limit (x .running) (x .going)) in
@@ -253,6 +257,7 @@ module _ {E R : Type 0} {P : Problem E R} {rules : RuleBytes} {start : State} {j
         resumes (on .stands),
         subst (λ (k : ℕ). candidatesLeft r < k) (sym (left-is (s .going) (x .going) (s .terms .budget - s .counts .joins)))
             (less (r .going) (r .terms .budget) (r .counts .joins) (on .budget ∙ sym budget-is) (omega (arith, on .joins, m))),
+        λ _. on .used ∙ ap (λ (o : Outcome). countsIn o .used) (e ∙ sym decided-so),
       )
     where
       less : (b : Bool) (B n : ℕ) → B ≡ s .terms .budget → s .counts .joins < n → cond b (suc (B - n)) 0 < suc (s .terms .budget - s .counts .joins)

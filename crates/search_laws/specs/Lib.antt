@@ -16,6 +16,7 @@ pub mod PassingOver
 pub mod RunningLaws
 pub mod RunLaws
 pub mod Advancing
+pub mod Nearing
 pub mod OnRelations
 pub mod ProblemLaws
 pub mod OnAutomaton

@@ -1,6 +1,7 @@
 -- The search of the code: an effect is a relation on states, and the journal has the rows that are lent. Its names are those of the contracts
 -- in code. Definitions only. Assumes nothing.
-use mathlib.Core.Bool.{Bool, not}
+use mathlib.Core.Path.{_≡_}
+use mathlib.Core.Bool.{Bool, true, false, not}
 use mathlib.Core.List.{List, []}
 use Prim.Native.Nat.{ℕ, _≤_}
 use lib.Dec.{T}
@@ -18,6 +19,8 @@ use Rattle.search_state.specs.declared.Counts.{Counts}
 use Rattle.search_state.specs.declared.Fate.{Fate}
 use Rattle.search_state.specs.declared.State.{State}
 use Rattle.search_state.specs.declared.Terms.{Terms}
+use Rattle.search_links.specs.Rows.{rowsRead}
+use Rattle.search_cover.specs.Near.{isNear, Beside}
 use Rattle.search_cover.specs.declared.CoverCursor.{CoverCursor}
 use Rattle.search_laws.specs.Problems.{RuleBytes, Problem, algebraOf}
 use Rattle.search_laws.specs.Running as running
@@ -49,6 +52,16 @@ MayFind s j t = running.MayFind (problemIn (s .terms .starts) (s .terms .finals)
 
 abbrev pub CoverFound : State → Candidate → Journal → List ℕ → CoverCursor → Type 0
 CoverFound s c j t l = running.CoverFound (problemIn (s .terms .starts) (s .terms .finals) [] []) s (candidateOf c) j t l
+
+-- the effects that stand beside each other in the words w are those of live rows among the used ones
+abbrev pub NearIn : State → Journal → List ℕ → Type 0
+NearIn s j w = Beside (rowsRead rowOf (s .counts .used) j) w
+
+-- and after looking for a cover in vain those of the candidate's nonterminal
+pub record Looked (s : State) (c : Candidate) (j : Journal) (t w : List ℕ) (l : CoverCursor) : Type 0 where
+  pub found : CoverFound s c j t l
+  pub beside : NearIn s j w
+  pub near : l .covers ≡ false → isNear w (c .head) ≡ true
 
 abbrev pub fateFor : State → Candidate → Bool → Fate
 fateFor s c covered = running.fateFor (problemIn (s .terms .starts) (s .terms .finals) [] []) s (candidateOf c) covered

@@ -32,6 +32,7 @@ use Rattle.search_order.specs.Lists.{Listed}
 use Rattle.search_order.specs.Places.{FirstPlace, NextPlace}
 use Rattle.search_order.specs.PlacesLeft.{PassFrom}
 use Rattle.search_order.specs.PlacesLeftLaws.{places-next, places-first}
+use Rattle.search_spans.specs.Spans.{Measured}
 use Rattle.search_links.specs.Covers.{Covering}
 use Rattle.search_links.specs.RowLaws.{rows-length}
 use Rattle.search_laws.specs.Meanings.{progressOf, countsIn, withJoin}
@@ -131,9 +132,10 @@ module _ {E : Type 0} (F : Composing E) where
 -- the invariant: the pass under the terms b, which began with the counts `first` over the journal j₁, is at the place p, with the counts w over
 -- the journal j and the table t
 pub record InPass {E R : Type 0} (b : Terms) (P : Problem E R) (first : Counts) (j₁ : List R) (t : List ℕ) (w : Counts) (j : List R) (p : Place) : Type 0 where
-  -- the rows that the pass began with: the lists have those that were live, the place is one of theirs, and all are kept
+  -- the rows that the pass began with: the lists have those that were live, and are measured, the place is one of theirs, and all are kept
   pub rows : List (Row E)
   pub listed : Listed rows (listsIn t)
+  pub measured : Measured (b .old) (listsIn t)
   pub places : PassFrom (listsIn t) (P .rules) p
   pub kept : Kept (unread P) rows (firstRows P (w .used) j)
   -- what is left of the pass: each points to these rows, or to none
@@ -145,15 +147,16 @@ pub record InPass {E R : Type 0} (b : Terms) (P : Problem E R) (first : Counts) 
   pub limit : length j₁ ≤ journalLimit
   pub covering : Covering (firstRows P (w .used) j) t
 
-pub pass-start : {E R : Type 0} {b : Terms} {P : Problem E R} {first : Counts} {j₁ : List R} {t : List ℕ} {p : Place} → Listed (firstRows P (first .used) j₁) (listsIn t) → PassReady (P .rowOf) b first j₁ t
+pub pass-start : {E R : Type 0} {b : Terms} {P : Problem E R} {first : Counts} {j₁ : List R} {t : List ℕ} {p : Place} → Listed (firstRows P (first .used) j₁) (listsIn t) → Measured (b .old) (listsIn t) → PassReady (P .rowOf) b first j₁ t
     → KnownFrom P (b .old) (first .used) j₁ → FirstPlace (listsIn t) (P .rules) 0 p → InPass b P first j₁ t first j₁ p
-pass-start {E} {R} {b} {P} {first} {j₁} {t} {p} l r k o =
+pass-start {E} {R} {b} {P} {first} {j₁} {t} {p} l m r k o =
     let A = firstRows P (first .used) j₁ in
     record {
       rows = A;
       listed = l;
+      measured = m;
       places = places-first A (omega (arith, rows-length (P .rowOf) (first .used) j₁ (r .room), r .room, r .limit)) l o;
-      kept = (le-refl (length A), λ i m. refl);
+      kept = (le-refl (length A), λ i h. refl);
       candidates = candidatesIn P A;
       stands = left-first (P .composing) (unread P) A (P .rules) (listsIn t) l p o;
       points = pass-points (algebraOf P) A (rulesIn P) 0;
@@ -243,6 +246,7 @@ module _ {E R : Type 0} {b : Terms} {P : Problem E R} {first : Counts} {j₁ : L
           record {
             rows = g .rows;
             listed = subst (Listed (g .rows)) (sym u) (g .listed);
+            measured = subst (Measured (b .old)) (sym u) (g .measured);
             places = subst (λ (lists : List ℕ). PassFrom lists (P .rules) q) (sym u) (places-next h (subst (λ (lists : List ℕ). NextPlace lists (P .rules) p q) u f) (g .places) .0);
             kept = consider-goes P b (length j) (λ y. Kept (unread P) (g .rows) (y .rows)) c at (progressOf (P .rowOf) w′ j′) (x .answer) (g .kept) (kept-added (unread P) (P .below) (b .pass) c (g .rows) used (g .kept));
             candidates = next .1;

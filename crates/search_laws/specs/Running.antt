@@ -12,7 +12,7 @@ use Rattle.search_state.specs.declared.Place.{Place}
 use Rattle.search_state.specs.Layout.{rowCells, listsIn}
 use Rattle.search_order.specs.Places as places
 use Rattle.search_links.specs.Covers.{Covering}
-use Rattle.search_cover.specs.Seeking.{Leads, Finds, Seeking}
+use Rattle.search_cover.specs.Seeking.{Leads, Finds, Found}
 use Rattle.search_cover.specs.declared.CoverCursor.{CoverCursor}
 use Rattle.search_retire.specs.Clearing.{Inserted}
 use Rattle.search_state.specs.Fates.{fateIn}
@@ -22,7 +22,7 @@ use Rattle.search_state.specs.declared.Fate.{Fate}
 use Rattle.search_state.specs.declared.State.{State}
 use Rattle.search_state.specs.declared.Terms.{Terms}
 use Rattle.search_laws.specs.Contracts.{Answers, Checked, orderOf}
-use Rattle.search_laws.specs.Meanings.{answerIn}
+use Rattle.search_laws.specs.Meanings.{countsIn, decidedIn, answerIn}
 use Rattle.search_laws.specs.Passes.{AtPass}
 use Rattle.search_laws.specs.Passing.{InPass}
 use Rattle.search_laws.specs.Problems.{RuleBytes, Problem, firstRows, withRules, termsOf}
@@ -73,10 +73,11 @@ module _ {E R : Type 0} (P : Problem E R) (B : ℕ) (j₀ : List R) where
     pub goes : T (s .going) → Goes s j t
     pub ends : T (not (s .going)) → Checked (P .rowOf) target j₀ j (answerIn s)
 
-  -- what every step between candidates keeps: the invariant `SearchAt`, at least the joins of `w`, the same budget
+  -- what every step between candidates keeps: the invariant `SearchAt`, at least the joins of `w`, its rows, the same budget
   pub record Onward (w : Counts) (r : State) (j : List R) (t : List ℕ) : Type 0 where
     pub stands : SearchAt r j t
     pub joins : w .joins ≤ r .counts .joins
+    pub used : r .counts .used ≡ w .used
     pub budget : r .terms .budget ≡ B
 
 module _ {E R : Type 0} (P : Problem E R) where
@@ -88,7 +89,7 @@ module _ {E R : Type 0} (P : Problem E R) where
 
   -- looking for a cover of the candidate c has ended at the cursor l
   abbrev pub CoverFound : State → Candidate E → List R → List ℕ → CoverCursor → Type 0
-  CoverFound s c j t l = Seeking (P .below) c (firstRows P (s .counts .used) j) (s .counts .used) t l × T (not (l .active))
+  CoverFound s c j t l = Found (P .below) c (firstRows P (s .counts .used) j) (s .counts .used) t l
 
   -- the candidate c has become a row, unless a row covers it or the journal is full: j and t were the journal and the table before, j′ and t′
   -- are those after
@@ -179,7 +180,8 @@ module _ {E R : Type 0} (P : Problem E R) where
   abbrev pub GoesOn : RuleBytes → List ℕ → State → Counts → List ℕ → State → Type 0
   GoesOn rules t s w t′ r = GoesOnOver (take (s .rules) rules) t s w t′ r
 
-  -- after a candidate c that was considered: the invariant of the loop holds of r, and its measure has fallen
+  -- after a candidate c that was considered: the invariant of the loop holds of r, its measure has fallen, and no row was used but for c
   abbrev pub Advances : RuleBytes → List ℕ → State → Fate → CoverCursor → List ℕ → State → Type 0
   Advances rules t s f l t′ r =
-      (start : State) (j₀ j : List R) (c : Candidate E) → Considered P rules start j₀ s c f l j t → Running P rules start j₀ r j t′ × (candidatesLeft r < candidatesLeft s)
+      (start : State) (j₀ j : List R) (c : Candidate E) → Considered P rules start j₀ s c f l j t
+      → Running P rules start j₀ r j t′ × (candidatesLeft r < candidatesLeft s) × (T (r .going) → r .counts .used ≡ countsIn (decidedIn s f) .used)

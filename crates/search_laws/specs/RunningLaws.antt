@@ -10,6 +10,7 @@ use lib.ListN.{length}
 use borrow.Author.Tests.{leb-true, leb-false, eq-eqb, ne-eqb, ltb-true, ltb-false}
 use Rattle.spec_order.specs.Algebra.{Laws}
 use Rattle.spec_order.specs.Candidates.{Candidate}
+use Rattle.spec_order.specs.Journal.{Row}
 use Rattle.spec_order.specs.Order.{hasRow}
 use Rattle.spec_calls.specs.Codes.{spentCode}
 use Rattle.search_state.specs.declared.Place.{Place}
@@ -17,11 +18,12 @@ use Rattle.search_state.specs.Layout.{rowCells, listsIn}
 use Rattle.spec_basics.specs.Lists.{each-same}
 use Rattle.spec_calls.specs.Base.{membersOf}
 use Rattle.spec_calls.specs.MemberLaws.{member-bit}
-use Rattle.search_order.specs.Lists.{Listed}
+use Rattle.search_order.specs.Lists.{liveNumbers, Listed}
 use Rattle.search_order.specs.Places as places
 use Rattle.search_order.specs.PlacesLeft.{PassFrom}
 use Rattle.search_order.specs.PlacesLeftLaws.{places-first}
-use Rattle.search_links.specs.CoverLaws.{linked-live}
+use Rattle.search_spans.specs.SpanLaws.{measures-listed}
+use Rattle.search_links.specs.CoverLaws.{linked-live, covering-links}
 use Rattle.search_links.specs.Covers.{isLinked, Covering}
 use Rattle.search_links.specs.Listing.{Gathered, gathered-listed, gathered-covering}
 use Rattle.search_links.specs.RowLaws.{rows-length}
@@ -36,7 +38,7 @@ use Rattle.search_laws.specs.Meanings.{countsIn, inNextPass, totalsOf, a
 use Rattle.search_laws.specs.Problems.{RuleBytes, Problem, algebraOf, firstRows, termsOf}
 use Rattle.search_laws.specs.Passes.{AtPass, pass-done, pass-again, pass-known}
 use Rattle.search_laws.specs.Passing.{InPass, pass-start, pass-end, pass-stopped}
-use Rattle.search_laws.specs.Steps.{LinksAlong, PassesOver}
+use Rattle.search_laws.specs.Steps.{MeasuresIn, LinksAlong, PassesOver}
 use Rattle.search_laws.specs.StepLaws.{over-counted}
 use Rattle.search_laws.specs.PassingOver.{over-stands}
 use Rattle.search_laws.specs.Running.{target, InLimits, PassBegun, Onward}
@@ -65,11 +67,15 @@ unbroken-back unbroken.Full n = refl
 unbroken-back unbroken.Spent n = refl
 unbroken-back unbroken.Empty n = refl
 
+-- the lists are measured, and the links as they were
+measures-covering : {E : Type 0} {A : List (Row E)} {b : ℕ} {t t′ : List ℕ} → length A ≤ rowCells → MeasuresIn b t t′ → Covering A t → Covering A t′
+measures-covering {E} {A} {b} {t} {t′} few m c = covering-links A t t′ few (m .size) (λ i l. m .links i (omega (arith, l))) c
+
 -- the first place along the lists of the links is one of the pass
-pub opens-place : {u : ℕ} {t t′ : List ℕ} {rules : RuleBytes} {p : Place} → LinksAlong u t → u ≤ rowCells → Gathered u t t′ → places.FirstPlace (listsIn t′) rules 0 p → PassFrom (listsIn t′) rules p
-opens-place {u} {t} {t′} l h g o =
+pub opens-place : {u b : ℕ} {t t′ t″ : List ℕ} {rules : RuleBytes} {p : Place} → LinksAlong u t → u ≤ rowCells → Gathered u t t′ → MeasuresIn b t′ t″ → places.FirstPlace (listsIn t″) rules 0 p → PassFrom (listsIn t″) rules p
+opens-place {u} {b} {t} {t′} {t″} l h g m o =
     let few : length (l .rows) ≤ rowCells = omega (arith, l .size, h) in
-    places-first (l .rows) few (gathered-listed (l .rows) few t t′ (l .covering) (subst (λ (n : ℕ). Gathered n t t′) (sym (l .size)) g)) o
+    places-first (l .rows) few (measures-listed (liveNumbers 0 (l .rows)) (m .lists) (gathered-listed (l .rows) few t t′ (l .covering) (subst (λ (n : ℕ). Gathered n t t′) (sym (l .size)) g))) o
 
 module _ {E R : Type 0} (P : Problem E R) (B : ℕ) (j₀ : List R) (s : State) (rows : s .rows ≡ length j₀) (count : s .rules ≡ length (P .rules)) where
   -- the terms of pass k, which began at w, after one that began with n rows
@@ -78,10 +84,10 @@ module _ {E R : Type 0} (P : Problem E R) (B : ℕ) (j₀ : List R) (s : State) 
 
   -- an end
   over : (w : Counts) (b : Terms) (v i : ℕ) (j : List R) (t : List ℕ) → length j ≡ length j₀ → b .budget ≡ B → Checked (P .rowOf) (target P B j₀) j₀ j (answerIn (ended s b w v i)) → Onward P B j₀ w (ended s b w v i) j t
-  over w b v i j t e f c = record { stands = record { size = e; rows = rows; count = count; goes = λ z. absurd z; ends = λ _. c }; joins = le-refl (w .joins); budget = f }
+  over w b v i j t e f c = record { stands = record { size = e; rows = rows; count = count; goes = λ z. absurd z; ends = λ _. c }; joins = le-refl (w .joins); used = refl; budget = f }
 
-  pub onward-from : {w₀ w : Counts} {r : State} {j : List R} {t : List ℕ} → w₀ .joins ≤ w .joins → Onward P B j₀ w r j t → Onward P B j₀ w₀ r j t
-  onward-from h o = record { stands = o .stands; joins = le-trans h (o .joins); budget = o .budget }
+  pub onward-from : {w₀ w : Counts} {r : State} {j : List R} {t : List ℕ} → w₀ .joins ≤ w .joins → w .used ≡ w₀ .used → Onward P B j₀ w r j t → Onward P B j₀ w₀ r j t
+  onward-from h e o = record { stands = o .stands; joins = le-trans h (o .joins); used = o .used ∙ e; budget = o .budget }
 
   module _ {first : Counts} {j₁ : List R} {k : ℕ} (a : AtPass P B (target P B j₀) j₀ first j₁ k) (n : ℕ) where
     -- an outcome that ends everything
@@ -127,6 +133,7 @@ module _ {E R : Type 0} (P : Problem E R) (B : ℕ) (j₀ : List R) (s : State) 
                   ends = λ z. absurd z;
                 };
                 joins = le-refl (w .joins);
+                used = refl;
                 budget = refl;
               }
 
@@ -162,7 +169,7 @@ module _ {E R : Type 0} (P : Problem E R) (B : ℕ) (j₀ : List R) (s : State) 
 
   -- ---- a pass begins
 
-  module _ (L : Laws (algebraOf P)) (z : InLimits j₀) {w : Counts} {j : List R} {k : ℕ} (a : AtPass P B (target P B j₀) j₀ w j k) (n : ℕ) (fits : n ≤ rowCells) (known : KnownFrom P n (w .used) j) {t t′ : List ℕ} (c : Covering (firstRows P (w .used) j) t) (g : Gathered (w .used) t t′) where
+  module _ (L : Laws (algebraOf P)) (z : InLimits j₀) {w : Counts} {j : List R} {k : ℕ} (a : AtPass P B (target P B j₀) j₀ w j k) (n : ℕ) (fits : n ≤ rowCells) (known : KnownFrom P n (w .used) j) {t t′ t″ : List ℕ} (c : Covering (firstRows P (w .used) j) t) (g : Gathered (w .used) t t′) (m : MeasuresIn n t′ t″) where
     size-first : length (firstRows P (w .used) j) ≡ w .used
     size-first = rows-length (P .rowOf) (w .used) j (omega (arith, a .room, a .same))
 
@@ -172,21 +179,21 @@ module _ {E R : Type 0} (P : Problem E R) (B : ℕ) (j₀ : List R) (s : State) 
     g′ : Gathered (length (firstRows P (w .used) j)) t t′
     g′ = subst (λ (m : ℕ). Gathered m t t′) (sym size-first) g
 
-    listed : Listed (firstRows P (w .used) j) (listsIn t′)
-    listed = gathered-listed (firstRows P (w .used) j) few t t′ c g′
+    listed : Listed (firstRows P (w .used) j) (listsIn t″)
+    listed = measures-listed (liveNumbers 0 (firstRows P (w .used) j)) (m .lists) (gathered-listed (firstRows P (w .used) j) few t t′ c g′)
 
-    ready : PassReady (P .rowOf) (at k n w) w j t′
+    ready : PassReady (P .rowOf) (at k n w) w j t″
     ready =
-        record { room = omega (arith, a .room, a .same); limit = omega (arith, z .limit, a .same); paid = a .paid; pass = omega (arith, a .first); covering = gathered-covering (firstRows P (w .used) j) few t t′ c g′ }
+        record { room = omega (arith, a .room, a .same); limit = omega (arith, z .limit, a .same); paid = a .paid; pass = omega (arith, a .first); covering = measures-covering few m (gathered-covering (firstRows P (w .used) j) few t t′ c g′) }
 
     -- at its first place, and then at one that is reached from there
-    module _ (p : Place) (o : places.FirstPlace (listsIn t′) (P .rules) 0 p) {r : Reached} (v : PassesOver (P .rules) t′ (at k n w) (record { counts = w; place = p }) r) where
-      reached : InPass (at k n w) P w j t′ (r .counts) j (r .place)
-      reached = over-stands L v (pass-start listed ready known o)
+    module _ (p : Place) (o : places.FirstPlace (listsIn t″) (P .rules) 0 p) {r : Reached} (v : PassesOver (P .rules) t″ (at k n w) (record { counts = w; place = p }) r) where
+      reached : InPass (at k n w) P w j t″ (r .counts) j (r .place)
+      reached = over-stands L v (pass-start listed (m .lists .measured) ready known o)
 
-      pub open-reached : Onward P B j₀ w (opening s (at k n w) r (allLinked (P .starts) t′)) j t′
-      open-reached = onward-from (over-counted (P .rules) t′ (at k n w) v .joins) (by (ltb (r .place .rule) (s .rules)) refl)
+      pub open-reached : Onward P B j₀ w (opening s (at k n w) r (allLinked (P .starts) t″)) j t″
+      open-reached = onward-from (over-counted (P .rules) t″ (at k n w) v .joins) (over-counted (P .rules) t″ (at k n w) v .used) (by (ltb (r .place .rule) (s .rules)) refl)
         where
-          by : (b : Bool) → ltb (r .place .rule) (s .rules) ≡ b → Onward P B j₀ (r .counts) (openingBy b s (at k n w) r (allLinked (P .starts) t′)) j t′
+          by : (b : Bool) → ltb (r .place .rule) (s .rules) ≡ b → Onward P B j₀ (r .counts) (openingBy b s (at k n w) r (allLinked (P .starts) t″)) j t″
           by true e = stand-there a n fits known reached (omega (arith, ltb-true (r .place .rule) (s .rules) e, count))
-          by false e = close-last a n refl (pass-end reached (omega (arith, ltb-false (r .place .rule) (s .rules) e, count))) (z .limit) t′ (reached .covering) (over-counted (P .rules) t′ (at k n w) v .added ∙ a .none-added)
+          by false e = close-last a n refl (pass-end reached (omega (arith, ltb-false (r .place .rule) (s .rules) e, count))) (z .limit) t″ (reached .covering) (over-counted (P .rules) t″ (at k n w) v .added ∙ a .none-added)

@@ -3,13 +3,13 @@
 use mathlib.Core.Path.{_≡_}
 use mathlib.Core.Bool.{Bool, true, not, _&&_, _||_}
 use mathlib.Core.List.{List}
-use Prim.Native.Nat.{ℕ, zero, suc, _+_, _≤_, _<_}
+use Prim.Native.Nat.{ℕ, zero, suc, _≤_, _<_}
 use lib.Dec.{eqb, ltb}
 use lib.ListN.{length, getD, take}
 use Rattle.spec_order.specs.Journal.{Row, absent}
 use Rattle.search_state.specs.Budgets.{isSpent}
 use Rattle.search_state.specs.Fates.{fullIn}
-use Rattle.search_state.specs.Layout.{rowCells, heads, headCell, listCells, listsFrom, tableCells, listsIn, end}
+use Rattle.search_state.specs.Layout.{rowCells, heads, headCell, listCells, listsFrom, tableCells, listsIn}
 use Rattle.search_state.specs.NextPass.{nextPass}
 use Rattle.search_state.specs.Positions.{firstAt}
 use Rattle.search_state.specs.declared.Counts.{Counts}
@@ -17,9 +17,9 @@ use Rattle.search_state.specs.declared.Fate.{Fate}
 use Rattle.search_state.specs.declared.Place.{Place}
 use Rattle.search_state.specs.declared.State.{State}
 use Rattle.search_state.specs.declared.Terms.{Terms}
-use Rattle.search_order.specs.Lists.{afterIn}
 use Rattle.search_order.specs.Places.{NextPlace}
 use Rattle.search_order.specs.PlacesLeft.{placesLeft, PassFrom}
+use Rattle.search_spans.specs.Spans.{Measured, Measures}
 use Rattle.search_links.specs.Covers.{Covering}
 use Rattle.search_cover.specs.declared.CoverCursor.{CoverCursor}
 use Rattle.search_laws.specs.Meanings.{countsIn, withJoin, decidedIn}
@@ -71,13 +71,9 @@ StepsTo step (suc k) x r = (y : Reached) × StepsTo step k x y × step y r
 abbrev pub Moves : (Reached → Reached → Type 0) → Reached → Reached → Type 0
 Moves step x r = (k : ℕ) × StepsTo step k x r
 
--- the same place with another right, and n joins
-abbrev pub withRight : Reached → ℕ → ℕ → Reached
-withRight x n i = record { counts = record { used = x .counts .used; joins = n; added = x .counts .added }; place = firstAt (x .place .rule) (x .place .left) i }
-
--- the next right is m, which is one of the rows that were there when the pass before began: its candidate is one join more
-abbrev pub RightStep : List ℕ → Terms → Reached → Reached → Type 0
-RightStep t b x r = (m : ℕ) × (m ≡ afterIn (listsIn t) (x .place .right)) × (m ≡ end → ⊥) × (m < b .old) × (x .counts .joins < b .budget) × (r ≡ withRight x (x .counts .joins + 1) m)
+-- the rule of x at other positions, and n joins
+abbrev pub movedTo : Reached → ℕ → ℕ → ℕ → Reached
+movedTo x n i k = record { counts = record { used = x .counts .used; joins = n; added = x .counts .added }; place = firstAt (x .place .rule) i k }
 
 -- the candidate of x is passed over, and r is at the place after it
 pub record OverStep (rules : RuleBytes) (t : List ℕ) (b : Terms) (x r : Reached) : Type 0 where
@@ -89,13 +85,16 @@ pub record OverStep (rules : RuleBytes) (t : List ℕ) (b : Terms) (x r : Reache
 abbrev pub Later : RuleBytes → List ℕ → Place → Place → Type 0
 Later rules t p q = PassFrom (listsIn t) rules q × (placesLeft (listsIn t) rules q < placesLeft (listsIn t) rules p)
 
--- from x, whose candidate is counted, over rights after its own; r is at the last of them
-abbrev pub PassesRights : List ℕ → Terms → Reached → Reached → Type 0
-PassesRights t b = Moves (RightStep t b)
-
 -- every candidate from x up to that of r is passed over
 abbrev pub PassesOver : RuleBytes → List ℕ → Terms → Reached → Reached → Type 0
 PassesOver rules t b = Moves (OverStep rules t b)
+
+-- every candidate from x up to that of `last` is passed over, and r is at its place, with its own join counted too
+pub record PassesSpan (rules : RuleBytes) (t : List ℕ) (b : Terms) (x r : Reached) : Type 0 where
+  pub last : Reached
+  pub before : PassesOver rules t b x last
+  pub passes : passesAt b (length rules) last ≡ true
+  pub counted : r ≡ record { counts = withJoin (last .counts); place = last .place }
 
 -- from x to r only joins were counted
 pub record JoinsAlone (x r : Reached) : Type 0 where
@@ -104,6 +103,12 @@ pub record JoinsAlone (x r : Reached) : Type 0 where
   pub added : r .counts .added ≡ x .counts .added
 
 -- ---- passes
+
+-- measuring the lists of a pass changes no cell before them
+pub record MeasuresIn (b : ℕ) (old new : List ℕ) : Type 0 where
+  pub size : length new ≡ length old
+  pub links : (i : ℕ) → i < listsFrom → getD new i 0 ≡ getD old i 0
+  pub lists : Measures b (listsIn old) (listsIn new)
 
 -- the links of the table lead along some u rows
 pub record LinksAlong (u : ℕ) (t : List ℕ) : Type 0 where
@@ -116,6 +121,7 @@ pub record MayPass (rules : RuleBytes) (n : ℕ) (b : Terms) (t : List ℕ) (p :
   pub table : length t ≡ tableCells
   pub count : n ≤ length rules
   pub old : b .old ≤ rowCells
+  pub measured : Measured (b .old) (listsIn t)
   pub places : PassFrom (listsIn t) (take n rules) p
 
 -- a pass over the first n rules may begin, under the terms b

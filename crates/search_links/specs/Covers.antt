@@ -57,22 +57,10 @@ module _ {E : Type 0} (below : E → E → Bool) (c : Candidate E) (rows : List 
   abbrev pub coversAt : ℕ → Bool
   coversAt i = holdsAt (isBelow below c) rows i
 
-  -- row i is larger than the candidate
-  abbrev pub largerAt : ℕ → Bool
-  largerAt i = holdsAt (larger below c) rows i
-
   -- the cell leads to no row, and no row is larger than the candidate, unless the flag is set
   pub record Free (covers : List ℕ) (cell : ℕ) (some : Bool) : Type 0 where
     pub last : LastCell (c .head) rows covers cell
     pub small : some ≡ false → any (larger below c) rows ≡ false
-
-  -- no row below v covers the candidate, none is larger unless the flag is set, and the cell leads to row v
-  pub record Unseen (covers : List ℕ) (v cell : ℕ) (some : Bool) : Type 0 where
-    pub none : (i : ℕ) → i < v → coversAt i ≡ false
-    pub small : some ≡ false → (i : ℕ) → i < v → largerAt i ≡ false
-    pub from : ℕ
-    pub is : Cell (c .head) rows cell from
-    pub at : getD covers cell 0 ≡ v
 
 -- ---- a journal whose rows retire, in pass k for the candidate c; `rowOf` reads its rows, and `blank` stands past its end
 

@@ -2,6 +2,5 @@ pub mod Rows
 pub mod Covers
 pub mod RowLaws
 pub mod CoverLaws
-pub mod Looking
 pub mod Retirements
 pub mod Listing

@@ -1,7 +1,7 @@
 -- What the three walks hand to the functions that they call (`Handing.antt`), one by one: the slices and the values, what the function asks, and what it says.
 -- Assumes nothing.
 use mathlib.Core.Path.{_≡_, refl}
-use mathlib.Core.Bool.{Bool}
+use mathlib.Core.Bool.{Bool, false, _||_}
 use mathlib.Core.List.{List, [], _∷_}
 use Prim.Native.Nat.{ℕ, _≤_, _<_, _^_}
 use lib.ListN.{length}
@@ -24,29 +24,30 @@ use Rattle.search_state.specs.Positions.{positionRow}
 use Rattle.search_state.specs.declared.Comparison.{Comparison}
 use Rattle.search_state.specs.declared.Fate.{Fate}
 use Rattle.search_state.specs.declared.State.{State}
-use Rattle.search_state.specs.Layout.{rowCells, slotCells, tableCells}
+use Rattle.search_state.specs.Layout.{rowCells, tableCells}
 use Rattle.search_rows.specs.Forming.{formedIn}
-use Rattle.search_state.specs.Comparing.{isBelow, ComparedAt, replacedBy}
+use Rattle.search_state.specs.Comparing.{isBelow, replacedBy}
 use Rattle.search_rows.specs.Meanings.{candidateOf}
 use Rattle.search_rows.specs.declared.Candidate.{Candidate}
 use Rattle.search_rows.proofs.form as form
 use Rattle.search_rows.proofs.compare as compare
-use Rattle.search_rows.proofs.compare_at as compare_at
-use Rattle.search_rows.proofs.slot_unless as slot_unless
 use Rattle.search_rows.proofs.fate as fate-of
 use Rattle.search_rows.proofs.replacement as replacement
-use Rattle.search_cover.specs.Steps.{lastNoted, begun, stepped}
+use Rattle.search_cover.specs.Near.{nearWords, countOf}
+use Rattle.search_cover.specs.Steps.{lastNoted, Begins, stepped, LooksThrough, nearAfter}
 use Rattle.search_cover.specs.declared.CoverCursor.{CoverCursor}
 use Rattle.search_cover.proofs.last_row as last_row
 use Rattle.search_cover.proofs.begin as cover-begin
 use Rattle.search_cover.proofs.step as cover-step
+use Rattle.search_cover.proofs.look_through as look-through
+use Rattle.search_cover.proofs.keep_near as keep-near
 use Rattle.search_retire.specs.Clearing.{MayClear}
 use Rattle.search_retire.specs.Steps as retiring
 use Rattle.search_retire.specs.declared.RetireCursor.{RetireCursor}
 use Rattle.search_retire.proofs.begin as retire-begin
 use Rattle.search_retire.proofs.step as retire-step
 use Rattle.search_laws.specs.Steps.{MayAdvance}
-use Rattle.search_laws.specs.OnRelations.{MayFind, CoverFound, CandidateInserted, fateFor, MayInsert, Advances}
+use Rattle.search_laws.specs.OnRelations.{MayFind, NearIn, Looked, CandidateInserted, fateFor, MayInsert, Advances}
 use Rattle.search_passes.proofs.advance as advance
 use Rattle.search_loops.proofs.find as find
 use Rattle.search_loops.proofs.insert as insert
@@ -99,36 +100,6 @@ module _ {M : Type 1} (𝓤 : URA M) (H : Heap 𝓤) (A : Atoms 𝓤) (mem : Mem
           tells = λ cs. tells comparison;
         }
 
-    abbrev pub to-compare-at : (held : Row) → Means row held → (linked : Bool) → Handing 𝓤 H A compare_at.ended (compare_at.clauses 𝓤 H A mem run)
-    to-compare-at held h-is linked =
-        let hs = [] in
-        let vs = value row held h-is ∷ value candidate c c-is ∷ flag linked ∷ [] in
-        record {
-          slices = hs;
-          values = vs;
-          fits = record { bound = binds hs vs; ghost = λ cs. tt; enters = λ cs. id⊢ 𝓤 _; leaves = λ cs. id⊢ 𝓤 _; lists = λ cs ws. tt; others = λ cs ws. _; ends = λ cs ws. refl };
-          asked = λ cs. id⊢ 𝓤 _;
-          φ = λ cs r ws. ComparedAt contained linked (candidateOf c) (rowOf held) r;
-          says = λ cs r ws. id⊢ 𝓤 _;
-          val = λ cs. val comparison;
-          tells = λ cs. tells comparison;
-        }
-
-    abbrev pub to-slot-unless : (m : Comparison) → Means comparison m → Handing 𝓤 H A slot_unless.ended (slot_unless.clauses 𝓤 H A mem run)
-    to-slot-unless m m-is =
-        let hs = [] in
-        let vs = value comparison m m-is ∷ value candidate c c-is ∷ [] in
-        record {
-          slices = hs;
-          values = vs;
-          fits = record { bound = binds hs vs; ghost = λ cs. tt; enters = λ cs. id⊢ 𝓤 _; leaves = λ cs. id⊢ 𝓤 _; lists = λ cs ws. tt; others = λ cs ws. _; ends = λ cs ws. refl };
-          asked = λ cs. id⊢ 𝓤 _;
-          φ = λ cs r ws. r < slotCells;
-          says = λ cs r ws. id⊢ 𝓤 _;
-          val = λ cs. vint w64;
-          tells = λ cs. uint-tells w64;
-        }
-
     abbrev pub to-replacement : (new : Bool) (m : Comparison) → Means comparison m → (held : Row) → Means row held → Handing 𝓤 H A replacement.ended (replacement.clauses 𝓤 H A mem run)
     to-replacement new m m-is held h-is =
         let hs = [] in
@@ -175,49 +146,79 @@ module _ {M : Type 1} (𝓤 : URA M) (H : Heap 𝓤) (A : Atoms 𝓤) (mem : Mem
           tells = λ cs. uint-tells w64;
         }
 
-    abbrev pub to-cover-begin : (P : Loan) (t : List ℕ) {n : ℕ} → length t ≡ n → (last : ℕ) → last < 2 ^ 64 → (m : Comparison) → Means comparison m → (slot : ℕ) → slot < 2 ^ 64 → (length t ≡ tableCells) × (slot < slotCells) → Handing 𝓤 H A cover-begin.ended (cover-begin.clauses 𝓤 H A mem run)
-    to-cover-begin P t e last last-is m m-is slot slot-is asks =
-        let hs = slice cell copied P t e ∷ [] in
-        let vs = value state s s-is ∷ number w8 (c .head) (head-fits c c-is) ∷ number w64 last last-is ∷ value comparison m m-is ∷ number w64 slot slot-is ∷ [] in
-        record {
-          slices = hs;
-          values = vs;
-          fits = record { bound = binds hs vs; ghost = λ cs. tt; enters = λ cs. id⊢ 𝓤 _; leaves = λ cs. id⊢ 𝓤 _; lists = λ cs ws. (ws .0, tt); others = λ cs ws. _; ends = λ cs ws. refl };
-          asked = λ cs. factI 𝓤 ((length t ≡ tableCells) × (slot < slotCells)) _ asks;
-          φ = λ cs r ws. r ≡ begun t (s .counts .used) (c .head) last (m .covers) slot;
-          says = λ cs r ws. id⊢ 𝓤 _;
-          val = λ cs. val cover-cursor;
-          tells = λ cs. tells cover-cursor;
-        }
-
-    abbrev pub to-cover-step : (P : Loan) (t : List ℕ) {n : ℕ} → length t ≡ n → (l : CoverCursor) → Means cover-cursor l → (length t ≡ tableCells) × (l .row < rowCells) → (m : Comparison) → Means comparison m → Handing 𝓤 H A cover-step.ended (cover-step.clauses 𝓤 H A mem run)
-    to-cover-step P t e l l-is asks m m-is =
-        let hs = slice cell copied P t e ∷ [] in
-        let vs = value state s s-is ∷ number w8 (c .head) (head-fits c c-is) ∷ value cover-cursor l l-is ∷ value comparison m m-is ∷ [] in
-        record {
-          slices = hs;
-          values = vs;
-          fits = record { bound = binds hs vs; ghost = λ cs. tt; enters = λ cs. id⊢ 𝓤 _; leaves = λ cs. id⊢ 𝓤 _; lists = λ cs ws. (ws .0, tt); others = λ cs ws. _; ends = λ cs ws. refl };
-          asked = λ cs. factI 𝓤 ((length t ≡ tableCells) × (l .row < rowCells)) _ asks;
-          φ = λ cs r ws. r ≡ stepped t (s .counts .used) (c .head) l (m .covers) (m .larger);
-          says = λ cs r ws. id⊢ 𝓤 _;
-          val = λ cs. val cover-cursor;
-          tells = λ cs. tells cover-cursor;
-        }
-
-    abbrev pub to-find : (J P : Loan) (j : Journal) {m : ℕ} → length j ≡ m → (t : List ℕ) {n : ℕ} → length t ≡ n → MayFind s j t → Handing 𝓤 H A find.ended (find.clauses 𝓤 H A mem run)
-    to-find J P j ej t et asks =
-        let hs = slice (RowOf row) seen J j ej ∷ slice cell seen P t et ∷ [] in
-        let vs = value state s s-is ∷ value candidate c c-is ∷ [] in
+    abbrev pub to-cover-begin : (N P : Loan) (w : List ℕ) {m : ℕ} → length w ≡ m → (t : List ℕ) {n : ℕ} → length t ≡ n → (length w ≡ nearWords) × (length t ≡ tableCells) → (last : ℕ) → last < 2 ^ 64 → (held : Row) → Means row held → Handing 𝓤 H A cover-begin.ended (cover-begin.clauses 𝓤 H A mem run)
+    to-cover-begin N P w ew t et asks last last-is held h-is =
+        let hs = slice Letter again N w ew ∷ slice cell copied P t et ∷ [] in
+        let vs = value state s s-is ∷ value candidate c c-is ∷ number w64 last last-is ∷ value row held h-is ∷ [] in
         record {
           slices = hs;
           values = vs;
           fits = record { bound = binds hs vs; ghost = λ cs. tt; enters = λ cs. id⊢ 𝓤 _; leaves = λ cs. id⊢ 𝓤 _; lists = λ cs ws. (ws .0, (ws .1 .0, tt)); others = λ cs ws. _; ends = λ cs ws. refl };
-          asked = λ cs. factI 𝓤 (MayFind s j t) _ asks;
-          φ = λ cs r ws. CoverFound s c j t r;
+          asked = λ cs. factI 𝓤 ((length w ≡ nearWords) × (length t ≡ tableCells)) _ asks;
+          φ = λ cs r ws. Begins t w (s .counts .used) (c .head) last (isBelow contained (candidateOf c) (rowOf held)) (ws .0) r;
           says = λ cs r ws. id⊢ 𝓤 _;
           val = λ cs. val cover-cursor;
           tells = λ cs. tells cover-cursor;
+        }
+
+    abbrev pub to-cover-step : (N P : Loan) (w : List ℕ) {m : ℕ} → length w ≡ m → (t : List ℕ) {n : ℕ} → length t ≡ n → (l : CoverCursor) → Means cover-cursor l → (length w ≡ nearWords) × (length t ≡ tableCells) × (l .row < rowCells) × (l .count < rowCells) → (held : Row) → Means row held → Handing 𝓤 H A cover-step.ended (cover-step.clauses 𝓤 H A mem run)
+    to-cover-step N P w ew t et l l-is asks held h-is =
+        let hs = slice Letter again N w ew ∷ slice cell copied P t et ∷ [] in
+        let vs = value state s s-is ∷ value candidate c c-is ∷ value cover-cursor l l-is ∷ value row held h-is ∷ [] in
+        record {
+          slices = hs;
+          values = vs;
+          fits = record { bound = binds hs vs; ghost = λ cs. tt; enters = λ cs. id⊢ 𝓤 _; leaves = λ cs. id⊢ 𝓤 _; lists = λ cs ws. (ws .0, (ws .1 .0, tt)); others = λ cs ws. _; ends = λ cs ws. refl };
+          asked = λ cs. factI 𝓤 ((length w ≡ nearWords) × (length t ≡ tableCells) × (l .row < rowCells) × (l .count < rowCells)) _ asks;
+          φ = λ cs r ws. (r, ws .0) ≡ stepped t w (s .counts .used) (c .head) l (isBelow contained (candidateOf c) (rowOf held)) (rowOf held .effect);
+          says = λ cs r ws. id⊢ 𝓤 _;
+          val = λ cs. val cover-cursor;
+          tells = λ cs. tells cover-cursor;
+        }
+
+    abbrev pub to-look-through : (N : Loan) (w : List ℕ) {m : ℕ} → length w ≡ m → (l : CoverCursor) → Means cover-cursor l → (length w ≡ nearWords) × (l .covers ≡ false → countOf w ≤ rowCells) → Handing 𝓤 H A look-through.ended (look-through.clauses 𝓤 H A mem run)
+    to-look-through N w ew l l-is asks =
+        let hs = slice Letter seen N w ew ∷ [] in
+        let vs = value state s s-is ∷ value candidate c c-is ∷ value cover-cursor l l-is ∷ [] in
+        record {
+          slices = hs;
+          values = vs;
+          fits = record { bound = binds hs vs; ghost = λ cs. tt; enters = λ cs. id⊢ 𝓤 _; leaves = λ cs. id⊢ 𝓤 _; lists = λ cs ws. (ws .0, tt); others = λ cs ws. _; ends = λ cs ws. refl };
+          asked = λ cs. factI 𝓤 ((length w ≡ nearWords) × (l .covers ≡ false → countOf w ≤ rowCells)) _ asks;
+          φ = λ cs r ws. LooksThrough contained w (s .counts .used) (candidateOf c .effect) l r;
+          says = λ cs r ws. id⊢ 𝓤 _;
+          val = λ cs. val cover-cursor;
+          tells = λ cs. tells cover-cursor;
+        }
+
+    abbrev pub to-find : (J P N : Loan) (j : Journal) {k : ℕ} → length j ≡ k → (t : List ℕ) {n : ℕ} → length t ≡ n → (w : List ℕ) {m : ℕ} → length w ≡ m → MayFind s j t × NearIn s j w → Handing 𝓤 H A find.ended (find.clauses 𝓤 H A mem run)
+    to-find J P N j ej t et w ew asks =
+        let hs = slice (RowOf row) seen J j ej ∷ slice cell seen P t et ∷ slice Letter again N w ew ∷ [] in
+        let vs = value state s s-is ∷ value candidate c c-is ∷ [] in
+        record {
+          slices = hs;
+          values = vs;
+          fits = record { bound = binds hs vs; ghost = λ cs. tt; enters = λ cs. id⊢ 𝓤 _; leaves = λ cs. id⊢ 𝓤 _; lists = λ cs ws. (ws .0, (ws .1 .0, (ws .1 .1 .0, tt))); others = λ cs ws. _; ends = λ cs ws. refl };
+          asked = λ cs. factI 𝓤 (MayFind s j t × NearIn s j w) _ asks;
+          φ = λ cs r ws. Looked s c j t (ws .1 .1 .0) r;
+          says = λ cs r ws. id⊢ 𝓤 _;
+          val = λ cs. val cover-cursor;
+          tells = λ cs. tells cover-cursor;
+        }
+
+    abbrev pub to-keep-near : (N : Loan) (w : List ℕ) {m : ℕ} → length w ≡ m → (f : Fate) → Means fate f → (l : CoverCursor) → Means cover-cursor l → (length w ≡ nearWords) × ((f .covered || f .full) ≡ false → countOf w < rowCells) → Handing 𝓤 H A keep-near.ended (keep-near.clauses 𝓤 H A mem run)
+    to-keep-near N w ew f f-is l l-is asks =
+        let hs = slice Letter again N w ew ∷ [] in
+        let vs = value state s s-is ∷ value candidate c c-is ∷ value fate f f-is ∷ value cover-cursor l l-is ∷ [] in
+        record {
+          slices = hs;
+          values = vs;
+          fits = record { bound = binds hs vs; ghost = λ cs. tt; enters = λ cs. id⊢ 𝓤 _; leaves = λ cs. id⊢ 𝓤 _; lists = λ cs ws. (ws .0, tt); others = λ cs ws. _; ends = λ cs ws. refl };
+          asked = λ cs. factI 𝓤 ((length w ≡ nearWords) × ((f .covered || f .full) ≡ false → countOf w < rowCells)) _ asks;
+          φ = λ cs r ws. ws .0 ≡ nearAfter w (s .counts .used) (candidateOf c .effect) (f .covered || f .full) (l .larger);
+          says = λ cs r ws. id⊢ 𝓤 _;
+          val = λ cs. λ r. vunit;
+          tells = λ cs. nothing-tells;
         }
 
     -- ---- adding it

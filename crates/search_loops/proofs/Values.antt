@@ -1,10 +1,22 @@
 -- The plain data of the search (`PlainData.antt`), the places of the fields that the walks read, and the type of a cell. These stand here alone.
 -- Assumes nothing.
 use mathlib.Core.List.{[], _∷_}
-use Prim.Native.Nat.{_<_, _^_}
+use Prim.Native.Nat.{_*_, _<_, _^_}
+use denote.Laws.{Is}
 use denote.RattleType.{RattleType}
 use denote.Builtin.{u32}
 use denote.Struct.Laws as LL
+use Rattle.relation.specs.Relation.{states}
+use Rattle.relation.specs.Representation.{value, value-lt}
+use Rattle.relation.specs.declared.Relation.{Relation}
+use Rattle.relation.proofs.Relation as E
+use Rattle.relation.proofs.Relation.Laws as E′
+use Rattle.spec_calls.specs.Rows.{rowOf}
+use Rattle.spec_calls.specs.declared.Row.{Row}
+use Rattle.spec_calls.proofs.Row as R
+use Rattle.spec_calls.proofs.Row.Laws as R′
+use Rattle.spec_calls.proofs.Types.{row}
+use Rattle.search_rows.specs.Meanings.{candidateOf}
 use Rattle.search_rows.specs.declared.Candidate.{Candidate}
 use Rattle.search_state.specs.Layout.{heads}
 use Rattle.search_rows.proofs.Candidate as D
@@ -58,6 +70,18 @@ cover-row-fits l is = LL.owed L.the-type L′.the-laws l (L′.lowered l ∷ [])
 
 pub retire-row-fits : (g : RetireCursor) → Means retire-cursor g → g .row < 2 ^ 64
 retire-row-fits g is = LL.owed G.the-type G′.the-laws g (G′.lowered g ∷ []) is .1 .1 .0 .1
+
+-- ---- the effects that are stored: their words fit
+relation-fits : (r : Relation) → Is E.the-row r (E′.lowered r ∷ []) → value r < 2 ^ (states * states)
+relation-fits r is =
+    let h = LL.owed E.the-type E′.the-laws r _ is in
+    value-lt r (record { fits = h .0 .1 }, record { fits = h .1 .0 .1 }, record { fits = h .1 .1 .0 .1 }, record { fits = h .1 .1 .1 .0 .1 })
+
+pub row-effect-fits : (r : Row) → Means row r → rowOf r .effect < 2 ^ (states * states)
+row-effect-fits r is = relation-fits (r .relation) (LL.owed R.the-type R′.the-laws r (R′.lowered r ∷ []) is .1 .1 .0)
+
+pub effect-fits : (c : Candidate) → Means candidate c → candidateOf c .effect < 2 ^ (states * states)
+effect-fits c is = relation-fits (c .relation) (LL.owed D.the-type D′.the-laws c (D′.lowered c ∷ []) is .1 .1 .0)
 
 -- a cell of the table
 abbrev pub cell : RattleType

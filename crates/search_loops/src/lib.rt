@@ -1,33 +1,38 @@
-// The three loops that hold the lent journal; all else is covered code on values. Only here and in `search_rows` is an effect named: a loop reads a
-// row, has `search_rows` compare it with the candidate, and hands two bools on to steps that know neither.
+// The three loops that hold the lent journal; all else is covered code on values and on arrays of numbers. A loop reads rows, hands them to covered
+// steps, and stores what these return: what an effect is, only `search_rows` knows.
 use relation::Letter;
 use search_cover::CoverCursor;
 use search_rows::Candidate;
 use search_state::Fate;
 use search_state::State;
 use spec_calls::Row;
-ghost use Rattle.search_laws.specs.OnRelations.{MayFind, CoverFound, MayInsert, CandidateInserted, Running, Ran};
+ghost use mathlib.Core.Path.{_≡_};
+ghost use lib.ListN.{replicate};
+ghost use Rattle.search_cover.specs.Near.{nearWords};
+ghost use Rattle.search_laws.specs.OnRelations.{MayFind, NearIn, Looked, MayInsert, CandidateInserted, Running, Ran};
 
-// Looks for a live row that covers `candidate`, until one is found or none is left: at the row of its nonterminal that covered last, at the
-// row that its hint names, and then along the linked rows. Any that covers will do: the contract is whether there is one.
-fn find(journal: &[Row], table: &[u32], state: State, candidate: Candidate) -> CoverCursor
-    requires { ⌜ MayFind state (now journal) (now table) ⌝ }
-    ensures { λ r. ⌜ CoverFound state candidate (now (journal .entry)) (now (table .entry)) r ⌝ }
+// Looks for a live row that covers `candidate`: at the row of its nonterminal that covered last, at the row that its hint names, and then in
+// `near`, where the effects of its nonterminal's live rows stand beside each other. Where `near` has those of another nonterminal, they are
+// copied there first, along the links. Any row that covers will do: the contract is whether there is one.
+fn find(
+    journal: &[Row],
+    table: &[u32],
+    near: &mut [Letter],
+    state: State,
+    candidate: Candidate,
+) -> CoverCursor
+    requires { ⌜ MayFind state (now journal) (now table) × NearIn state (now journal) (now near) ⌝ }
+    ensures { λ r. ⌜ Looked state candidate (now (journal .entry)) (now (table .entry)) (now (near .exit)) r ⌝ }
 {
-    let head = candidate.head;
-    let last = search_cover::last_row(table, state, head);
+    let last = search_cover::last_row(table, state, candidate.head);
     let noted = journal[last];
-    let compared = search_rows::compare(noted, candidate);
-    let slot = search_rows::slot_unless(compared, candidate);
-    let mut cursor = search_cover::begin(table, state, head, last, compared, slot);
+    let mut cursor = search_cover::begin(near, table, state, candidate, last, noted);
     while cursor.active {
         let at = cursor.row;
         let held = journal[at];
-        let linked = cursor.linked;
-        let compared = search_rows::compare_at(held, candidate, linked);
-        cursor = search_cover::step(table, state, head, cursor, compared);
+        cursor = search_cover::step(near, table, state, candidate, cursor, held);
     }
-    cursor
+    search_cover::look_through(near, state, candidate, cursor)
 }
 
 // Where `fate` says that no row covers `candidate` and there is room, the larger rows retire and it becomes the next row. `found` is where
@@ -59,11 +64,12 @@ fn insert(
 pub fn run(
     journal: &mut [Row],
     table: &mut [u32],
+    near: &mut [Letter],
     letters: &[Letter],
     rules: &[[u8; 4]],
     state: State,
 ) -> State
-    requires { ⌜ Running (now letters) (now rules) state (now journal) state (now journal) (now table) ⌝ }
+    requires { ⌜ Running (now letters) (now rules) state (now journal) state (now journal) (now table) × (now near ≡ replicate nearWords 0) ⌝ }
     ensures { λ r. ⌜ Ran (now (letters .entry)) (now (rules .entry)) state (now (journal .entry)) (now (journal .exit)) (now (table .exit)) r ⌝ }
 {
     let mut state = state;
@@ -73,10 +79,11 @@ pub fn run(
         let k = state.right_row;
         let right = journal[k];
         let candidate = search_rows::form(letters, rules, state, left, right);
-        let found = find(journal, table, state, candidate);
+        let found = find(journal, table, near, state, candidate);
         let covered = found.covers;
         let fate = search_rows::fate(state, candidate, covered);
         insert(journal, table, state, candidate, fate, found);
+        search_cover::keep_near(near, state, candidate, fate, found);
         state = search_passes::advance(rules, table, state, fate, found);
     }
     state

@@ -1,12 +1,12 @@
 -- How much of a pass is left from a place on, by the lists alone: the measure of passing over. Definitions only. Assumes nothing.
 use mathlib.Core.Bool.{cond}
 use mathlib.Core.List.{List}
-use Prim.Native.Nat.{ℕ, zero, suc, _+_, _-_, _*_, _^_, _≤_}
+use Prim.Native.Nat.{ℕ, zero, suc, _+_, _-_, _*_, _≤_}
 use lib.Dec.{eqb}
 use lib.ListN.{length}
 use Rattle.search_state.specs.Layout.{rowCells, end}
 use Rattle.search_state.specs.declared.Place.{Place}
-use Rattle.search_order.specs.Lists.{afterIn, Chain, ListedAs}
+use Rattle.search_order.specs.Lists.{afterIn, ListedAs}
 use Rattle.search_order.specs.Places.{PlacesFrom}
 
 -- a pass over n rules has at most this many places: a part of a body has at most as many positions as there are rows
@@ -17,23 +17,6 @@ placeLimit n = n * (rowCells * rowCells)
 unfoldable pub positionsFrom : ℕ → List ℕ → ℕ → ℕ
 positionsFrom zero lists i = 0
 positionsFrom (suc f) lists i = cond (eqb i end) 0 (suc (positionsFrom f lists (afterIn lists i)))
-
--- ---- of a list
-
--- more positions than any list has: a machine counts fewer rules than 2 ^ 64
-abbrev pub listLimit : ℕ
-listLimit = placeLimit (2 ^ 64)
-
--- the positions from i on come to an end
-pub record ListEnds (lists : List ℕ) (i : ℕ) : Type 0 where
-  pub positions : List ℕ
-  pub chain : Chain lists i positions
-  pub few : length positions ≤ listLimit
-
-abbrev pub positionsLeft : List ℕ → ℕ → ℕ
-positionsLeft lists i = positionsFrom listLimit lists i
-
--- ---- of a pass
 
 -- the rules from that of p on, then the left positions after its left, then the right positions after its right: one of the former counts
 -- for more than all of the latter

@@ -3,8 +3,8 @@ use mathlib.Core.Path.{_≡_, refl, sym, ap, _∙_, subst}
 use mathlib.Core.Bool.{Bool, true, false, cond}
 use mathlib.Core.Logic.{_⊎_, inl, inr}
 use mathlib.Core.List.{List, [], _∷_, _++_, map}
-use Prim.Native.Nat.{ℕ, zero, suc, _+_, _-_, _*_, _^_, _≤_, _<_, zero-le, suc-le-suc}
-use native.Mathlib.Nat.{le-refl, le-trans, le-of-eq, le-suc, mul-le-mul, suc-mul}
+use Prim.Native.Nat.{ℕ, zero, suc, _+_, _-_, _*_, _≤_, _<_, zero-le, suc-le-suc}
+use native.Mathlib.Nat.{le-refl, le-trans, le-of-eq, mul-le-mul, suc-mul}
 use native.Mathlib.Omega.{arith}
 use lib.Dec.{eqb}
 use lib.ListN.{length, drop, length-map, length-append}
@@ -19,8 +19,8 @@ use Rattle.search_state.specs.Layout.{rowCells, end}
 use Rattle.search_state.specs.Positions.{firstAt}
 use Rattle.search_state.specs.declared.Place.{Place}
 use Rattle.search_order.specs.Lists.{afterIn, Chain, liveNumbers, Listed}
-use Rattle.search_order.specs.Places.{withRights, positions, bodyPlaces, rulePlaces, allRights, leftPlaces, onward, Ahead, PlacesFrom, FirstPlace, NextPlace}
-use Rattle.search_order.specs.PlacesLeft.{placeLimit, positionsFrom, listLimit, ListEnds, positionsLeft, placesLeft, PassFrom}
+use Rattle.search_order.specs.Places.{withRights, positions, bodyPlaces, rulePlaces, allRights, onward, Ahead, PlacesFrom, FirstPlace, NextPlace}
+use Rattle.search_order.specs.PlacesLeft.{placeLimit, positionsFrom, placesLeft, PassFrom}
 
 -- ---- counting positions
 
@@ -41,16 +41,6 @@ count-chain (suc f) lists i [] h l = ap (λ (b : Bool). cond b 0 (suc (positions
 count-chain (suc f) lists i (k ∷ ks) h l =
     ap (λ (b : Bool). cond b 0 (suc (positionsFrom f lists (afterIn lists i)))) (ne-eqb i end (h .0))
     ∙ ap suc (count-chain f lists (afterIn lists i) ks (h .2) (let z : suc (length ks) ≤ suc f = l in omega arith))
-
-pub ends-next : {lists : List ℕ} {i : ℕ} → ListEnds lists i → (i ≡ end → ⊥) → ListEnds lists (afterIn lists i) × (positionsLeft lists (afterIn lists i) < positionsLeft lists i)
-ends-next {lists} {i} e n = by (e .positions) (e .chain) (e .few)
-  where
-    by : (ks : List ℕ) → Chain lists i ks → length ks ≤ listLimit → ListEnds lists (afterIn lists i) × (positionsLeft lists (afterIn lists i) < positionsLeft lists i)
-    by [] c l = absurd (n c)
-    by (k ∷ ks) c l =
-        let few : length ks ≤ listLimit = le-trans (le-suc (length ks)) l in
-        let after = count-chain listLimit lists (afterIn lists i) ks (c .2) few in
-        (record { positions = ks; chain = c .2; few = few }, le-of-eq (ap suc after ∙ sym (count-chain listLimit lists i (k ∷ ks) c l)))
 
 -- a number of which the digits to base K are a and c is below one whose first digit is larger
 digits-less : (K a b c d : ℕ) → a < b → c < K → a * K + c < b * K + d
@@ -140,19 +130,6 @@ places-next {lists} {rules} {p} {q} h n w = by (w .places) (w .stands) (w .few)
         let z = n (w .live) (w .listed) ps (h, refl, s .2) in
         let less : length ps ≤ placeLimit (length rules) = omega (arith, few) in
         (record { live = w .live; listed = w .listed; places = ps; stands = z; few = less }, next-less (w .live) lists rules p h q ps (s .2) z less)
-
--- the rights after that of a place come to an end
-pub rights-end : {lists : List ℕ} {rules : List (List ℕ)} {p : Place} → length rules ≤ 2 ^ 64 → p .rule < length rules → PassFrom lists rules p → ListEnds lists (afterIn lists (p .right))
-rights-end {lists} {rules} {p} m h w = by (w .places) (w .stands) (w .few)
-  where
-    by : (ps : List Place) → PlacesFrom (w .live) lists rules p ps → length ps ≤ placeLimit (length rules) → ListEnds lists (afterIn lists (p .right))
-    by [] s few = absurd (s h)
-    by (p′ ∷ ps) s few =
-        let a = s .2 in
-        let others = concatMap (leftPlaces (w .live) rules (p .rule)) (a .lefts) ++ onward (w .live) rules (suc (p .rule)) in
-        let size = ap length (a .rest) ∙ length-append (withRights (p .rule) (a .rights) (p .left)) others in
-        let short : length (a .rights) ≤ placeLimit (length rules) = omega (arith, size, few, length-map (a .rights) (firstAt (p .rule) (p .left))) in
-        record { positions = a .rights; chain = a .inner; few = le-trans short (mul-le-mul m (le-refl (rowCells * rowCells))) }
 
 -- ---- the first place
 

@@ -22,8 +22,8 @@ ghost use Rattle.search_laws.specs.States.{eachLinked, allLinked};
 ghost use Rattle.search_laws.specs.Steps.{MayPass, MayOpen, MayGoOn, MayAdvance};
 ghost use Rattle.search_laws.specs.OnRelations.{OpensPass, Closes, GoesFrom, GoesOn, Advances};
 
-// A pass over n rules begins: the lists first, then its first place that needs work. The state is not here: a call that is handed one, or
-// gives one, made the compiler copy its padding for each candidate.
+// A pass over n rules begins: the lists first, which are then measured, and its first place that needs work. The state is not here: a call
+// that is handed one, or gives one, made the compiler copy its padding for each candidate.
 pub fn open_pass(
     rules: &[[u8; 4]],
     table: &mut [u32],
@@ -35,6 +35,7 @@ pub fn open_pass(
     ensures { λ r. ⌜ OpensPass (now (rules .entry)) (now (table .entry)) n terms counts (now (table .exit)) r ⌝ }
 {
     search_links::gather(table, counts.used);
+    search_skip::measure_in(table, terms.old);
     let place = search_skip::first_in(rules, table, n);
     search_skip::pass_over(rules, table, n, terms, Reached { counts, place })
 }

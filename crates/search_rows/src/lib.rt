@@ -12,9 +12,11 @@ use spec_calls::ABSENT;
 use spec_calls::Row;
 use spec_file::TERMINALS;
 ghost use mathlib.Core.Path.{_≡_};
-ghost use Prim.Native.Nat.{_≤_, _<_};
+ghost use Prim.Native.Nat.{_+_, _*_, _≤_, _<_};
 ghost use lib.ListN.{length};
 ghost use Rattle.relation.specs.Relation.{contained};
+ghost use Rattle.relation.specs.Representation.{relationWords, value};
+ghost use Rattle.relation.specs.Stored.{relationIn, withRelation};
 ghost use Rattle.spec_file.specs.Limits.{letterWords};
 ghost use Rattle.spec_file.specs.Views.{symbolOf};
 ghost use Rattle.spec_order.specs.Candidates.{sole};
@@ -23,7 +25,7 @@ ghost use Rattle.spec_file.specs.Entries.{entryOf};
 ghost use Rattle.spec_calls.specs.Rows.{rowOf};
 ghost use Rattle.search_rows.specs.Base.{emptyBody, joined, breaking};
 ghost use Rattle.search_rows.specs.Meanings.{composingOf, candidateOf, choiceOf};
-ghost use Rattle.search_state.specs.Comparing.{isBelow, ComparedAt, retiredIn, replacedBy};
+ghost use Rattle.search_state.specs.Comparing.{isBelow, retiredIn, replacedBy};
 ghost use Rattle.search_state.specs.Fates.{fateIn};
 ghost use Rattle.search_state.specs.Forming.{symbolChoice, formedBy};
 ghost use Rattle.search_state.specs.Layout.{slotCells};
@@ -68,22 +70,6 @@ pub fn compare(row: Row, candidate: Candidate) -> Comparison
         covers: alike & within,
         larger: alike & (over & !within),
     }
-}
-
-// Compares `row` with `candidate`, by their relations alone if `linked`: a linked row is live and of the candidate's nonterminal, so that the
-// search spends no instruction on asking. A row that is a hint is compared as `compare` does.
-pub fn compare_at(row: Row, candidate: Candidate, linked: bool) -> Comparison
-    ensures { λ r. ⌜ ComparedAt contained linked (candidateOf candidate) (rowOf row) r ⌝ }
-{
-    if linked {
-        let held = row.relation;
-        let formed = candidate.relation;
-        return Comparison {
-            covers: held.contained(formed),
-            larger: formed.contained(held),
-        };
-    }
-    compare(row, candidate)
 }
 
 // The row, retired in this pass.
@@ -172,6 +158,44 @@ pub fn slot_unless(compared: Comparison, candidate: Candidate) -> usize
     }
     let formed = candidate.relation;
     formed.digest() + 16 * candidate.head as usize
+}
+
+// ---- effects in a table of words, beside each other
+
+// Returns whether the effect at place `i` of `words` is contained in that of `candidate`, or equal.
+pub fn is_below(words: &[Letter], i: usize, candidate: Candidate) -> bool
+    requires { ⌜ (i + 1) * relationWords ≤ length (now words) ⌝ }
+    ensures { λ r. ⌜ r ≡ contained (value (relationIn (now (words .entry)) i)) (candidateOf candidate .effect) ⌝ }
+{
+    let held = Effect::read(words, i);
+    held.contained_if_first(candidate.relation)
+}
+
+// Returns whether the effect at place `i` of `words` contains that of `candidate`, or is equal.
+pub fn is_above(words: &[Letter], i: usize, candidate: Candidate) -> bool
+    requires { ⌜ (i + 1) * relationWords ≤ length (now words) ⌝ }
+    ensures { λ r. ⌜ r ≡ contained (candidateOf candidate .effect) (value (relationIn (now (words .entry)) i)) ⌝ }
+{
+    let formed = candidate.relation;
+    formed.contained_if_first(Effect::read(words, i))
+}
+
+// Stores the effect of `row` at place `i` of `words`.
+pub fn put_row(words: &mut [Letter], i: usize, row: Row)
+    requires { ⌜ (i + 1) * relationWords ≤ length (now words) ⌝ }
+    ensures { λ _. ⌜ now (words .exit) ≡ withRelation (now (words .entry)) i (rowOf row .effect) ⌝ }
+{
+    let held = row.relation;
+    held.store(words, i);
+}
+
+// Stores the effect of `candidate` at place `i` of `words`.
+pub fn put_candidate(words: &mut [Letter], i: usize, candidate: Candidate)
+    requires { ⌜ (i + 1) * relationWords ≤ length (now words) ⌝ }
+    ensures { λ _. ⌜ now (words .exit) ≡ withRelation (now (words .entry)) i (candidateOf candidate .effect) ⌝ }
+{
+    let formed = candidate.relation;
+    formed.store(words, i);
 }
 
 // ---- forming a candidate

@@ -1,6 +1,8 @@
 // From place to place of a pass, and past those that need no work (semi-naive evaluation). A candidate of rows that were there when the pass
-// before began was formed in that pass, so that a live row covers it: it is one join, and nothing else.
+// before began was formed in that pass, so that a live row covers it: it is one join, and nothing else. Such candidates stand together, and
+// are counted by their number: the old rights of a left by a sum, the old lefts of a rule, each with all its rights, by a product.
 use search_laws::Reached;
+use search_spans::Span;
 use search_state::ABSENT;
 use search_state::Counts;
 use search_state::END;
@@ -11,11 +13,13 @@ ghost use Prim.Native.Nat.{_≤_};
 ghost use mathlib.Core.Path.{_≡_};
 ghost use mathlib.Core.Bool.{true};
 ghost use lib.ListN.{length, take};
+ghost use Rattle.spec_file.specs.Entries.{entryOf};
+ghost use Rattle.search_state.specs.Forming.{leftPart, rightPart};
 ghost use Rattle.search_state.specs.Layout.{rowCells, tableCells, listsIn, end};
 ghost use Rattle.search_order.specs.Lists.{afterIn};
 ghost use Rattle.search_order.specs.Places as places;
-ghost use Rattle.search_order.specs.PlacesLeft.{ListEnds};
-ghost use Rattle.search_laws.specs.Steps.{isBefore, repeatsAt, passesAt, Later, MayPass, PassesRights, PassesOver};
+ghost use Rattle.search_spans.specs.Spans.{Measured, Spans};
+ghost use Rattle.search_laws.specs.Steps.{isBefore, repeatsAt, passesAt, movedTo, Later, MayPass, PassesSpan, PassesOver, MeasuresIn};
 
 // ---- the lists of the pass
 
@@ -43,16 +47,39 @@ pub fn next_row_in(rules: &[[u8; 4]], table: &[u32], n: usize, place: Place) -> 
     search_order::next_row(&table[LISTS..], &rules[..n], place)
 }
 
-// The place after this one.
-fn next_in(rules: &[[u8; 4]], table: &[u32], n: usize, place: Place) -> Place
-    requires { ⌜ (length (now table) ≡ tableCells) × (n ≤ length (now rules)) ⌝ }
+// The place after this one, where `right` is the position after its right.
+fn next_in(rules: &[[u8; 4]], table: &[u32], n: usize, place: Place, right: usize) -> Place
+    requires { ⌜ (length (now table) ≡ tableCells) × (n ≤ length (now rules)) × (right ≡ afterIn (listsIn (now table)) (place .right)) ⌝ }
     ensures { λ p. ⌜ places.NextPlace (listsIn (now (table .entry))) (take n (now (rules .entry))) place p ⌝ }
 {
-    let right = after_in(table, place.right);
     if right != END {
         return place.with_right(right);
     }
     next_row_in(rules, table, n, place)
+}
+
+// Measures how far the lists go over the rows below `old`.
+pub fn measure_in(table: &mut [u32], old: usize)
+    requires { ⌜ (length (now table) ≡ tableCells) × (old ≤ rowCells) ⌝ }
+    ensures { λ r. ⌜ MeasuresIn old (now (table .entry)) (now (table .exit)) ⌝ }
+{
+    search_spans::measure(&mut table[LISTS..], old)
+}
+
+// The span of the left part of the body of `rule`.
+fn left_span_in(table: &[u32], old: usize, rule: [u8; 4]) -> Span
+    requires { ⌜ (length (now table) ≡ tableCells) × Measured old (listsIn (now table)) ⌝ }
+    ensures { λ s. ⌜ Spans old (listsIn (now (table .entry))) (leftPart (entryOf rule .body)) s ⌝ }
+{
+    search_spans::left_span(&table[LISTS..], old, rule)
+}
+
+// The span of its right part.
+fn right_span_in(table: &[u32], old: usize, rule: [u8; 4]) -> Span
+    requires { ⌜ (length (now table) ≡ tableCells) × Measured old (listsIn (now table)) ⌝ }
+    ensures { λ s. ⌜ Spans old (listsIn (now (table .entry))) (rightPart (entryOf rule .body)) s ⌝ }
+{
+    search_spans::right_span(&table[LISTS..], old, rule)
 }
 
 // ---- what the pass before formed
@@ -80,51 +107,95 @@ fn may_pass(terms: Terms, n: usize, at: Reached) -> bool
     (place.rule < n) & (!terms.spent(counts.joins) & repeats(terms.old, place))
 }
 
-// From a place whose candidate is done over the rights after it that are rows of the pass before; its left is one.
-fn pass_rights(table: &[u32], terms: Terms, done: Reached) -> Reached
-    requires { ⌜ (length (now table) ≡ tableCells) × (terms .old ≤ rowCells) × ListEnds (listsIn (now table)) (afterIn (listsIn (now table)) (done .place .right)) ⌝ }
-    ensures { λ r. ⌜ PassesRights (now (table .entry)) terms done r ⌝ }
+// The rule of `at` at other positions, with `joins` joins.
+fn moved(at: Reached, joins: u64, left: usize, right: usize) -> Reached
+    ensures { λ r. ⌜ r ≡ movedTo at joins left right ⌝ }
 {
-    let counts = done.counts;
-    let place = done.place;
-    let mut joins = counts.joins;
-    let mut right = place.right;
-    let mut next = after_in(table, right);
-    while (next < terms.old) & !terms.spent(joins) {
-        joins += 1;
-        right = next;
-        next = after_in(table, right);
-    }
+    let counts = at.counts;
+    let place = at.place;
     Reached {
         counts: Counts {
             used: counts.used,
             joins,
             added: counts.added,
         },
-        place: place.with_right(right),
+        place: Place::first(place.rule, left, right),
     }
 }
 
-// From a place that may be passed over to the first place that is not a right of the same left, or may not.
+// Counts at once what may be passed over from the place of `at` on: its old rights by a sum, and where no other right is left, its old lefts
+// with all of them by a product. Returns the place of the last candidate that is counted. The budget is asked first: where it leaves fewer
+// joins, less is counted, the place alone at the least, so that a check ends spent with as many joins as its budget.
+fn pass_span(rules: &[[u8; 4]], table: &[u32], n: usize, terms: Terms, at: Reached) -> Reached
+    requires { ⌜ MayPass (now rules) n terms (now table) (at .place) × (passesAt terms n at ≡ true) ⌝ }
+    ensures { λ r. ⌜ PassesSpan (take n (now (rules .entry))) (now (table .entry)) terms at r ⌝ }
+{
+    let counts = at.counts;
+    let place = at.place;
+    let r = place.rule;
+    let rule = rules[r];
+    let joins = counts.joins + 1;
+    let rights = right_span_in(table, terms.old, rule);
+    if (rights.first != place.right) | (terms.budget - joins < rights.steps) {
+        return moved(at, joins, place.left, place.right);
+    }
+    let row = joins + rights.steps;
+    let next = after_in(table, rights.last);
+    if next != END {
+        return moved(at, row, place.left, rights.last);
+    }
+    let lefts = left_span_in(table, terms.old, rule);
+    let more = lefts.steps * (rights.steps + 1);
+    if (lefts.first != place.left) | (terms.budget - row < more) {
+        return moved(at, row, place.left, rights.last);
+    }
+    moved(at, row + more, lefts.last, rights.last)
+}
+
+// Returns whether no old row follows the place: none follows its right, after which comes `right`, nor, where no right follows, its `left`.
+// This is for speed alone: a chain of single rows asks for no span. The end is asked for first, so that the compiler knows it in `next_in`.
+fn is_alone(table: &[u32], old: usize, left: usize, right: usize) -> bool
+    requires { ⌜ length (now table) ≡ tableCells ⌝ }
+{
+    if right != END {
+        return old <= right;
+    }
+    let following = after_in(table, left);
+    if following != END {
+        return old <= following;
+    }
+    true
+}
+
+// From a place that may be passed over to the first place after those that are counted with it.
 fn pass_left(rules: &[[u8; 4]], table: &[u32], n: usize, terms: Terms, at: Reached) -> Reached
     requires { ⌜ MayPass (now rules) n terms (now table) (at .place) × (passesAt terms n at ≡ true) ⌝ }
     ensures { λ r. ⌜ PassesOver (take n (now (rules .entry))) (now (table .entry)) terms at r × Later (take n (now (rules .entry))) (now (table .entry)) (at .place) (r .place) ⌝ }
 {
     let counts = at.counts;
     let place = at.place;
-    let done = Reached {
-        counts: Counts {
+    let right = after_in(table, place.right);
+    if is_alone(table, terms.old, place.left, right) {
+        let next = next_in(rules, table, n, place, right);
+        let counted = Counts {
             used: counts.used,
             joins: counts.joins + 1,
             added: counts.added,
-        },
-        place,
-    };
-    let last = pass_rights(table, terms, done);
-    let counts = last.counts;
+        };
+        return Reached {
+            counts: counted,
+            place: next,
+        };
+    }
+    let last = pass_span(rules, table, n, terms, at);
+    let counted = last.counts;
     let from = last.place;
-    let place = next_in(rules, table, n, from);
-    Reached { counts, place }
+    let right = after_in(table, from.right);
+    let next = next_in(rules, table, n, from, right);
+    Reached {
+        counts: counted,
+        place: next,
+    }
 }
 
 // From a place on to the first that may not be passed over.
@@ -133,6 +204,7 @@ pub fn pass_over(rules: &[[u8; 4]], table: &[u32], n: usize, terms: Terms, from:
     ensures { λ r. ⌜ PassesOver (take n (now (rules .entry))) (now (table .entry)) terms from r ⌝ }
 {
     let mut at = from;
+    // Every candidate from `from` up to `at` was formed by the pass before, and is counted.
     while may_pass(terms, n, at) {
         at = pass_left(rules, table, n, terms, at);
     }

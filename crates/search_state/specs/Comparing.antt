@@ -1,25 +1,15 @@
 -- A row beside a candidate, whatever an effect is: which rows cover it, and what is stored in the place of a row when it becomes one; `below`
 -- tells which effects are contained or equal. Definitions only. Assumes nothing.
-use mathlib.Core.Path.{_≡_}
-use mathlib.Core.Bool.{Bool, true, _&&_, cond}
+use mathlib.Core.Bool.{Bool, _&&_, cond}
 use Prim.Native.Nat.{ℕ}
 use Rattle.spec_order.specs.Candidates.{Candidate}
 use Rattle.spec_order.specs.Journal.{Row, liveOf}
 use Rattle.spec_order.specs.Order.{born}
-use Rattle.search_state.specs.declared.Comparison.{Comparison}
 
 module _ {E : Type 0} (below : E → E → Bool) where
   -- a live row of the candidate's nonterminal whose effect is below the candidate's
   unfoldable pub isBelow : Candidate E → Row E → Bool
   isBelow c r = liveOf (c .head) r && below (r .effect) (c .effect)
-
-  -- the row covers the candidate, where of a linked row only the effects are compared
-  abbrev pub coversBy : Bool → Candidate E → Row E → Bool
-  coversBy linked c r = cond linked (below (r .effect) (c .effect)) (isBelow c r)
-
-  -- what comparing a row gives, which is linked or not
-  abbrev pub ComparedAt : Bool → Candidate E → Row E → Comparison → Type 0
-  ComparedAt linked c r m = (m .covers ≡ coversBy linked c r) × (linked ≡ true → m .larger ≡ below (c .effect) (r .effect))
 
 module _ {E : Type 0} where
   -- the row, retired in pass k

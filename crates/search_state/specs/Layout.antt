@@ -1,7 +1,8 @@
--- The layout of the table, as src/lib.rt draws it: three numbers are given, and the others come from them. Definitions only. Assumes nothing.
+-- The layout of the table, as src/lib.rt draws it: three numbers are given here, and the others come from them and the procedures. Definitions only. Assumes nothing.
 use mathlib.Core.List.{List}
 use Prim.Native.Nat.{ℕ, _+_}
 use lib.ListN.{drop}
+use Rattle.spec_file.specs.Limits.{nonterminals}
 
 -- the links of rows
 abbrev pub rowCells : ℕ
@@ -31,8 +32,19 @@ slotsFrom = headCell heads + heads
 abbrev pub listsFrom : ℕ
 listsFrom = slotsFrom + slotCells
 
+-- behind the lists, the cells of the nonterminal x: how many steps lead from its first row over old ones, and the row where they end
+abbrev pub stepCell : ℕ → ℕ
+stepCell x = listCells + x
+
+abbrev pub endCell : ℕ → ℕ
+endCell x = stepCell nonterminals + x
+
+-- the lists, with these
+abbrev pub spanCells : ℕ
+spanCells = endCell nonterminals
+
 abbrev pub tableCells : ℕ
-tableCells = listsFrom + listCells
+tableCells = listsFrom + spanCells
 
 abbrev pub listsIn : List ℕ → List ℕ
 listsIn table = drop listsFrom table

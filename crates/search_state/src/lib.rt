@@ -12,13 +12,15 @@ ghost use Rattle.search_state.specs.NextPass.{nextPass};
 
 // The search finds rows through one array of cells of 32 bits, and this is where it has what:
 //
-//   0           FIRSTS       LASTS        SLOTS              LISTS                                  CELLS
-//   |  links    |  firsts    |  lasts     |  slots           |  lists                               |
-//   |  ROWS     |  HEADS     |  HEADS     |  SLOT_CELLS      |  links and firsts, copied            |
+//   0           FIRSTS       LASTS        SLOTS              LISTS                       LISTS + STEPS                    CELLS
+//   |  links    |  firsts    |  lasts     |  slots           |  lists                     |  steps       |  ends         |
+//   |  ROWS     |  HEADS     |  HEADS     |  SLOT_CELLS      |  links and firsts, copied  |  PROCEDURES  |  PROCEDURES   |
 //
 // Links: cell i has the live row after row i in the list of its nonterminal. Firsts: cell FIRSTS + x has the first live row of nonterminal x.
 // Lasts and slots are hints, rows to compare first: cell LASTS + x has the row of x that covered last, and a slot has a row by its nonterminal
-// and relation. Lists: the links and firsts as they were when the pass began.
+// and relation. Lists: the links and firsts as they were when the pass began. Steps and ends: how far the list of procedure x goes over old
+// rows, the number of steps from its first row and the row where they end. What is in the lists and behind them is numbered from cell LISTS
+// on: FIRSTS + x, STEPS + x, ENDS + x.
 pub const ROWS: usize = spec_calls::JOURNAL_LIMIT;
 
 pub const HEADS: usize = 256;
@@ -34,7 +36,14 @@ pub const SLOTS: usize = LASTS + HEADS;
 
 pub const LISTS: usize = SLOTS + SLOT_CELLS;
 
-pub const CELLS: usize = LISTS + LASTS;
+// Of each procedure the steps and the end are kept.
+pub const PROCEDURES: usize = spec_file::NONTERMINALS as usize;
+
+pub const STEPS: usize = FIRSTS + HEADS;
+
+pub const ENDS: usize = STEPS + PROCEDURES;
+
+pub const CELLS: usize = LISTS + ENDS + PROCEDURES;
 
 // The position of a symbol that is no row.
 pub const ABSENT: usize = spec_calls::ABSENT as usize;

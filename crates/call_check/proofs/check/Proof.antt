@@ -1,4 +1,5 @@
--- The public check: three arrays in locals are lent to `prepare`, and of them one is lent and two are shared to `run`, which is given the journal for good.
+-- The public check: three arrays in locals are lent to `prepare`, and of them one is lent and two are shared to `run`, which is lent a fourth, and is given the
+-- journal for good.
 -- Assumes nothing.
 use mathlib.Core.Path.{_≡_, refl}
 use mathlib.Core.List.{List, [], _∷_}
@@ -59,6 +60,7 @@ use Rattle.search_state.specs.declared.State.{State}
 use Rattle.search_state.proofs.State as S
 use Rattle.search_state.proofs.State.Laws as S′
 use Rattle.search_state.specs.Layout.{tableCells, end}
+use Rattle.search_cover.specs.Near.{nearWords}
 use Rattle.search_laws.specs.Meanings.{answerIn}
 use Rattle.search_laws.specs.OnRelations.{Running, Ran}
 use Rattle.search_loops.proofs.run as running
@@ -185,38 +187,43 @@ module _ {M : Type 1} (𝓤 : URA M) (H : Heap 𝓤) (A : Atoms 𝓤) (W : Given
         -- [the table; its length; the rest; the rules; the letters; the tokens, from the table's on]
         keep ! (8 ∷ 4 ∷ 7 ∷ 3 ∷ 5 ∷ 0 ∷ []) $ join ! $ frame ! $ join ! $ frame ! $ done !
 
-    -- `run` is given the journal, lent the table, and shared the other two
-    module _ (st : State) (st-is : Is S.the-row st (S′.lowered st ∷ [])) where
+    -- `run` is given the journal, lent the table and the words in the local b₄, and shared the other two
+    module _ (b₄ : ℕ) (ns : List ℕ) (ν₄ : ℕ) (δ₄ : GName) (st : State) (st-is : Is S.the-row st (S′.lowered st ∷ [])) where
+      abbrev near : RefT (List ℕ)
+      near = from-start Letter b₄ δ₄ ns
+
       abbrev to-run : Runs .Ghost
       to-run = (
         (
-          (κ′, (ν₃ ∷ [], (ν₁ ∷ [], (ν₂ ∷ [], tt)))),
-          (q′, (fullShare, (fullShare, (fullShare, tt)))),
+          (κ′, (ν₃ ∷ [], (ν₄ ∷ [], (ν₁ ∷ [], (ν₂ ∷ [], tt))))),
+          (q′, (fullShare, (fullShare, (fullShare, (fullShare, tt))))),
           tt,
-          (j, (table, (letters, (rules, (st, tt))))),
-          (slice-vals j, (sliceVal (b₃, 0) tableCells ∷ [], (sliceVal (b₁, 0) letterWords ∷ [], (sliceVal (b₂, 0) ruleLimit ∷ [], (S′.lowered st ∷ [], tt))))),
+          (j, (table, (near, (letters, (rules, (st, tt)))))),
+          (slice-vals j, (sliceVal (b₃, 0) tableCells ∷ [], (sliceVal (b₄, 0) nearWords ∷ [], (sliceVal (b₁, 0) letterWords ∷ [], (sliceVal (b₂, 0) ruleLimit ∷ [], (S′.lowered st ∷ [], tt)))))),
         ),
         tt,
       )
 
       abbrev For-run : List (Item 𝓤)
-      For-run = ‵ (flft κ′ q′) ∷ Journal ∷ tok ν₂ ∷ ‵ (ShrSlice (named 0) (ν₂ ∷ []) Entry .own rules (sliceVal (b₂, 0) ruleLimit ∷ [])) ∷ tok ν₁ ∷ ‵ (ShrSlice (named 0) (ν₁ ∷ []) Letter .own letters (sliceVal (b₁, 0) letterWords ∷ [])) ∷ tok ν₃ ∷ Table ∷ []
+      For-run = ‵ (flft κ′ q′) ∷ Journal ∷ tok ν₂ ∷ ‵ (ShrSlice (named 0) (ν₂ ∷ []) Entry .own rules (sliceVal (b₂, 0) ruleLimit ∷ [])) ∷ tok ν₁ ∷ ‵ (ShrSlice (named 0) (ν₁ ∷ []) Letter .own letters (sliceVal (b₁, 0) letterWords ∷ [])) ∷ tok ν₄ ∷ ‵ (MutSlice (named 0) (ν₄ ∷ []) Letter .own near (sliceVal (b₄, 0) nearWords ∷ [])) ∷ tok ν₃ ∷ Table ∷ []
 
-      asks-run : Running ls rs st (now j) st (now j) ts → ent 𝓤 (⋆ 𝓤 H A For-run) (Runs .pre to-run)
+      asks-run : Running ls rs st (now j) st (now j) ts × (ns ≡ replicate nearWords 0) → ent 𝓤 (⋆ 𝓤 H A For-run) (Runs .pre to-run)
       asks-run h =
-          qed W For-run ∵ says ! h $ nothing ! $ move ! (3 ∷ 0 ∷ []) $ join ! $ move ! (4 ∷ 0 ∷ []) $ join ! $ move ! (5 ∷ 0 ∷ []) $ join ! $ move ! (1 ∷ 0 ∷ []) $ join ! $ frame ! $
-          nothing ! $ owned ! S.the-row (Is S.the-row) (LL.makes S.the-type S′.the-plain 𝓤 H A) st _ st-is $ fjoin ! $ move ! (2 ∷ 0 ∷ []) $ fjoin ! $ move ! (2 ∷ 0 ∷ []) $ fjoin ! $ move ! (2 ∷ 0 ∷ []) $ fjoin ! $ move ! (1 ∷ 0 ∷ []) $ fjoin ! $ done !
+          qed W For-run ∵ says ! h $ nothing ! $ move ! (3 ∷ 0 ∷ []) $ join ! $ move ! (4 ∷ 0 ∷ []) $ join ! $ move ! (5 ∷ 0 ∷ []) $ join ! $ move ! (6 ∷ 0 ∷ []) $ join ! $ move ! (1 ∷ 0 ∷ []) $ join ! $ frame ! $
+          nothing ! $ owned ! S.the-row (Is S.the-row) (LL.makes S.the-type S′.the-plain 𝓤 H A) st _ st-is $ fjoin ! $ move ! (2 ∷ 0 ∷ []) $ fjoin ! $ move ! (2 ∷ 0 ∷ []) $ fjoin ! $ move ! (2 ∷ 0 ∷ []) $ fjoin ! $ move ! (2 ∷ 0 ∷ []) $ fjoin ! $ move ! (1 ∷ 0 ∷ []) $ fjoin ! $ done !
 
-      abbrev From-run : List Row → List ℕ → Item 𝓤
-      From-run js ts′ = given (length js ≡ length (now j)) ((‵ (flft κ′ q′) ⊛ ‵ (finally RowType (j .name) js)) ⊛ (tok ν₃ ⊛ ‵ (finally u32 δ₃ ts′)) ⊛ (tok ν₁ ⊛ tok ν₂))
+      abbrev From-run : List Row → List ℕ → List ℕ → Item 𝓤
+      From-run js ts′ ns′ = given (length js ≡ length (now j)) ((‵ (flft κ′ q′) ⊛ ‵ (finally RowType (j .name) js)) ⊛ (tok ν₃ ⊛ ‵ (finally u32 δ₃ ts′)) ⊛ (tok ν₄ ⊛ ‵ (finally Letter δ₄ ns′)) ⊛ (tok ν₁ ⊛ tok ν₂))
 
-      from-run : (js : List Row) (ts′ : List ℕ)
-          → ent 𝓤 (⋆ 𝓤 H A (raw (alive 𝓤 H A running.signature (to-run .0 .0) (to-run .0 .1)) ∷ ‵ (lasts running.ended (to-run .0 .0) (to-run .0 .3) (js, (ts′, (tt, (tt, (tt, tt)))))) ∷ []))
-          (mean 𝓤 H A (From-run js ts′))
-      from-run js ts′ =
-          qed W (raw (alive 𝓤 H A running.signature (to-run .0 .0) (to-run .0 .1)) ∷ ‵ (lasts running.ended (to-run .0 .0) (to-run .0 .3) (js, (ts′, (tt, (tt, (tt, tt)))))) ∷ []) ∵
-          use1 W (‵ (flft κ′ q′) ⊛ tok ν₃ ⊛ tok ν₁ ⊛ tok ν₂ ⊛ ‵ ftrue) (id⊢ 𝓤 _) $ split ! $ move ! (1 ∷ []) $ split ! $ move ! (1 ∷ []) $ split ! $ move ! (1 ∷ []) $ split ! $ move ! (5 ∷ []) $
-          fsplit ! $ fsplit ! $ move ! (1 ∷ []) $ feqL ! (λ e. move ! (1 ∷ []) $ fsplit ! $ fsplit ! $ keep ! (8 ∷ 3 ∷ 7 ∷ 0 ∷ 6 ∷ 4 ∷ []) $ check ! e $ join ! $ frame ! $ join ! $ frame ! $ done !)
+      from-run : (js : List Row) (ts′ ns′ : List ℕ)
+          → ent 𝓤 (⋆ 𝓤 H A (raw (alive 𝓤 H A running.signature (to-run .0 .0) (to-run .0 .1)) ∷ ‵ (lasts running.ended (to-run .0 .0) (to-run .0 .3) (js, (ts′, (ns′, (tt, (tt, (tt, tt))))))) ∷ []))
+          (mean 𝓤 H A (From-run js ts′ ns′))
+      from-run js ts′ ns′ =
+          qed W (raw (alive 𝓤 H A running.signature (to-run .0 .0) (to-run .0 .1)) ∷ ‵ (lasts running.ended (to-run .0 .0) (to-run .0 .3) (js, (ts′, (ns′, (tt, (tt, (tt, tt))))))) ∷ []) ∵
+          use1 W (‵ (flft κ′ q′) ⊛ tok ν₃ ⊛ tok ν₄ ⊛ tok ν₁ ⊛ tok ν₂ ⊛ ‵ ftrue) (id⊢ 𝓤 _) $ split ! $ move ! (1 ∷ []) $ split ! $ move ! (1 ∷ []) $ split ! $ move ! (1 ∷ []) $ split ! $ move ! (1 ∷ []) $ split ! $ move ! (6 ∷ []) $
+          fsplit ! $ fsplit ! $ move ! (1 ∷ []) $ feqL ! (λ e. move ! (1 ∷ []) $ fsplit ! $ fsplit ! $ move ! (2 ∷ []) $ fsplit ! $ fsplit ! $
+          -- [the words; their length; the rest; the table; its length; the journal; the tokens, from the rules' on]
+          keep ! (11 ∷ 5 ∷ 10 ∷ 3 ∷ 9 ∷ 0 ∷ 8 ∷ 6 ∷ []) $ check ! e $ join ! $ frame ! $ join ! $ frame ! $ join ! $ frame ! $ done !)
 
   -- ---- the answer
   module _ (r : Refusal) (r-is : Is F.the-row r (F′.lowered r ∷ [])) (st : State) (st-is : Is S.the-row st (S′.lowered st ∷ [])) where
@@ -245,29 +252,33 @@ module _ {M : Type 1} (𝓤 : URA M) (H : Heap 𝓤) (A : Atoms 𝓤) (W : Given
         let l₄ = bs .1 .1 .1 .1 .0 in
         let l₅ = bs .1 .1 .1 .1 .1 .0 in
         let l₆ = bs .1 .1 .1 .1 .1 .1 .0 in
-        -- [the locals, from _22 down; the tokens of the file and of the journal; the file; the journal]
-        array-made ! Letter tt (uint-lawful 𝓤 H A W w64) (uint-makes 𝓤 H A W w64) 0 (vint w64 0) (refl, lit< tt) 36 (lit ! tt) (from ! (stop !)) refl (λ ls e₁ n₁.
-        sets ! (rep ! 4 (lit ! tt)) (init ! 24 refl (zeros-typed 4 𝓤 H A W)) $
-        array-made ! Entry tt (bytes-lawful 4 𝓤 H A W) (bytes-makes 4 𝓤 H A W) (replicate 4 0) (zeros 4) (zeros-is 4) 34 (its ! 24 refl) (from ! (stop !)) refl (λ rs e₂ n₂.
-        array-made ! u32 tt (uint-lawful 𝓤 H A W w32) (uint-makes 𝓤 H A W w32) 65536 (vint w32 65536) (refl, lit< tt) 32 (big-lit ! (lit< tt)) (from ! (stop !)) refl (λ ts e₃ n₃.
-        sets ! (of-opd ! (field-of ! 40 refl refl refl)) (init ! 30 refl (tt, record { fits = gj .0 })) $
+        let l₇ = bs .1 .1 .1 .1 .1 .1 .1 .0 in
+        -- [the locals, from _25 down; the tokens of the file and of the journal; the file; the journal]
+        array-made ! Letter tt (uint-lawful 𝓤 H A W w64) (uint-makes 𝓤 H A W w64) 0 (vint w64 0) (refl, lit< tt) 42 (lit ! tt) (from ! (stop !)) refl (λ ls e₁ n₁.
+        sets ! (rep ! 4 (lit ! tt)) (init ! 28 refl (zeros-typed 4 𝓤 H A W)) $
+        array-made ! Entry tt (bytes-lawful 4 𝓤 H A W) (bytes-makes 4 𝓤 H A W) (replicate 4 0) (zeros 4) (zeros-is 4) 40 (its ! 28 refl) (from ! (stop !)) refl (λ rs e₂ n₂.
+        array-made ! u32 tt (uint-lawful 𝓤 H A W w32) (uint-makes 𝓤 H A W w32) 65536 (vint w32 65536) (refl, lit< tt) 38 (big-lit ! (lit< tt)) (from ! (stop !)) refl (λ ts e₃ n₃.
+        array-made ! Letter tt (uint-lawful 𝓤 H A W w64) (uint-makes 𝓤 H A W w64) 0 (vint w64 0) (refl, lit< tt) 36 (lit ! tt) (from ! (stop !)) refl (λ ns e₄ n₄.
+        sets ! (of-opd ! (field-of ! 46 refl refl refl)) (init ! 34 refl (tt, record { fits = gj .0 })) $
+        sets ! (addr ! (from ! (stop !))) (init ! 26 refl (tt, tt)) $
+        sets ! (addr ! (from ! (stop !))) (init ! 24 refl (tt, tt)) $
         sets ! (addr ! (from ! (stop !))) (init ! 22 refl (tt, tt)) $
-        sets ! (addr ! (from ! (stop !))) (init ! 20 refl (tt, tt)) $
-        sets ! (addr ! (from ! (stop !))) (init ! 18 refl (tt, tt)) $
-        sets ! (agg ! (and-then ! (its ! 18 refl) (and-then ! (big-lit ! (lit< tt)) (no-more !)))) (init ! 16 refl (tt, (tt, (record { fits = lit< tt }, tt)))) $
+        sets ! (agg ! (and-then ! (its ! 22 refl) (and-then ! (big-lit ! (lit< tt)) (no-more !)))) (init ! 20 refl (tt, (tt, (record { fits = lit< tt }, tt)))) $
         -- where it starts
-        lends-whole ! tt Letter letterWords ls n₁ l₄ 36 refl (λ ν₁ δ₁. lends-whole ! tt Entry ruleLimit rs n₂ l₅ 36 refl (λ ν₂ δ₂. lends-array ! tt u32 ts tableCells n₃ (lit< tt, lit< tt) l₆ 36 refl (λ ν₃ δ₃.
-        lifts ! 54 refl $ lifts ! 53 refl $ uses ! (For-prepare l₄ l₅ l₆ ls rs ts ν₁ δ₁ ν₂ δ₂ ν₃ δ₃) (raw (Prepares .pre (to-prepare l₄ l₅ l₆ ls rs ts ν₁ δ₁ ν₂ δ₂ ν₃ δ₃))) (asks-prepare l₄ l₅ l₆ ls rs ts ν₁ δ₁ ν₂ δ₂ ν₃ δ₃ e₃) $
+        lends-whole ! tt Letter letterWords ls n₁ l₄ 42 refl (λ ν₁ δ₁. lends-whole ! tt Entry ruleLimit rs n₂ l₅ 42 refl (λ ν₂ δ₂. lends-array ! tt u32 ts tableCells n₃ (lit< tt, lit< tt) l₆ 42 refl (λ ν₃ δ₃.
+        lifts ! 60 refl $ lifts ! 59 refl $ uses ! (For-prepare l₄ l₅ l₆ ls rs ts ν₁ δ₁ ν₂ δ₂ ν₃ δ₃) (raw (Prepares .pre (to-prepare l₄ l₅ l₆ ls rs ts ν₁ δ₁ ν₂ δ₂ ν₃ δ₃))) (asks-prepare l₄ l₅ l₆ ls rs ts ν₁ δ₁ ν₂ δ₂ ν₃ δ₃ e₃) $
         calls-lasting prepare.ended (prepare.clauses 𝓤 H A mem run) (to-prepare l₄ l₅ l₆ ls rs ts ν₁ δ₁ ν₂ δ₂ ν₃ δ₃ .0) tt (λ b ws. Starts (now s) (settingsOver x (now j)) (ws .1 .0) (ws .1 .1 .0) (ws .1 .1 .1 .0) b) (λ b ws. id⊢ 𝓤 _) B′.lowered (B′.lowers .val-is) ! fm (known .0)
-        (past-head ! (and-then ! (its ! 42 refl) (and-then ! (its ! 22 refl) (and-then ! (its ! 20 refl) (and-then ! (its ! 16 refl) (and-then ! (its ! 30 refl) (and-then ! (its ! 38 refl) (no-more !)))))))) (λ b ws h b-is.
+        (past-head ! (and-then ! (its ! 48 refl) (and-then ! (its ! 26 refl) (and-then ! (its ! 24 refl) (and-then ! (its ! 20 refl) (and-then ! (its ! 34 refl) (and-then ! (its ! 44 refl) (no-more !)))))))) (λ b ws h b-is.
         let xs = ws .1 .0 in
         let ys = ws .1 .1 .0 in
         let zs = ws .1 .1 .1 .0 in
-        drop ! $ use2 W (From-prepare l₄ l₅ l₆ ls rs ts ν₁ δ₁ ν₂ δ₂ ν₃ δ₃ xs ys zs) (from-prepare l₄ l₅ l₆ ls rs ts ν₁ δ₁ ν₂ δ₂ ν₃ δ₃ xs ys zs) $ split ! $ lays ! 47 $
-        split ! $ split ! $ whole-back ! tt Letter tt ν₁ δ₁ letterWords xs l₄ 37 refl (λ m₁. split ! $ split ! $ whole-back ! tt Entry tt ν₂ δ₂ ruleLimit ys l₅ 35 refl (λ m₂. split ! $ array-back ! tt u32 ν₃ δ₃ tableCells zs l₆ 32 refl (λ m₃.
-        land ! (from ! (stop !)) (init ! 28 refl (LL.lawful B.the-type B′.the-laws 𝓤 H A W .typed b _ b-is .0)) $
-        sets ! (addr ! (from ! (fld ! refl (hop ! (look-in ! 40 (sub ! 0 refl (whole !))) (stop !))))) (init ! 14 refl (tt, tt)) $
-        sets ! (agg ! (and-then ! (its ! 14 refl) (and-then ! (field-of ! 40 refl refl refl) (no-more !)))) (init ! 12 refl (tt, (tt, (record { fits = gj .0 }, tt)))) $
+        drop ! $ use2 W (From-prepare l₄ l₅ l₆ ls rs ts ν₁ δ₁ ν₂ δ₂ ν₃ δ₃ xs ys zs) (from-prepare l₄ l₅ l₆ ls rs ts ν₁ δ₁ ν₂ δ₂ ν₃ δ₃ xs ys zs) $ split ! $ lays ! 53 $
+        split ! $ split ! $ whole-back ! tt Letter tt ν₁ δ₁ letterWords xs l₄ 43 refl (λ m₁. split ! $ split ! $ whole-back ! tt Entry tt ν₂ δ₂ ruleLimit ys l₅ 41 refl (λ m₂. split ! $ array-back ! tt u32 ν₃ δ₃ tableCells zs l₆ 38 refl (λ m₃.
+        land ! (from ! (stop !)) (init ! 32 refl (LL.lawful B.the-type B′.the-laws 𝓤 H A W .typed b _ b-is .0)) $
+        sets ! (addr ! (from ! (fld ! refl (hop ! (look-in ! 46 (sub ! 0 refl (whole !))) (stop !))))) (init ! 18 refl (tt, tt)) $
+        sets ! (agg ! (and-then ! (its ! 18 refl) (and-then ! (field-of ! 46 refl refl refl) (no-more !)))) (init ! 16 refl (tt, (tt, (record { fits = gj .0 }, tt)))) $
+        sets ! (addr ! (from ! (stop !))) (init ! 14 refl (tt, tt)) $
+        sets ! (agg ! (and-then ! (its ! 14 refl) (and-then ! (big-lit ! (lit< tt)) (no-more !)))) (init ! 12 refl (tt, (tt, (record { fits = lit< tt }, tt)))) $
         sets ! (addr ! (from ! (stop !))) (init ! 10 refl (tt, tt)) $
         sets ! (agg ! (and-then ! (its ! 10 refl) (and-then ! (big-lit ! (lit< tt)) (no-more !)))) (init ! 8 refl (tt, (tt, (record { fits = lit< tt }, tt)))) $
         sets ! (addr ! (from ! (stop !))) (init ! 6 refl (tt, tt)) $
@@ -275,22 +286,22 @@ module _ {M : Type 1} (𝓤 : URA M) (H : Heap 𝓤) (A : Atoms 𝓤) (W : Given
         sets ! (addr ! (from ! (stop !))) (init ! 2 refl (tt, tt)) $
         sets ! (agg ! (and-then ! (its ! 2 refl) (and-then ! (lit ! tt) (no-more !)))) (init ! 0 refl (tt, (tt, (record { fits = lit< tt }, tt)))) $
         -- the search
-        lends-array ! tt u32 zs tableCells m₃ (lit< tt, lit< tt) l₆ 32 refl (λ μ₃ ε₃. shares-array ! tt Letter xs letterWords m₁ (lit< tt, lit< tt) l₄ 38 refl (λ μ₁ ε₁. shares-array ! tt Entry ys ruleLimit m₂ (lit< tt, lit< tt) l₅ 38 refl (λ μ₂ ε₂.
-        lifts ! 55 refl $ lifts ! 54 refl $ uses ! (For-run l₄ l₅ l₆ xs ys zs μ₁ ε₁ μ₂ ε₂ μ₃ ε₃ (b .state) (state-is b b-is)) (raw (Runs .pre (to-run l₄ l₅ l₆ xs ys zs μ₁ ε₁ μ₂ ε₂ μ₃ ε₃ (b .state) (state-is b b-is))))
-        (asks-run l₄ l₅ l₆ xs ys zs μ₁ ε₁ μ₂ ε₂ μ₃ ε₃ (b .state) (state-is b b-is) (may-run (now s) (settingsOver x (now j)) xs ys zs b h (now j) refl)) $
-        calls-lasting running.ended (running.clauses 𝓤 H A mem run) (to-run l₄ l₅ l₆ xs ys zs μ₁ ε₁ μ₂ ε₂ μ₃ ε₃ (b .state) (state-is b b-is) .0) tt (λ r us. Ran xs ys (b .state) (now j) (us .0) (us .1 .0) r) (λ r us. id⊢ 𝓤 _) S′.lowered (S′.lowers .val-is) ! fm (known .1 .0)
-        (past-head ! (and-then ! (its ! 12 refl) (and-then ! (its ! 8 refl) (and-then ! (its ! 4 refl) (and-then ! (its ! 0 refl) (and-then ! (field-of ! 28 refl refl refl) (no-more !))))))) (λ st us o st-is.
-        drop ! $ use2 W (From-run l₄ l₅ l₆ xs ys zs μ₁ ε₁ μ₂ ε₂ μ₃ ε₃ (b .state) (state-is b b-is) (us .0) (us .1 .0)) (from-run l₄ l₅ l₆ xs ys zs μ₁ ε₁ μ₂ ε₂ μ₃ ε₃ (b .state) (state-is b b-is) (us .0) (us .1 .0)) $ learn ! (λ nj.
-        split ! $ split ! $ lays ! 49 $ lays ! 50 $
-        split ! $ split ! $ array-back ! tt u32 μ₃ ε₃ tableCells (us .1 .0) l₆ 33 refl (λ k₃. split ! $ array-unshared ! tt Letter μ₁ xs l₄ 37 refl $ array-unshared ! tt Entry μ₂ ys l₅ 34 refl $
-        land ! (from ! (stop !)) (init ! 26 refl (LL.lawful S.the-type S′.the-laws 𝓤 H A W .typed st _ st-is .0)) $
+        lends-array ! tt u32 zs tableCells m₃ (lit< tt, lit< tt) l₆ 38 refl (λ μ₃ ε₃. lends-array ! tt Letter ns nearWords n₄ (lit< tt, lit< tt) l₇ 38 refl (λ μ₄ ε₄. shares-array ! tt Letter xs letterWords m₁ (lit< tt, lit< tt) l₄ 46 refl (λ μ₁ ε₁. shares-array ! tt Entry ys ruleLimit m₂ (lit< tt, lit< tt) l₅ 46 refl (λ μ₂ ε₂.
+        lifts ! 63 refl $ lifts ! 62 refl $ uses ! (For-run l₄ l₅ l₆ xs ys zs μ₁ ε₁ μ₂ ε₂ μ₃ ε₃ l₇ ns μ₄ ε₄ (b .state) (state-is b b-is)) (raw (Runs .pre (to-run l₄ l₅ l₆ xs ys zs μ₁ ε₁ μ₂ ε₂ μ₃ ε₃ l₇ ns μ₄ ε₄ (b .state) (state-is b b-is))))
+        (asks-run l₄ l₅ l₆ xs ys zs μ₁ ε₁ μ₂ ε₂ μ₃ ε₃ l₇ ns μ₄ ε₄ (b .state) (state-is b b-is) (may-run (now s) (settingsOver x (now j)) xs ys zs b h (now j) refl, e₄)) $
+        calls-lasting running.ended (running.clauses 𝓤 H A mem run) (to-run l₄ l₅ l₆ xs ys zs μ₁ ε₁ μ₂ ε₂ μ₃ ε₃ l₇ ns μ₄ ε₄ (b .state) (state-is b b-is) .0) tt (λ r us. Ran xs ys (b .state) (now j) (us .0) (us .1 .0) r) (λ r us. id⊢ 𝓤 _) S′.lowered (S′.lowers .val-is) ! fm (known .1 .0)
+        (past-head ! (and-then ! (its ! 16 refl) (and-then ! (its ! 12 refl) (and-then ! (its ! 8 refl) (and-then ! (its ! 4 refl) (and-then ! (its ! 0 refl) (and-then ! (field-of ! 32 refl refl refl) (no-more !)))))))) (λ st us o st-is.
+        drop ! $ use2 W (From-run l₄ l₅ l₆ xs ys zs μ₁ ε₁ μ₂ ε₂ μ₃ ε₃ l₇ ns μ₄ ε₄ (b .state) (state-is b b-is) (us .0) (us .1 .0) (us .1 .1 .0)) (from-run l₄ l₅ l₆ xs ys zs μ₁ ε₁ μ₂ ε₂ μ₃ ε₃ l₇ ns μ₄ ε₄ (b .state) (state-is b b-is) (us .0) (us .1 .0) (us .1 .1 .0)) $ learn ! (λ nj.
+        split ! $ split ! $ lays ! 55 $ lays ! 56 $
+        split ! $ split ! $ array-back ! tt u32 μ₃ ε₃ tableCells (us .1 .0) l₆ 39 refl (λ k₃. split ! $ split ! $ array-back ! tt Letter μ₄ ε₄ nearWords (us .1 .1 .0) l₇ 37 refl (λ k₄. split ! $ array-unshared ! tt Letter μ₁ xs l₄ 43 refl $ array-unshared ! tt Entry μ₂ ys l₅ 40 refl $
+        land ! (from ! (stop !)) (init ! 30 refl (LL.lawful S.the-type S′.the-laws 𝓤 H A W .typed st _ st-is .0)) $
         -- the answer
         calls-plain saying.ended (saying.clauses 𝓤 H A mem run) (to-saying (b .refusal) (refusal-is b b-is) st st-is) tt (asks-saying (b .refusal) (refusal-is b b-is) st st-is) (λ c. c ≡ checkedBy (b .refusal) (answerIn st)) (λ c vs. id⊢ 𝓤 _)
-        checkedVal (EL.tells Ck.the-type Ck′.the-laws) ! fm (known .1 .1 .0) (and-then ! (field-of ! 28 refl refl refl) (and-then ! (its ! 26 refl) (no-more !))) (λ c ec c-is.
-        land ! (from ! (stop !)) (init ! 44 refl (checked-typed c c-is)) $
-        array-gone ! Letter letterWords xs l₄ 36 m₁ refl $ array-gone ! Entry ruleLimit ys l₅ 34 m₂ refl $ array-gone ! u32 tableCells (us .1 .0) l₆ 32 k₃ refl $
-        move ! (46 ∷ 47 ∷ 48 ∷ 49 ∷ []) $ closing ! 4 refl refl $
-        by ! (exits c (us .0) c-is nj (checks-by (now s) x (now j) xs ys zs (us .1 .0) b h (us .0) st o c ec))))))))))))))))))))
+        checkedVal (EL.tells Ck.the-type Ck′.the-laws) ! fm (known .1 .1 .0) (and-then ! (field-of ! 32 refl refl refl) (and-then ! (its ! 30 refl) (no-more !))) (λ c ec c-is.
+        land ! (from ! (stop !)) (init ! 50 refl (checked-typed c c-is)) $
+        array-gone ! Letter letterWords xs l₄ 42 m₁ refl $ array-gone ! Entry ruleLimit ys l₅ 40 m₂ refl $ array-gone ! u32 tableCells (us .1 .0) l₆ 38 k₃ refl $ array-gone ! Letter nearWords (us .1 .1 .0) l₇ 36 k₄ refl $
+        move ! (52 ∷ 53 ∷ 54 ∷ 55 ∷ []) $ closing ! 4 refl refl $
+        by ! (exits c (us .0) c-is nj (checks-by (now s) x (now j) xs ys zs (us .1 .0) b h (us .0) st o c ec)))))))))))))))))))))))
 
 walk : Walk it
 walk M 𝓤 H A W mem run 𝓣 known κs qs bounds a g are =

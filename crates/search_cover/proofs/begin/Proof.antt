@@ -5,13 +5,44 @@ use Rattle.search_cover.proofs.begin.Statement.{statement}
 use Rattle.search_cover.proofs.begin.Tie as tie
 
 returns : tie.Need-returns
-returns c = rw (c .if1 .taken)
+returns c =
+    let s = c .before .before .before .before in
+    (s .slot-unless .result, s .slot-unless .ensures, rw (← s .before .compare .ensures .0, c .before .before .if1 .taken, c .found .ensures, c .before .at-hint .ensures))
 
 returns-2 : tie.Need-returns-2
-returns-2 c = rw (c .before .before .before .if1 .left, ← c .before .position .ensures, lt-ltb _ _ (c .if2 .taken))
+returns-2 c =
+    let b = c .before .before .before .before in
+    let s = b .before .before in (
+      s .slot-unless .result,
+      s .slot-unless .ensures,
+      rw (← s .before .compare .ensures .0, b .if1 .left, ← c .before .before .position .ensures, lt-ltb _ _ (c .before .if2 .taken), c .at-hint2 .ensures),
+    )
 
 returns-3 : tie.Need-returns-3
-returns-3 c = rw (c .before .before .before .before .if1 .left, ← c .before .before .position .ensures, le-ltb _ _ (c .before .if2 .left), c .at-first-link .ensures)
+returns-3 c =
+    let h = c .before .before .before .before in
+    let b = h .before .before .before in
+    let s = b .before .before in (
+      s .slot-unless .result,
+      s .slot-unless .ensures,
+      rw (← s .before .compare .ensures .0, b .if1 .left, ← h .before .position .ensures, le-ltb _ _ (h .if2 .left)) (c .before .before .from-links .ensures),
+    )
 
 pub begin-spec : {M : Type 1} → statement M
-begin-spec = tie.close (tie.spec (λ c. search needs) returns (λ c. search needs) (λ c. search needs) (λ c κs. search needs) returns-2 (λ c κs. search needs) returns-3)
+begin-spec =
+    tie.close
+    (tie.spec
+    (λ c κs. search needs)
+    (λ c κs. search needs)
+    (λ c. search needs)
+    (λ c κs. search needs)
+    (λ c κs. search needs)
+    returns
+    (λ c. search needs)
+    (λ c. search needs)
+    (λ c κs. search needs)
+    (λ c κs. search needs)
+    returns-2
+    (λ c κs. search needs)
+    (λ c. search needs)
+    returns-3)

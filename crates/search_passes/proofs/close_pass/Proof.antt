@@ -45,7 +45,7 @@ returns-2 c P L B j₀ first j₁ j z rows y h x g =
     let more : w .added ≡ 0 → ⊥ = c .before .before .before .before .before .before .before .before .if1 .left in
     let gave = subst (λ (b : Terms). Answers (Q .rowOf) B (passIn Q b first j₁) first j₁ j (Going w)) (y .terms) x in
     rw (c .stand-or-finish .ensures, c .before .all-linked2 .ensures)
-    (onward-from Q B j₀ st rows n (le-refl (w .joins))
+    (onward-from Q B j₀ st rows n (le-refl (w .joins)) refl
     (c .before .before .before .before .before .open-pass .ensures P L B j₀ j (y .pass + 1) (first .used) st refl z rows (close-again Q B j₀ st rows n (y .at-pass) (y .before) h gave more)
     (c .before .before .before .before .before .before .before .next-pass .ensures ∙ ap (λ (b : Terms). nextPass b (w .used)) (y .terms))
     (close-known Q B j₀ st rows n (y .at-pass) (y .before) h gave L more (z .limit)) g))

@@ -27,7 +27,7 @@ returns c P L B j₀ first j₁ j z rows y g =
     let Q = withRules P rs in
     let n : st .rules ≡ length rs = sym (length-take-le (st .rules) (s .args .rules .now) (s .pre .0 .opens .count)) in
     rw (c .stand-at .ensures)
-    (onward-from Q B j₀ st rows n (over-counted rs (s .args .table .now) (st .terms) (o .ensures) .joins)
+    (onward-from Q B j₀ st rows n (over-counted rs (s .args .table .now) (st .terms) (o .ensures) .joins) (over-counted rs (s .args .table .now) (st .terms) (o .ensures) .used)
     (stand-on Q B j₀ st rows n y (over-stands L (o .ensures) g) (omega (arith, c .before .if1 .taken, n))))
 
 asked : tie.Need-close-pass-requires
@@ -47,7 +47,7 @@ returns-2 c P L B j₀ first j₁ j z rows y g =
     let Q = withRules P rs in
     let n : st .rules ≡ length rs = sym (length-take-le (st .rules) (s .args .rules .now) (s .pre .0 .opens .count)) in
     let r = over-stands {P = Q} L (o .ensures) g in
-    onward-from Q B j₀ st rows n (over-counted rs (s .args .table .now) (st .terms) (o .ensures) .joins)
+    onward-from Q B j₀ st rows n (over-counted rs (s .args .table .now) (st .terms) (o .ensures) .joins) (over-counted rs (s .args .table .now) (st .terms) (o .ensures) .used)
     (c .before .before .close-pass .ensures P L B j₀ first j₁ j z rows y (r .left .same)
     (subst (λ (k : ℕ). Answers (Q .rowOf) k (passIn Q (st .terms) first j₁) first j₁ j (Going (o .result .counts))) (ap (λ (b : Terms). b .budget) (y .terms))
     (pass-end r (omega (arith, c .before .before .before .before .if1 .left, n))))

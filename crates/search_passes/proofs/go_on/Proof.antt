@@ -36,7 +36,7 @@ asked-2 c κs =
     let s = c .before .before .before .before .before .before .before .before .before in
     let a = s .pre .2 in
     let size = length-take-le (s .args .state .rules) (s .args .rules .now) (a .count) in
-    (s .pre .0, record { table = a .table; count = a .count; old = a .old; places = places-next (omega (arith, s .pre .1, size)) (p .ensures) (a .places) .0 })
+    (s .pre .0, record { table = a .table; count = a .count; old = a .old; measured = a .measured; places = places-next (omega (arith, s .pre .1, size)) (p .ensures) (a .places) .0 })
 
 returns-2 : tie.Need-returns-2
 returns-2 c P L B j₀ first j₁ j z rows here y next =

@@ -9,13 +9,14 @@ use Rattle.search_skip.proofs.next_in.Tie as tie
 
 returns : tie.Need-returns
 returns c =
-    let a = c .before .before .before .before .args in
-    rw (c .with-right .ensures) (follows-right (listsIn (a .table .now)) (take (a .n) (a .rules .now)) (a .place) _ (c .before .before .after-in .ensures) (c .before .if1 .taken))
+    let s = c .before .before .before in
+    let a = s .args in
+    rw (c .with-right .ensures) (follows-right (listsIn (a .table .now)) (take (a .n) (a .rules .now)) (a .place) (a .right) (s .pre .2) (c .before .if1 .taken))
 
 asked : tie.Need-next-row-in-requires
 asked c κs =
-    let s = c .before .before .before in
-    (s .pre .0, s .pre .1, sym (c .before .after-in .ensures) ∙ c .if1 .left)
+    let s = c .before .before in
+    (s .pre .0, s .pre .1, sym (s .pre .2) ∙ c .if1 .left)
 
 pub next-in-spec : {M : Type 1} → statement M
-next-in-spec = tie.close (tie.spec (λ c κs. search needs) (λ c κs. search needs) returns asked (λ c. search needs))
+next-in-spec = tie.close (tie.spec (λ c κs. search needs) returns asked (λ c. search needs))

@@ -25,7 +25,7 @@ loop-holds c =
 asked : tie.Need-pass-left-requires Inv-loop μ-loop
 asked c κs =
     let s = c .before .before .before .before in
-    (record { table = s .pre .table; count = s .pre .count; old = s .pre .old; places = c .before .before .loop .inv .1 }, sym (c .before .may-pass .ensures) ∙ c .if1 .taken)
+    (record { table = s .pre .table; count = s .pre .count; old = s .pre .old; measured = s .pre .measured; places = c .before .before .loop .inv .1 }, sym (c .before .may-pass .ensures) ∙ c .if1 .taken)
 
 loop-less : tie.Need-loop-less Inv-loop μ-loop
 loop-less c = c .pass-left .ensures .1 .1

@@ -12,6 +12,8 @@ pub struct Case {
     pub file: Vec<u8>,
     pub rows: usize,
     pub budget: u64,
+    /// Whether a check that forms every candidate ends in good time.
+    pub by_every: bool,
 }
 
 impl Case {
@@ -21,6 +23,7 @@ impl Case {
             file: making.bytes(),
             rows: 4_096,
             budget: 10_000_000,
+            by_every: true,
         }
     }
 
@@ -30,6 +33,11 @@ impl Case {
 
     fn budget(self, budget: u64) -> Case {
         Case { budget, ..self }
+    }
+
+    /// The same file with the check program's journal and budget (document 01).
+    pub fn of_check_program(self) -> Case {
+        self.rows(1_024).budget(1_000_000)
     }
 }
 
@@ -86,33 +94,47 @@ pub fn all() -> Vec<Case> {
         Case::new("sixteen-cubes", &closed(&two_cubes())),
         Case::new("sixteen-random", &random_relations(16, 2, 4, 14, 330)),
         Case::new("sixteen-full", &closed(&[RING_OF_16, SWAP_OF_16])),
+        Case::new("holes", &holes()),
+        many_passes(),
     ]
 }
 
+/// Files that differ in one quantity, and that quantity in each.
+pub struct Growth {
+    pub quantity: &'static str,
+    pub points: Vec<(usize, Case)>,
+}
+
+impl Growth {
+    fn new(quantity: &'static str, points: impl IntoIterator<Item = (usize, Case)>) -> Growth {
+        let points = points.into_iter().collect();
+        Growth { quantity, points }
+    }
+}
+
 /// The same file with more and more rows: each check ends full.
-pub fn by_rows() -> Vec<Case> {
-    let sizes = [64, 256, 1_024, 4_096];
-    sizes
-        .map(|rows| Case::new(&format!("{rows} rows"), &closed(&ORDERS)).rows(rows))
-        .into()
+pub fn by_rows() -> Growth {
+    let with = |rows: usize| Case::new(&format!("{rows} rows"), &closed(&ORDERS)).rows(rows);
+    Growth::new("rows", [64, 256, 1_024, 4_096].map(|rows| (rows, with(rows))))
 }
 
 /// More and more rules over 64 procedures.
-pub fn by_rules() -> Vec<Case> {
-    let sizes = [64, 128, 192, 256];
-    sizes.map(|rules| Case::new(&format!("{rules} rules"), &ring(rules))).into()
+pub fn by_rules() -> Growth {
+    let with = |rules: usize| Case::new(&format!("{rules} rules"), &ring(rules));
+    Growth::new("rules", [64, 128, 192, 256].map(|rules| (rules, with(rules))))
 }
 
 /// The same plan, and more and more moves on codes that it doesn't use.
-pub fn by_moves() -> Vec<Case> {
+pub fn by_moves() -> Growth {
     let with = |codes: u8| {
         let mut making = closed(&PROJECTIVE);
         for code in 3..codes {
             making.mapping(code, ORDERS[0]);
         }
-        Case::new(&format!("{} moves", making.count(2)), &making)
+        let moves = making.count(2);
+        (moves, Case::new(&format!("{moves} moves"), &making))
     };
-    [3, 32, 64, FIRST_REMARK].map(with).into()
+    Growth::new("moves", [3, 32, 64, FIRST_REMARK].map(with))
 }
 
 /// 128 codes, remarks among them, each in two rules of its own: two passes, and two or three live rows for each of 64 procedures.
@@ -239,6 +261,98 @@ fn retired_and_chain() -> Making {
     }
     making.rule(63, &[]);
     making
+}
+
+/// Rows and passes, many of both: 1,440 live rows of procedure 1, each pair of them a candidate of twelve rules, beside counters that bring
+/// 2,520 passes. All pairs are formed in a few of the passes; in the others there is nothing to do but count them.
+fn many_passes() -> Case {
+    let mut making = closed(&[ORDERS_OF_SIX[0], ORDERS_OF_SIX[1], [0, 1, 2, 3, 4, 5, 7, 6]]);
+    for head in 40..51 {
+        // The code has no moves, so that its effect covers each pair's.
+        making.rule(head, &[100]).rule(head, &[procedure(1), procedure(1)]);
+    }
+    counters(&mut making, 24);
+    Case {
+        by_every: false,
+        ..Case::new("many-passes", &making).budget(u64::MAX)
+    }
+}
+
+/// Lets procedures 2 and on, `count` of them, get a row in each pass, one procedure after the other, 105 rows each.
+///
+/// `TURN` takes the stages of three rings on, so that its powers are 105 mappings. The first counter begins with `START`, which leads from
+/// the first stage of each ring to itself, and from the others to stage 15; each counter takes its rows on by `TURN`. The next counter
+/// takes these rows by `DONE`, which leads from the last stage of each ring to its first, and from the others to stage 15. So a product
+/// leads from some ring's first stage to stage 15, and an effect of `FIRSTS` covers it, unless all three rings have come to their last
+/// stage together: then it is the effect of `START` again.
+fn counters(making: &mut Making, count: u8) {
+    const RINGS: [std::ops::Range<u8>; 3] = [0..3, 3..8, 8..15];
+    const TURN: u8 = 110;
+    const DONE: u8 = 111;
+    const START: u8 = 112;
+    const FIRSTS: [u8; 3] = [113, 114, 115];
+    for (ring, first) in RINGS.into_iter().zip(FIRSTS) {
+        making.step(ring.start, first, 15);
+        for stage in ring.clone() {
+            let next = if stage + 1 == ring.end { ring.start } else { stage + 1 };
+            making.step(stage, TURN, next);
+            making.step(stage, DONE, if next == ring.start { next } else { 15 });
+            making.step(stage, START, if stage == ring.start { stage } else { 15 });
+        }
+    }
+    making.step(15, TURN, 15).step(15, DONE, 15);
+    for head in 2..2 + count {
+        let start: &[u8] = if head == 2 { &[START] } else { &[procedure(head - 1), DONE] };
+        making.rule(head, start).rule(head, &[procedure(head), TURN]);
+        FIRSTS.iter().for_each(|&first| {
+            making.rule(head, &[first]);
+        });
+    }
+}
+
+/// Candidates that each look through thousands of rows: procedure 1 has 3,600 rows that cover none of them, and after those two, of which
+/// now the one covers the next candidate and now the other. Few candidates are alike, so that no hint helps.
+fn holes() -> Making {
+    let mut making = Making::new();
+    // The orders of stages 0 to 4, 120 of them, times the turns of rings of 2, 3 and 5 stages, 30 of them.
+    let still: Mapping16 = std::array::from_fn(|stage| stage as u8);
+    let ring = |mut to: Mapping16, ring: std::ops::Range<u8>| {
+        ring.clone().for_each(|stage| to[usize::from(stage)] = stage + 1);
+        to[usize::from(ring.end) - 1] = ring.start;
+        to
+    };
+    making.mapping(0, ring(still, 0..5)).mapping(1, ring(still, 0..2));
+    let turns = ring(ring(ring(still, 5..7), 7..10), 10..15);
+    (0..15).for_each(|stage| {
+        making.step(stage, 2, turns[usize::from(stage)]);
+    });
+    making.rule(2, &[0]).rule(2, &[1]).rule(2, &[procedure(2), procedure(2)]);
+    making.rule(3, &[2]).rule(3, &[procedure(3), procedure(3)]);
+    making.rule(1, &[procedure(2), procedure(3)]);
+    hole_candidates(&mut making);
+    making
+}
+
+/// The two rows that cover, which come late, and the candidates, which come later: the orders of stages 0 to 4, each with a move from stage
+/// 15 to itself and with one to stage 14, and then one of 60 codes.
+fn hole_candidates(making: &mut Making) {
+    delay(making, 12);
+    let mut numbers = Numbers::new(12);
+    for (code, to) in [(3, 15), (4, 14)] {
+        making.step(15, code, to).rule(1, &[procedure(22), code]);
+        // Code 5 or 6 leaves stages 0 to 4 alone, and takes stage 15 to the same as code 3 or 4.
+        (0..5).for_each(|stage| {
+            making.step(stage, code + 2, stage);
+        });
+        making.step(15, code + 2, to).rule(5, &[procedure(20), code + 2]);
+    }
+    making.rule(4, &[procedure(2), procedure(5)]);
+    for code in 10..70 {
+        (0..8).for_each(|_| {
+            making.step(numbers.byte(5), code, numbers.byte(5));
+        });
+        making.step(14, code, 14).step(15, code, 15).rule(1, &[procedure(4), code]);
+    }
 }
 
 /// Lets procedure 20 give nothing, from a pass on.

@@ -1,11 +1,13 @@
-//! The proved check beside the plain Rust implementation, on the same files in one run.
+//! The proved check beside two of plain Rust, on the same files in one run: one forms every candidate, and one is semi-naive.
 //!
-//! `bench` measures and prints; `bench NAME..` only the files named, `bench --runs` only the recognizing of recorded runs, `bench
-//! --lists` only the listing of gaps and doubles, `bench --forms` only the moving and unfolding of sixteen-byte records. `bench --agree` only
-//! checks that both agree on every file, and `bench --files DIR` writes the files.
+//! `bench` measures and prints; `bench NAME..` only the files named, `bench --program` only
+//! the check program's worst file, `bench --runs` only the recognizing of recorded runs, `bench --lists` only the listing of gaps and
+//! doubles, `bench --forms` only the moving and unfolding of sixteen-byte records. `bench --agree` only checks that all agree on every
+//! file, and `bench --files DIR` writes the files.
 
 mod files;
 mod forms;
+mod growth;
 mod lists;
 mod runs;
 mod timing;
@@ -13,8 +15,9 @@ mod timing;
 use files::Case;
 use std::path::Path;
 use std::process::ExitCode;
+use std::time::Duration;
 use std::{env, fs, io};
-use timing::{agree, measure, Outcome, Times};
+use timing::{agree, measure, measure_proved, Outcome, Times};
 
 /// Files with fewer joins say more about reading a file than about the search, and stay out of the summary.
 const MANY_JOINS: u64 = 10_000;
@@ -22,11 +25,8 @@ const MANY_JOINS: u64 = 10_000;
 fn main() -> ExitCode {
     let words: Vec<String> = env::args().skip(1).collect();
     let done = match words.iter().map(String::as_str).collect::<Vec<_>>()[..] {
-        [] => table(&files::all())
-            .and_then(|()| growth())
-            .and_then(|()| runs::table())
-            .and_then(|()| lists::table())
-            .and_then(|()| forms::table()),
+        [] => whole_run(),
+        ["--program"] => worst_of_program(),
         ["--runs"] => runs::agree().and_then(|_| runs::table()),
         ["--lists"] => lists::agree().and_then(|_| lists::table()),
         ["--forms"] => forms::agree().and_then(|_| forms::table()),
@@ -43,26 +43,49 @@ fn main() -> ExitCode {
     }
 }
 
+/// Every table.
+fn whole_run() -> Result<(), String> {
+    table(&files::all())?;
+    worst_of_program()?;
+    growth::table()?;
+    runs::table()?;
+    lists::table()?;
+    forms::table()
+}
+
 /// The files with these names.
 fn named(names: &[&str]) -> Result<Vec<Case>, String> {
     let find = |name: &&str| files::all().into_iter().find(|case| case.name == *name);
     let unknown = |name: &&str| {
-        format!("there is no file {name}; usage: bench [NAME.. | --runs | --lists | --forms | --agree | --files DIR]")
+        let usage = "bench [NAME.. | --program | --runs | --lists | --forms | --agree | --files DIR]";
+        format!("there is no file {name}; usage: {usage}")
     };
     names.iter().map(|name| find(name).ok_or_else(|| unknown(name))).collect()
 }
 
-/// Checks every file with both, and measures nothing.
+/// Checks every file with all three checks, and measures nothing. The plain ones must agree in each row of the journal, too.
 fn all_agree() -> Result<(), String> {
     let cases = files::all();
     for case in &cases {
         agree(case)?;
+        same_journals(case)?;
     }
-    println!("bench: both checks agree on {} files", cases.len());
+    println!("bench: the three checks agree on {} files", cases.len());
     println!("bench: both agree on the runs of {} files", runs::agree()?);
     println!("bench: both agree on the lists of {} files", lists::agree()?);
     println!("bench: both agree on moving and unfolding {} files", forms::agree()?);
     Ok(())
+}
+
+/// Compares the journals of the two plain searches.
+fn same_journals(case: &Case) -> Result<(), String> {
+    let plan = plain::read(&case.file).map_err(|refusal| format!("{}: {refusal:?}", case.name))?;
+    let searched =
+        |search: fn(&plain::Plan, u64, usize, u64) -> plain::Search| search(&plan, plain::INITIAL, case.rows, case.budget);
+    if !case.by_every || searched(plain::search) == searched(plain::search_semi_naive) {
+        return Ok(());
+    }
+    Err(format!("{}: the plain checks have different journals", case.name))
 }
 
 /// Writes the files of the table, so that other programs can read them.
@@ -76,80 +99,99 @@ fn write_files(folder: &Path) -> io::Result<()> {
 
 /// A line for each file, and the summary.
 fn table(cases: &[Case]) -> Result<(), String> {
+    println!("Times are for one join. \"every\" is plain Rust that forms every candidate, \"semi-naive\" plain Rust that is semi-naive.");
+    println!();
     println!(
-        "| {:<14} | {:<7} | {:>9} | {:>5} | {:>11} | {:>11} | {:>6} |",
-        "file", "verdict", "joins", "rows", "proved", "plain", "ratio"
+        "| {:<14} | {:<7} | {:>11} | {:>5} | {:>11} | {:>11} | {:>11} | {:>12} | {:>17} |",
+        "file", "verdict", "joins", "rows", "proved", "every", "semi-naive", "proved/every", "proved/semi-naive"
     );
     println!(
-        "|{:-<16}|{:-<9}|{:->10}:|{:->6}:|{:->12}:|{:->12}:|{:->7}:|",
-        "", "", "", "", "", "", ""
+        "|{:-<16}|{:-<9}|{:->12}:|{:->6}:|{:->12}:|{:->12}:|{:->12}:|{:->13}:|{:->18}:|",
+        "", "", "", "", "", "", "", "", ""
     );
-    let mut ratios = Vec::new();
+    let mut measured = Vec::new();
     for case in cases {
-        let (outcome, times) = measured(case)?;
-        println!(
-            "| {:<14} | {:<7} | {:>9} | {:>5} | {:>8.1} ns | {:>8.1} ns | {:>6.2} |",
-            case.name,
-            outcome.verdict,
-            outcome.joins,
-            outcome.used,
-            per_join(times.proved, &outcome),
-            per_join(times.plain, &outcome),
-            times.ratio(),
-        );
+        let (outcome, times) = measure(case)?;
+        println!("{}", line(case, &outcome, &times));
         if outcome.joins >= MANY_JOINS {
-            ratios.push(times.ratio());
+            measured.push((case, times));
         }
     }
-    summary(&ratios);
+    summary(&measured);
     Ok(())
 }
 
-fn summary(ratios: &[f64]) {
+/// The line of a file.
+fn line(case: &Case, outcome: &Outcome, times: &Times) -> String {
+    let dash = || "-".to_string();
+    let nanoseconds = |time| match per_join(time, outcome) {
+        // Nearly all joins are counted at once.
+        tiny if tiny < 0.1 => format!("{tiny:.4} ns"),
+        usual => format!("{usual:.1} ns"),
+    };
+    format!(
+        "| {:<14} | {:<7} | {:>11} | {:>5} | {:>11} | {:>11} | {:>11} | {:>12} | {:>17.2} |",
+        case.name,
+        outcome.verdict,
+        outcome.joins,
+        outcome.used,
+        nanoseconds(times.proved),
+        times.every.map_or_else(dash, nanoseconds),
+        nanoseconds(times.semi_naive),
+        times.ratio_to_every().map_or_else(dash, |ratio| format!("{ratio:.2}")),
+        times.ratio_to_semi_naive(),
+    )
+}
+
+/// The means of the ratios, and the greatest, beside what we aim at; and the whole times of files that are measured without `every`.
+fn summary(measured: &[(&Case, Times)]) {
+    println!();
+    println!("Over the files with at least {MANY_JOINS} joins:");
+    let to_every: Vec<f64> = measured.iter().filter_map(|(_, times)| times.ratio_to_every()).collect();
+    let to_semi_naive: Vec<f64> = measured.iter().map(|(_, times)| times.ratio_to_semi_naive()).collect();
+    summary_of("proved/every", &to_every, "mean at most 0.5");
+    summary_of("proved/semi-naive", &to_semi_naive, "mean at most 1.0, none above 2.0");
+    for (case, times) in measured.iter().filter(|(case, _)| !case.by_every) {
+        let (proved, semi_naive) = (times.proved.as_secs_f64(), times.semi_naive.as_secs_f64());
+        println!(
+            "{}: {proved:.2} s proved (the aim: below 1 s), {semi_naive:.2} s semi-naive.",
+            case.name
+        );
+    }
+}
+
+fn summary_of(what: &str, ratios: &[f64], aim: &str) {
     if ratios.is_empty() {
         return;
     }
     let mean = (ratios.iter().map(|ratio| ratio.ln()).sum::<f64>() / ratios.len() as f64).exp();
     let greatest = ratios.iter().copied().fold(0.0, f64::max);
-    println!();
     println!(
-        "Times are for one join. Over the {} files with at least {MANY_JOINS} joins:",
+        "{what}: geometric mean {mean:.2}, greatest {greatest:.2}, of {} files (the aim: {aim}).",
         ratios.len()
     );
-    println!("geometric mean of the ratios {mean:.2} (at most 2 is the aim), greatest {greatest:.2} (at most 4).");
 }
 
-/// How the time grows with rows, rules and moves.
-fn growth() -> Result<(), String> {
+/// The file that the check program takes longest for, by its proved check alone: with its journal and budget, without starting a process.
+fn worst_of_program() -> Result<(), String> {
+    let cases = files::all().into_iter().map(Case::of_check_program);
+    let timed = cases.map(|case| (measure_proved(&case), case));
+    let (time, worst) = timed.max_by_key(|(time, _)| *time).ok_or("there is no file")?;
+    let outcome = agree(&worst)?;
     println!();
     println!(
-        "| {:<10} | {:>9} | {:>12} | {:>12} | {:>11} | {:>11} |",
-        "growth", "joins", "proved", "plain", "proved/join", "plain/join"
+        "The check program's worst file, of {} rows and a budget of {}: {}, {} after {} joins, {:.1} ms (the aim: below 20 ms).",
+        worst.rows,
+        worst.budget,
+        worst.name,
+        outcome.verdict,
+        outcome.joins,
+        time.as_secs_f64() * 1e3
     );
-    println!(
-        "|{:-<12}|{:->10}:|{:->13}:|{:->13}:|{:->12}:|{:->12}:|",
-        "", "", "", "", "", ""
-    );
-    for case in [files::by_rows(), files::by_rules(), files::by_moves()].iter().flatten() {
-        let (outcome, times) = measured(case)?;
-        println!(
-            "| {:<10} | {:>9} | {:>9.1} us | {:>9.1} us | {:>8.1} ns | {:>8.1} ns |",
-            case.name,
-            outcome.joins,
-            times.proved.as_secs_f64() * 1e6,
-            times.plain.as_secs_f64() * 1e6,
-            per_join(times.proved, &outcome),
-            per_join(times.plain, &outcome),
-        );
-    }
     Ok(())
 }
 
-fn measured(case: &Case) -> Result<(Outcome, Times), String> {
-    Ok((agree(case)?, measure(case)))
-}
-
 /// Nanoseconds for one join.
-fn per_join(time: std::time::Duration, outcome: &Outcome) -> f64 {
+fn per_join(time: Duration, outcome: &Outcome) -> f64 {
     time.as_secs_f64() * 1e9 / outcome.joins.max(1) as f64
 }

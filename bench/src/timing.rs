@@ -1,10 +1,11 @@
-//! Both checks on one file: that they agree, and how long each takes.
+//! The three checks on one file: that they agree, and how long each takes.
 
 use crate::files::Case;
+use plain::{Checked, Refusal};
 use std::hint::black_box;
 use std::time::{Duration, Instant};
 
-/// The answer in which both must agree.
+/// The answer in which all must agree.
 #[derive(Clone, Copy, Debug, PartialEq, Eq)]
 pub struct Outcome {
     pub verdict: &'static str,
@@ -13,16 +14,22 @@ pub struct Outcome {
     pub pass: u64,
 }
 
-/// The least times of one check.
+/// The least times of one check: by the proved library, by plain Rust that forms every candidate, and by semi-naive plain Rust.
 #[derive(Clone, Copy)]
 pub struct Times {
     pub proved: Duration,
-    pub plain: Duration,
+    /// `None` where a check that forms every candidate would take too long.
+    pub every: Option<Duration>,
+    pub semi_naive: Duration,
 }
 
 impl Times {
-    pub fn ratio(&self) -> f64 {
-        self.proved.as_secs_f64() / self.plain.as_secs_f64()
+    pub fn ratio_to_every(&self) -> Option<f64> {
+        Some(self.proved.as_secs_f64() / self.every?.as_secs_f64())
+    }
+
+    pub fn ratio_to_semi_naive(&self) -> f64 {
+        self.proved.as_secs_f64() / self.semi_naive.as_secs_f64()
     }
 }
 
@@ -33,51 +40,124 @@ const BATCH: Duration = Duration::from_millis(4);
 const PATIENCE: Duration = Duration::from_millis(600);
 const LEAST_ROUNDS: usize = 7;
 
-/// Checks the case with both. An error says how they differ.
+/// A check that takes longer than this is measured by one call.
+const SLOW: Duration = Duration::from_secs(5);
+
+/// Checks the case with all three. An error says how they differ.
 pub fn agree(case: &Case) -> Result<Outcome, String> {
-    match (proved(case), plainly(case)) {
-        (Some(proved), Some(plain)) if proved == plain => Ok(plain),
-        (proved, plain) => Err(format!(
-            "{}: the proved check says {proved:?} and the plain one {plain:?}",
-            case.name
-        )),
-    }
+    let outcomes = Which::of(case).map(|which| (which.check(case), which));
+    same(case, &outcomes.collect::<Vec<_>>())
 }
 
-/// Measures both in turn, and takes the least time of each.
-pub fn measure(case: &Case) -> Times {
-    let mut least = Times {
-        proved: Duration::MAX,
-        plain: Duration::MAX,
-    };
-    let (one, other) = (batch(case, proved), batch(case, plainly));
+/// Checks the case with all three, which must agree, and measures them in turn. Returns the least time of each.
+pub fn measure(case: &Case) -> Result<(Outcome, Times), String> {
     let began = Instant::now();
+    let mut clocks: Vec<Clock> = Which::of(case).map(|which| Clock::new(case, which)).collect();
+    let outcome = same(
+        case,
+        &clocks.iter().map(|clock| (clock.outcome, clock.which)).collect::<Vec<_>>(),
+    )?;
     let mut rounds = 0;
     while rounds < LEAST_ROUNDS || began.elapsed() < PATIENCE {
-        least.proved = least.proved.min(average(case, one, proved));
-        least.plain = least.plain.min(average(case, other, plainly));
+        clocks.iter_mut().for_each(|clock| clock.measure(case));
         rounds += 1;
     }
-    least
+    let least = |which| clocks.iter().find(|clock| clock.which == which).map(|clock| clock.least);
+    let always = "each case is checked with it";
+    let times = Times {
+        proved: least(Which::Proved).expect(always),
+        every: least(Which::Every),
+        semi_naive: least(Which::SemiNaive).expect(always),
+    };
+    Ok((outcome, times))
 }
 
-/// One of the two checks; `None` is a refusal.
-type Check = fn(&Case) -> Option<Outcome>;
+/// The least time of one proved check.
+pub fn measure_proved(case: &Case) -> Duration {
+    let mut clock = Clock::new(case, Which::Proved);
+    (0..LEAST_ROUNDS).for_each(|_| clock.measure(case));
+    clock.least
+}
+
+/// What all say of the case.
+fn same(case: &Case, outcomes: &[(Option<Outcome>, Which)]) -> Result<Outcome, String> {
+    match outcomes {
+        [(Some(first), _), rest @ ..] if rest.iter().all(|(other, _)| other == &Some(*first)) => Ok(*first),
+        _ => Err(format!("{}: {outcomes:?}", case.name)),
+    }
+}
+
+/// One of the three checks.
+#[derive(Clone, Copy, Debug, PartialEq, Eq)]
+enum Which {
+    Proved,
+    Every,
+    SemiNaive,
+}
+
+impl Which {
+    /// Those that the case is checked with.
+    fn of(case: &Case) -> impl Iterator<Item = Which> + '_ {
+        [Which::Proved, Which::Every, Which::SemiNaive]
+            .into_iter()
+            .filter(|&which| which != Which::Every || case.by_every)
+    }
+
+    /// Checks the case; `None` is a refusal.
+    fn check(self, case: &Case) -> Option<Outcome> {
+        match self {
+            Which::Proved => proved(case),
+            Which::Every => plainly(case, plain::check),
+            Which::SemiNaive => plainly(case, plain::check_semi_naive),
+        }
+    }
+}
+
+/// The measuring of one check on one file.
+struct Clock {
+    which: Which,
+    outcome: Option<Outcome>,
+    /// How many checks make a batch.
+    batch: u32,
+    least: Duration,
+}
+
+impl Clock {
+    fn new(case: &Case, which: Which) -> Clock {
+        let began = Instant::now();
+        let outcome = which.check(case);
+        let least = began.elapsed();
+        let batch = if least < SLOW { batch(case, which) } else { 1 };
+        Clock {
+            which,
+            outcome,
+            batch,
+            least,
+        }
+    }
+
+    /// Measures a batch, unless one call takes too long.
+    fn measure(&mut self, case: &Case) {
+        if self.least < SLOW {
+            self.least = self.least.min(average(case, self.batch, self.which));
+        }
+    }
+}
 
 /// How many checks make a batch.
-fn batch(case: &Case, check: Check) -> u32 {
+fn batch(case: &Case, which: Which) -> u32 {
     let mut count = 1;
-    while average(case, count, check) * count < BATCH {
+    while average(case, count, which) * count < BATCH {
         count *= 2;
     }
     count
 }
 
 /// The time of one check in a batch.
-fn average(case: &Case, count: u32, check: Check) -> Duration {
+fn average(case: &Case, count: u32, which: Which) -> Duration {
     let began = Instant::now();
     for _ in 0..count {
-        black_box(check(black_box(case)));
+        black_box(which.check(black_box(case)));
     }
     began.elapsed() / count
 }
@@ -102,10 +182,12 @@ fn proved(case: &Case) -> Option<Outcome> {
     })
 }
 
-/// The plain check.
-fn plainly(case: &Case) -> Option<Outcome> {
+/// One of the plain checks.
+type Plain = fn(&[u8], usize, u64, &mut [u8]) -> Result<Checked, Refusal>;
+
+fn plainly(case: &Case, check: Plain) -> Option<Outcome> {
     let mut buffer = [0; ROOM];
-    let checked = plain::check(&case.file, case.rows, case.budget, &mut buffer).ok()?;
+    let checked = check(&case.file, case.rows, case.budget, &mut buffer).ok()?;
     let verdict = match checked.answer.verdict {
         plain::Verdict::Holds => "holds",
         plain::Verdict::Broken => "broken",

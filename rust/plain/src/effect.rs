@@ -59,7 +59,7 @@ impl Effect {
     #[inline]
     pub fn within(self, other: Effect) -> bool {
         let outside = |word: usize| self.0[word] & !other.0[word];
-        outside(0) | outside(1) | outside(2) | outside(3) == 0
+        outside(0) | outside(1) == 0 && outside(2) | outside(3) == 0
     }
 
     /// Whether no pair leads from stage 0 to a finishing stage.
@@ -73,9 +73,36 @@ impl Effect {
     }
 }
 
+/// An effect prepared for composition with many others: for each middle stage, the rows of stages that lead to it, whole.
+pub(crate) struct Prepared([[u64; 4]; 16]);
+
+impl Prepared {
+    pub fn new(effect: Effect) -> Prepared {
+        Prepared(std::array::from_fn(|middle| effect.0.map(|x| spread(x >> middle))))
+    }
+
+    /// The prepared effect, then `next`, as `Effect::then` says it.
+    #[inline]
+    pub fn then(&self, next: Effect) -> Effect {
+        let mut joined = [0; 4];
+        for (rows, leading) in next.0.into_iter().zip(self.0.chunks_exact(4)) {
+            if rows != 0 {
+                for (middle, leading) in leading.iter().enumerate() {
+                    let row = (rows >> (16 * middle) & 0xffff) * LOWEST;
+                    joined
+                        .iter_mut()
+                        .zip(leading)
+                        .for_each(|(into, leading)| *into |= leading & row);
+                }
+            }
+        }
+        Effect(joined)
+    }
+}
+
 #[cfg(test)]
 mod tests {
-    use super::Effect;
+    use super::{Effect, Prepared};
 
     fn has(e: Effect, a: u8, b: u8) -> bool {
         e.from_stage(a.into()) >> b & 1 == 1
@@ -110,6 +137,7 @@ mod tests {
             let common = |e: Effect, f: Effect| Effect([0, 1, 2, 3].map(|k| e.0[k] & f.0[k]));
             for (e, f) in [(x, y), (common(x, y), common(y, z))] {
                 assert_eq!(e.then(f), slowly(e, f));
+                assert_eq!(Prepared::new(e).then(f), slowly(e, f));
                 assert_eq!(e.then(Effect::IDENTITY), e);
                 assert_eq!(Effect::IDENTITY.then(e), e);
             }

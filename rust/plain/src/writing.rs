@@ -1,7 +1,7 @@
 //! The run behind a row.
 
 use crate::file::{Body, Plan, Refusal, Symbol};
-use crate::order::{Row, CAP};
+use crate::journal::{Row, CAP};
 
 /// A part of a run still to be written.
 enum Part {

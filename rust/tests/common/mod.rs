@@ -260,9 +260,36 @@ pub fn patterned(room: usize) -> Vec<u8> {
     (0..room).map(|at| 200 + (at % 50) as u8).collect()
 }
 
+/// Checks a file with both searches of the plain implementation, which must agree: in the answer, in the bytes of `buffer`, and in each row of
+/// the journal.
+fn both_searches(
+    file: &[u8],
+    starts: u64,
+    rows: usize,
+    budget: u64,
+    buffer: &mut [u8],
+) -> Result<plain::Checked, plain::Refusal> {
+    let what = || format!("semi-naive, from {starts:#x} with {rows} rows, budget {budget}: {file:?}");
+    let mut second = buffer.to_vec();
+    let checked = plain::check_from(file, starts, rows, budget, buffer);
+    let again = plain::check_semi_naive_from(file, starts, rows, budget, &mut second);
+    assert_eq!(again, checked, "{}", what());
+    assert!(second == buffer, "the buffer after {}", what());
+    if checked.is_ok() {
+        let plan = plain::read(file).unwrap();
+        let every = plain::search(&plan, starts, rows, budget);
+        assert!(
+            plain::search_semi_naive(&plan, starts, rows, budget) == every,
+            "the journal after {}",
+            what()
+        );
+    }
+    checked
+}
+
 /// What the library is to return and fill in, by the plain implementation.
 fn plainly(file: &[u8], starts: Starts, rows: usize, budget: u64, buffer: &mut [u8]) -> (u64, DetailsFrom) {
-    let checked = match plain::check_from(file, starts.bits(), rows, budget, buffer) {
+    let checked = match both_searches(file, starts.bits(), rows, budget, buffer) {
         Ok(checked) => checked,
         Err(refusal) => {
             let (number, record) = numbers(refusal);

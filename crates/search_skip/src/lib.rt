@@ -2,7 +2,6 @@
 // before began was formed in that pass, so that a live row covers it: it is one join, and nothing else. Such candidates stand together, and
 // are counted by their number: the old rights of a left by a sum, the old lefts of a rule, each with all its rights, by a product.
 use search_laws::Reached;
-use search_spans::Span;
 use search_state::ABSENT;
 use search_state::Counts;
 use search_state::END;
@@ -13,12 +12,9 @@ ghost use Prim.Native.Nat.{_≤_};
 ghost use mathlib.Core.Path.{_≡_};
 ghost use mathlib.Core.Bool.{true};
 ghost use lib.ListN.{length, take};
-ghost use Rattle.spec_file.specs.Entries.{entryOf};
-ghost use Rattle.search_state.specs.Forming.{leftPart, rightPart};
 ghost use Rattle.search_state.specs.Layout.{rowCells, tableCells, listsIn, end};
 ghost use Rattle.search_order.specs.Lists.{afterIn};
 ghost use Rattle.search_order.specs.Places as places;
-ghost use Rattle.search_spans.specs.Spans.{Measured, Spans};
 ghost use Rattle.search_laws.specs.Steps.{isBefore, repeatsAt, passesAt, movedTo, Later, MayPass, PassesSpan, PassesOver, MeasuresIn};
 
 // ---- the lists of the pass
@@ -64,22 +60,6 @@ pub fn measure_in(table: &mut [u32], old: usize)
     ensures { λ r. ⌜ MeasuresIn old (now (table .entry)) (now (table .exit)) ⌝ }
 {
     search_spans::measure(&mut table[LISTS..], old)
-}
-
-// The span of the left part of the body of `rule`.
-fn left_span_in(table: &[u32], old: usize, rule: [u8; 4]) -> Span
-    requires { ⌜ (length (now table) ≡ tableCells) × Measured old (listsIn (now table)) ⌝ }
-    ensures { λ s. ⌜ Spans old (listsIn (now (table .entry))) (leftPart (entryOf rule .body)) s ⌝ }
-{
-    search_spans::left_span(&table[LISTS..], old, rule)
-}
-
-// The span of its right part.
-fn right_span_in(table: &[u32], old: usize, rule: [u8; 4]) -> Span
-    requires { ⌜ (length (now table) ≡ tableCells) × Measured old (listsIn (now table)) ⌝ }
-    ensures { λ s. ⌜ Spans old (listsIn (now (table .entry))) (rightPart (entryOf rule .body)) s ⌝ }
-{
-    search_spans::right_span(&table[LISTS..], old, rule)
 }
 
 // ---- what the pass before formed
@@ -135,7 +115,8 @@ fn pass_span(rules: &[[u8; 4]], table: &[u32], n: usize, terms: Terms, at: Reach
     let r = place.rule;
     let rule = rules[r];
     let joins = counts.joins + 1;
-    let rights = right_span_in(table, terms.old, rule);
+    let lists = &table[LISTS..];
+    let rights = search_spans::right_span(lists, terms.old, rule);
     if (rights.first != place.right) | (terms.budget - joins < rights.steps) {
         return moved(at, joins, place.left, place.right);
     }
@@ -144,7 +125,7 @@ fn pass_span(rules: &[[u8; 4]], table: &[u32], n: usize, terms: Terms, at: Reach
     if next != END {
         return moved(at, row, place.left, rights.last);
     }
-    let lefts = left_span_in(table, terms.old, rule);
+    let lefts = search_spans::left_span(lists, terms.old, rule);
     let more = lefts.steps * (rights.steps + 1);
     if (lefts.first != place.left) | (terms.budget - row < more) {
         return moved(at, row, place.left, rights.last);

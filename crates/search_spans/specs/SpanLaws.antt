@@ -1,5 +1,5 @@
 -- Measuring the lists, one after the other, and what is read of them. Assumes nothing.
-use mathlib.Core.Path.{_≡_, refl, sym, _∙_, subst}
+use mathlib.Core.Path.{_≡_, refl, sym, ap, _∙_, subst}
 use mathlib.Core.Bool.{Bool, true, false, cond}
 use mathlib.Core.List.{List, [], _∷_}
 use Prim.Native.Nat.{ℕ, zero, suc, _+_, _≤_, _<_}
@@ -8,7 +8,7 @@ use lib.Arith.{lt-of-le-ne}
 use lib.Dec.{eqb, ltb}
 use lib.ListN.{length, getD, set, length-set}
 use lib.Seq.{getD-set-same, getD-set-other}
-use borrow.Author.Tests.{ltb-true, eqb-true, eqb-false}
+use borrow.Author.Tests.{lt-ltb, ltb-true, eqb-true, eqb-false}
 use Rattle.spec_file.specs.Limits.{nonterminals}
 use Rattle.spec_language.specs.Grammar.{nonterminal}
 use Rattle.search_state.specs.Forming.{Part, some}
@@ -16,9 +16,13 @@ use Rattle.search_state.specs.Layout.{rowCells, headCell, listCells, stepCell, 
 use Rattle.search_order.specs.Lists.{afterIn, Chain, ListedAs}
 use Rattle.search_order.specs.PlaceLaws.{begins-nonterminal}
 use Rattle.search_order.specs.Places.{FirstPosition}
-use Rattle.search_spans.specs.Spans.{Along, MeasuredAt, Measured, Measures, MeasuresOne, Spans}
+use Rattle.search_spans.specs.Spans.{Along, MeasuredAt, Measured, NoneLeads, Measures, MeasuresOne, Spans}
 
 -- ---- along a list
+
+-- after a row comes what its cell has
+pub row-after : (lists : List ℕ) (i : ℕ) → i < rowCells → afterIn lists i ≡ getD lists i 0
+row-after lists i h = ap (λ (b : Bool). cond b (getD lists i 0) end) (lt-ltb i rowCells h)
 
 -- the steps lead to an old row, if they begin at one
 pub along-below : (lists : List ℕ) (b i n k : ℕ) → Along lists b i n k → i < b → k < b
@@ -117,9 +121,20 @@ to-next b m old mid new hm s o =
 pub to-all : (b : ℕ) (old new : List ℕ) → MeasuresTo b nonterminals old new → Measures b old new
 to-all b old new s = record { size = s .size; lists = s .lists; measured = s .measured }
 
--- where no row is old, there is nothing to measure
-pub measures-none : (t : List ℕ) → Measures 0 t t
-measures-none t = record { size = refl; lists = λ i l. refl; measured = λ x h l. absurd (omega (arith, l)) }
+pub leads-none : (b : ℕ) (t : List ℕ) → NoneLeads b 0 t
+leads-none b t i h = absurd (omega (arith, h))
+
+pub leads-next : (b m : ℕ) (t : List ℕ) → (getD t m 0 < b → ⊥) → NoneLeads b m t → NoneLeads b (m + 1) t
+leads-next b m t z n i h = by (eqb i m) refl
+  where
+    by : (e : Bool) → eqb i m ≡ e → getD t i 0 < b → ⊥
+    by true e l = z (subst (λ (k : ℕ). getD t k 0 < b) (eqb-true i m e) l)
+    by false e l = n i (lt-of-le-ne (omega (arith, h)) (eqb-false i m e)) l
+
+-- where no old row leads to another, there is nothing to note
+pub measures-none : (b : ℕ) (t : List ℕ) → b ≤ rowCells → NoneLeads b b t → Measures b t t
+measures-none b t fits n =
+    record { size = refl; lists = λ i l. refl; measured = λ x h l l′. absurd (n (getD t (headCell x) 0) l (subst (λ (k : ℕ). k < b) (row-after t (getD t (headCell x) 0) (omega (arith, l, fits))) l′)) }
 
 -- ---- what is read
 

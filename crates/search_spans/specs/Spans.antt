@@ -23,6 +23,10 @@ MeasuredAt b lists x =
 abbrev pub Measured : ℕ → List ℕ → Type 0
 Measured b lists = (x : ℕ) → x < nonterminals → MeasuredAt b lists x
 
+-- of the first m rows none leads to an old one
+abbrev pub NoneLeads : ℕ → ℕ → List ℕ → Type 0
+NoneLeads b m lists = (i : ℕ) → i < m → getD lists i 0 < b → ⊥
+
 -- measuring leaves the lists as they were
 pub record Measures (b : ℕ) (old new : List ℕ) : Type 0 where
   pub size : length new ≡ length old

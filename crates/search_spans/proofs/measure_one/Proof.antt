@@ -1,22 +1,15 @@
 -- `search_spans::measure_one` meets its contract, by whether the list begins with two old rows. Assumes nothing.
-use mathlib.Core.Path.{_≡_, sym, ap, subst}
-use mathlib.Core.Bool.{Bool, cond}
-use mathlib.Core.List.{List}
+use mathlib.Core.Path.{sym, subst}
 use Prim.Native.Nat.{ℕ, _<_}
 use native.Mathlib.Omega.{arith}
-use lib.ListN.{getD, length-set}
+use lib.ListN.{length-set}
 use borrow.Author.Needs.{needs}
-use borrow.Author.Tests.{lt-ltb}
-use Rattle.search_state.specs.Layout.{rowCells, stepCell, end}
+use Rattle.search_state.specs.Layout.{stepCell}
 use Rattle.search_order.specs.Lists.{afterIn}
 use Rattle.search_spans.specs.Spans.{Along}
-use Rattle.search_spans.specs.SpanLaws.{along-below, one-none, one-noted}
+use Rattle.search_spans.specs.SpanLaws.{along-below, one-none, one-noted, row-after}
 use Rattle.search_spans.proofs.measure_one.Statement.{statement}
 use Rattle.search_spans.proofs.measure_one.Tie as tie
-
--- after a row comes what its cell has
-row-after : (lists : List ℕ) (i : ℕ) → i < rowCells → afterIn lists i ≡ getD lists i 0
-row-after lists i h = ap (λ (b : Bool). cond b (getD lists i 0) end) (lt-ltb i rowCells h)
 
 cell-requires : tie.Need-cell-requires
 cell-requires c κs =

@@ -218,10 +218,11 @@ uint64_t bolfrega_unfold_from(const uint8_t *file, size_t file_length, uint64_t 
  * each row on the way down): a thread that calls it needs a stack of 1.5 MiB to be on the safe side. (The main thread of a Linux program
  * has 8 MiB.)
  *
- * How long it takes, as measured on one core of a server at 2.1 GHz (bench/README.md): some 15 microseconds for any file, most of them for
- * clearing its journal and tables; then 10 to 80 nanoseconds for each join, and where thousands of rows of one procedure are looked through
- * for most joins, up to a microsecond. Joins of rows that were there in the pass before are only counted: 62 thousand million of them took
- * less than a second. So a budget of 1,000,000 joins ends a call within a second, and the files that we measure within 40 milliseconds.
+ * How long it takes, as measured on one core of a server at 2.1 GHz (bench/README.md): some 25 microseconds for any file, most of them for
+ * clearing its journal and tables; then 5 to 50 nanoseconds for each join, and where hundreds or thousands of rows of one procedure are
+ * looked through for most joins, from 100 nanoseconds up to a microsecond. Joins of rows that were there in the pass before are only counted:
+ * 62 thousand million of them took less than a second. So a budget of 1,000,000 joins ends a call within about a second, and of the files
+ * that we measure the slowest took 21 milliseconds with it.
  *
  * Returns, and sets all eight details:
  * - 1 to 7 or 12 if the file is refused; else 8 if `rows` is 0 or above 4,096. The record is that of bolfrega_refusal (0 for 1, 2 and 8), and

@@ -61,9 +61,9 @@
 //!
 //! # Time
 //!
-//! As measured on one core of a server at 2.1 GHz, [`check`] takes some 15 microseconds for any file, then 10 to 80 nanoseconds for each join,
-//! and where thousands of rows of one procedure are looked through for most joins, up to a microsecond. Joins of rows that were there in the
-//! pass before are only counted. A budget of 1,000,000 joins ends a call within a second.
+//! As measured on one core of a server at 2.1 GHz, [`check`] takes some 25 microseconds for any file, then 5 to 50 nanoseconds for each join,
+//! and where hundreds or thousands of rows of one procedure are looked through for most joins, from 100 nanoseconds up to a microsecond. Joins
+//! of rows that were there in the pass before are only counted. A budget of 1,000,000 joins ends a call within about a second.
 
 #![deny(unsafe_code)]
 #![warn(missing_docs)]

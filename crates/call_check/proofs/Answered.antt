@@ -88,7 +88,7 @@ module _ (bs : List ℕ) (o : Options) (old : Journal) where
       (front-rest (totalsIn a .used) old new (x .beyond) ∙ sym (ap₂ (λ (l : List (Row ℕ)) (u : ℕ). l ++ drop u (map rowOf old)) (answer-journal a new) (answer-used a new)))
       (subst (λ (u : ℕ). drop u new ≡ drop u old) (sym (answer-used a new)) (x .beyond))
 
-  module _ (letters : Letters) (rules : RuleBytes) (t t′ : List ℕ) (r : Start) (h : Starts bs g letters rules t r) (new : Journal) (last : State) (ran : Ran letters rules (r .state) old new t′ last) where
+  module _ (letters : Letters) (rules : RuleBytes) (t near t′ : List ℕ) (r : Start) (h : Starts bs g letters rules t near r) (new : Journal) (last : State) (ran : Ran letters rules (r .state) old new t′ last) where
     abbrev s : State
     s = r .state
 

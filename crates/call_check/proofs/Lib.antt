@@ -1,1 +1,2 @@
 mod Answered
+pub mod LentArrays

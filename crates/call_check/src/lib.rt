@@ -3,7 +3,6 @@ use relation::Letter;
 use search_cover::NEAR_WORDS;
 use search_laws::Answer;
 use search_state::CELLS;
-use search_state::END_CELL;
 use search_state::State;
 use spec_calls::Options;
 use spec_calls::Row;
@@ -33,30 +32,38 @@ fn as_checked(told: Refusal, last: State) -> Checked
 }
 
 // Decides whether every word of the plan in `file` is accepted, by the working order over the lent `journal`, in which it stores the rows that it
-// uses; `options` has the budget of joins. Proved by hand.
-pub fn check(file: &[u8], journal: &mut [Row], options: Options) -> Checked
+// uses; `options` has the budget of joins. It works in the lent `table` and `near`, which may have any contents: nothing is cleared but what is
+// read. Proved by hand.
+pub fn check_in(
+    file: &[u8],
+    journal: &mut [Row],
+    table: &mut [u32; CELLS],
+    near: &mut [Letter; NEAR_WORDS],
+    options: Options,
+) -> Checked
     ensures { λ r. ⌜ Checks (now (file .entry)) options (now (journal .entry)) (now (journal .exit)) r ⌝ }
 {
     let mut letters: Letters = [0; LETTER_WORDS];
     let mut rules = [[0u8; 4]; RULE_LIMIT];
-    let mut table = [END_CELL; CELLS];
-    let mut near: [Letter; NEAR_WORDS] = [0; NEAR_WORDS];
     let rows = journal.len();
     let start = call_check_start::prepare(
         file,
         &mut letters,
         &mut rules,
-        &mut table,
+        table,
+        near,
         rows,
         options,
     );
-    let last = search_loops::run(
-        journal,
-        &mut table,
-        &mut near,
-        &letters,
-        &rules,
-        start.state,
-    );
+    let last = search_loops::run(journal, table, near, &letters, &rules, start.state);
     as_checked(start.refusal, last)
+}
+
+// The same with a table and words of its own. Proved by hand.
+pub fn check(file: &[u8], journal: &mut [Row], options: Options) -> Checked
+    ensures { λ r. ⌜ Checks (now (file .entry)) options (now (journal .entry)) (now (journal .exit)) r ⌝ }
+{
+    let mut table = [0u32; CELLS];
+    let mut near: [Letter; NEAR_WORDS] = [0; NEAR_WORDS];
+    check_in(file, journal, &mut table, &mut near, options)
 }

@@ -5,7 +5,7 @@ use mathlib.Core.List.{List, [], map}
 use Prim.Native.Nat.{ℕ, zero, suc, _≤_, _<_}
 use native.Mathlib.Omega.{arith}
 use lib.Dec.{T, eqb, ltb}
-use lib.ListN.{length, take, replicate, length-replicate}
+use lib.ListN.{length, take, set, replicate, length-replicate}
 use lib.Seq.{length-take-le}
 use borrow.Author.Tests.{eqb-false, ltb-false}
 use Rattle.spec_basics.specs.Tests.{or-neither}
@@ -22,14 +22,16 @@ use Rattle.spec_file.specs.Entries.{entryOf}
 use Rattle.spec_calls.specs.Rows.{rowOf, blank, Journal}
 use Rattle.search_rows.specs.Base.{Row}
 use Rattle.spec_calls.specs.declared.Row.{Row as LentRow}
-use Rattle.search_state.specs.Layout.{tableCells, end}
 use Rattle.search_links.specs.CoverLaws.{covering-none}
-use Rattle.search_links.specs.Covers.{Covering}
+use Rattle.search_links.specs.Covers.{Covering, Unlinked}
 use Rattle.search_links.specs.RowLaws.{rows-none}
+use Rattle.search_links.specs.Rows.{rowsRead}
+use Rattle.search_cover.specs.Near.{nearWords, Beside}
 use Rattle.search_state.specs.declared.State.{State}
 use Rattle.search_state.specs.declared.Terms.{Terms}
 use Rattle.search_laws.specs.Passes.{pass-first}
-use Rattle.search_laws.specs.OnRelations.{Letters, problemIn, Running, OpensPass}
+use Rattle.search_laws.specs.Nearing.{near-first}
+use Rattle.search_laws.specs.OnRelations.{Letters, problemIn, NearIn, Running, OpensPass}
 use Rattle.search_laws.specs.ProblemLaws.{problem-laws}
 use Rattle.search_laws.specs.Problems.{RuleBytes, Problem}
 use Rattle.search_laws.specs.Steps.{MayOpen}
@@ -59,20 +61,16 @@ module _ (bs : List ℕ) (g : Settings) where
   B = g .budget
 
   -- ---- at the ends
-  pub starts-refused : (letters : Letters) (rules : RuleBytes) (t : List ℕ) (r : Refusal) → refusalOf r ≡ firstOf (checkRefusals bs J) → (r .number ≡ 0 → ⊥) → (s : State) → s ≡ waiting g 0 0 → Starts bs g letters rules t (record { refusal = r; state = s })
-  starts-refused letters rules t r e z s w = record { refusal = e; refused = λ _. ap (λ (x : State). x .going) w; begins = λ q. absurd (z q) }
+  pub starts-refused : (letters : Letters) (rules : RuleBytes) (t near : List ℕ) (r : Refusal) → refusalOf r ≡ firstOf (checkRefusals bs J) → (r .number ≡ 0 → ⊥) → (s : State) → s ≡ waiting g 0 0 → Starts bs g letters rules t near (record { refusal = r; state = s })
+  starts-refused letters rules t near r e z s w = record { refusal = e; refused = λ _. ap (λ (x : State). x .going) w; begins = λ q. absurd (z q) }
 
-  -- a table without a row
-  no-links : {E : Type 0} (t : List ℕ) → t ≡ replicate tableCells end → Covering {E = E} [] t
-  no-links t et = subst (Covering []) (sym et) covering-none
-
-  pub may-open : (finals : ℕ) (before rules : RuleBytes) (n : ℕ) → RuleTable bs before rules n → (t : List ℕ) → t ≡ replicate tableCells end → (w : State) → w ≡ waiting g n finals → MayOpen rules n (w .terms) (w .counts) t
+  pub may-open : (finals : ℕ) (before rules : RuleBytes) (n : ℕ) → RuleTable bs before rules n → (t : List ℕ) → Unlinked t → (w : State) → w ≡ waiting g n finals → MayOpen rules n (w .terms) (w .counts) t
   may-open finals before rules n en t et w ew =
       subst (λ (x : State). MayOpen rules n (x .terms) (x .counts) t) (sym ew)
-      (record { table = ap length et ∙ length-replicate tableCells end; count = rules-fit bs before rules n en; old = omega arith; used = omega arith; links = record { rows = []; size = refl; covering = no-links t et } })
+      (record { table = et .size; count = rules-fit bs before rules n en; old = omega arith; used = omega arith; links = record { rows = []; size = refl; covering = covering-none t et } })
 
   module _ (letters : Letters) (el : letters ≡ letterTable states (transitionsOf bs)) (finals : ℕ) (ef : finals ≡ number states (isFinal (automatonOf bs))) (before rules : RuleBytes) (n : ℕ) (en : RuleTable bs before rules n) (t t′ : List ℕ)
-      (et : t ≡ replicate tableCells end) (w : State) (ew : w ≡ waiting g n finals) (x : Reached) (o : OpensPass rules t n (w .terms) (w .counts) t′ x) (nonempty : Bool) (em : nonempty ≡ allLinked (w .terms .starts) t′) (s : State) (es : s ≡ opening w (w .terms) x nonempty) (r : Refusal) (e : refusalOf r ≡ firstOf (checkRefusals bs J)) (z : r .number ≡ 0) where
+      (et : Unlinked t) (near near′ : List ℕ) (size : length near ≡ nearWords) (forgot : near′ ≡ set near 0 0) (w : State) (ew : w ≡ waiting g n finals) (x : Reached) (o : OpensPass rules t n (w .terms) (w .counts) t′ x) (nonempty : Bool) (em : nonempty ≡ allLinked (w .terms .starts) t′) (s : State) (es : s ≡ opening w (w .terms) x nonempty) (r : Refusal) (e : refusalOf r ≡ firstOf (checkRefusals bs J)) (z : r .number ≡ 0) where
     abbrev P : Problem ℕ LentRow
     P = problemIn (g .starts) finals letters (take n rules)
 
@@ -84,7 +82,7 @@ module _ (bs : List ℕ) (g : Settings) where
         let k = journal-size J (quiet .1) in
         subst (λ (y : State). Onward P B j (record { used = 0; joins = 0; added = 0 }) y j t′) (sym (es ∙ ap (opening w (w .terms) x) em ∙ ap (λ (y : State). opening y (y .terms) x (allLinked (y .terms .starts) t′)) ew))
         (subst (λ (y : State). OpensPass rules t n (y .terms) (y .counts) t′ x) ew o P (problem-laws (g .starts) finals letters (take n rules)) B j j 1 0 (waiting g n finals) refl (record { some = omega (arith, l, k .0); limit = omega (arith, l, k .1) }) (sym l) (pass-first P B j) refl (λ q. absurd (omega (arith, q)))
-        (subst (λ (rows : List Row). Covering rows t) (sym (rows-none rowOf j)) (no-links t et)))
+        (subst (λ (rows : List Row). Covering rows t) (sym (rows-none rowOf j)) (covering-none t et)))
 
     fit : n ≤ length rules
     fit = rules-fit bs before rules n en
@@ -92,7 +90,7 @@ module _ (bs : List ℕ) (g : Settings) where
     count : n ≡ s .rules
     count = sym (opened (replicate J blank) (length-replicate J blank) .stands .count ∙ length-take-le n rules fit)
 
-    pub starts : Starts bs g letters rules t′ (record { refusal = r; state = s })
+    pub starts : Starts bs g letters rules t′ near′ (record { refusal = r; state = s })
     starts = record {
       refusal = e;
       refused = λ q. absurd (q z);
@@ -100,12 +98,14 @@ module _ (bs : List ℕ) (g : Settings) where
         relations = el;
         whole = subst (λ (k : ℕ). k ≤ length rules) count fit;
         entries = subst (λ (k : ℕ). map entryOf (take k rules) ≡ rulesOf bs) count (rules-in bs (quiet .0) before rules n en);
+        none-used = opened (replicate J blank) (length-replicate J blank) .used;
+        none-near = subst (Beside []) (sym forgot) (near-first near size);
         stands = λ j l. subst (λ (k : ℕ). SearchAt (problemOf bs g letters (take k rules)) B j s j t′) count (subst (λ (f : ℕ). SearchAt (problemIn (g .starts) f letters (take n rules)) B j s j t′) ef (opened j l .stands));
       };
     }
 
   -- ---- then the search may run, over every journal of J rows
-  module _ (letters : Letters) (rules : RuleBytes) (t : List ℕ) (r : Start) (h : Starts bs g letters rules t r) (j : Journal) (l : length j ≡ J) where
+  module _ (letters : Letters) (rules : RuleBytes) (t near : List ℕ) (r : Start) (h : Starts bs g letters rules t near r) (j : Journal) (l : length j ≡ J) where
     abbrev s : State
     s = r .state
 
@@ -128,3 +128,11 @@ module _ (bs : List ℕ) (g : Settings) where
         by (suc k) z =
             let none : T (s .going) → ⊥ = λ g. subst T (h .refused (λ q. let y : ⊥ = omega (arith, sym z ∙ q) in y)) g in
             record { all = λ g. absurd (none g); search = record { idle = λ _. (refl, refl); sized = λ g. absurd (none g); whole = λ g. absurd (none g); stands = λ g. absurd (none g) } }
+
+    -- and no effect stands in the words yet
+    pub may-look : T (s .going) → NearIn s j near
+    may-look g = by (r .refusal .number) refl
+      where
+        by : (k : ℕ) → r .refusal .number ≡ k → NearIn s j near
+        by zero z = subst (λ (rows : List Row). Beside rows near) (sym (ap (λ (u : ℕ). rowsRead rowOf u j) (h .begins z .none-used) ∙ rows-none rowOf j)) (h .begins z .none-near)
+        by (suc k) z = absurd (subst T (h .refused (λ q. let y : ⊥ = omega (arith, sym z ∙ q) in y)) g)

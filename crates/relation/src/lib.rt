@@ -43,7 +43,8 @@ const ROW: u64 = 0xffff;
 const DIGESTS: u64 = 32749;
 
 // A relation. Its words are known to this crate only: a caller makes, joins, compares and stores relations by the functions below. They are
-// fields and no array, so that a row of the journal stays a struct of numbers.
+// fields and no array, so that a row of the journal stays a struct of numbers. Hosts have rows, and so relations, in memory of their own: C's layout.
+#[repr(C)]
 pub struct Relation {
     w0: u64,
     w1: u64,

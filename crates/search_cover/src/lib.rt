@@ -15,7 +15,7 @@ use spec_calls::Row;
 ghost use mathlib.Core.Path.{_≡_};
 ghost use mathlib.Core.Bool.{false, _||_};
 ghost use Prim.Native.Nat.{_≤_, _<_};
-ghost use lib.ListN.{length};
+ghost use lib.ListN.{length, set};
 ghost use Rattle.relation.specs.Relation.{contained};
 ghost use Rattle.spec_calls.specs.Rows.{rowOf};
 ghost use Rattle.search_rows.specs.Meanings.{candidateOf};
@@ -61,6 +61,14 @@ fn is_near(near: &[Letter], head: u8) -> bool
     ensures { λ r. ⌜ r ≡ isNear (now (near .entry)) head ⌝ }
 {
     near[HEAD] == head as u64 + 1
+}
+
+// Makes `near`, whatever it has, one that has no nonterminal: it is filled when one is looked for.
+pub fn forget(near: &mut [Letter])
+    requires { ⌜ length (now near) ≡ nearWords ⌝ }
+    ensures { λ _. ⌜ now (near .exit) ≡ set (now (near .entry)) 0 0 ⌝ }
+{
+    near[HEAD] = 0;
 }
 
 // ---- the rows that are read

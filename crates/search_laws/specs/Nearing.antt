@@ -6,7 +6,7 @@ use mathlib.Core.Logic.{_⊎_, inl, inr}
 use Prim.Native.Nat.{ℕ, suc, _+_, _*_, _≤_, _<_, _^_}
 use native.Mathlib.Omega.{arith}
 use lib.Dec.{eqb, ltb}
-use lib.ListN.{length, getD, set, replicate, length-set, length-append, length-replicate, getD-replicate}
+use lib.ListN.{length, getD, set, length-set, length-append}
 use lib.Seq.{getD-set-same}
 use borrow.Author.Tests.{eqb-true, eq-eqb, ne-eqb}
 use Rattle.spec_basics.specs.Lists.{length-every}
@@ -78,13 +78,9 @@ none-beside rows w size =
       near = λ y hy e. absurd (omega (arith, eqb-true _ (y + 1) e, getD-set-same w 0 0 0 (omega (arith, size))));
     }
 
--- nor at the beginning, where all words are 0
-pub near-first : (rows : List (Row ℕ)) (w : List ℕ) → w ≡ replicate nearWords 0 → Beside rows w
-near-first rows w e =
-    record {
-      size = ap length e ∙ length-replicate {A = ℕ} nearWords 0;
-      near = λ y hy q. absurd (omega (arith, eqb-true _ (y + 1) q, ap (λ (v : List ℕ). getD v 0 0) e ∙ getD-replicate {A = ℕ} nearWords 0 0 0 (omega arith)));
-    }
+-- nor at the beginning, where there are no rows, and the words were forgotten, whatever they were
+pub near-first : (w : List ℕ) → length w ≡ nearWords → Beside [] (set w 0 0)
+near-first w size = none-beside [] w size
 
 -- after the candidate was inserted, or not, of u rows in the journal j₀, where it was looked for in w
 module _ {R : Type 0} {rowOf : R → Row ℕ} {blank : R} {k : ℕ} {c : Candidate ℕ} {u : ℕ} {l : CoverCursor} {j₀ : List R} {t₀ : List ℕ} {j : List R} {t w : List ℕ} (i : Inserted contained rowOf blank k c u l j₀ t₀ j t) (f : Finds contained c (rowsRead rowOf u j₀) u t₀ l)

@@ -7,14 +7,14 @@ use Prim.Native.Nat.{ℕ, zero, suc, _+_, _≤_, _<_}
 use native.Mathlib.Omega.{arith}
 use lib.Dec.{eqb, ltb}
 use lib.Arith.{lt-of-le-ne}
-use lib.ListN.{length, getD, set, replicate, length-set, length-replicate, getD-replicate, length-append}
+use lib.ListN.{length, getD, set, length-set, length-append}
 use lib.Seq.{getD-set-same, getD-set-other}
 use borrow.Author.Tests.{ltb-true, ltb-false, eqb-true, eqb-false, eq-eqb, ne-eqb}
 use Rattle.spec_basics.specs.Elements.{any}
 use Rattle.spec_basics.specs.Tests.{and-fst}
 use Rattle.spec_order.specs.Journal.{Row, live, liveOf}
 use Rattle.search_state.specs.Layout.{rowCells, heads, headCell, listCells, tableCells, end}
-use Rattle.search_links.specs.Covers.{liveAt, Cell, Reach, Covering, withoutEffect, isLinked}
+use Rattle.search_links.specs.Covers.{liveAt, Cell, Reach, Covering, Unlinked, withoutEffect, isLinked}
 use Rattle.search_links.specs.RowLaws.{holds-inside, holds-nowhere, holds-any, any-none, holds-before, is-last}
 
 pub below-or-last : (k i : ℕ) → k < suc i → (k < i) ⊎ (k ≡ i)
@@ -106,19 +106,13 @@ module _ {E : Type 0} where
 
   -- ---- no row, and other hints
 
-  pub covering-none : Covering {E = E} [] (replicate tableCells end)
-  covering-none =
-      record {
-        size = length-replicate tableCells end;
-        reach =
-            λ x cell n h z.
-            subst (Reach {E = E} x [] n) (sym (getD-replicate tableCells cell end 0 (omega (arith, cell-bound x [] cell n h (omega arith) z))))
-            (record { within = from x cell n z; gap = λ i a b. refl; stop = inl refl });
-      }
+  pub covering-none : (covers : List ℕ) → Unlinked covers → Covering {E = E} [] covers
+  covering-none covers g = record { size = g .size; reach = by }
     where
-      from : (x cell n : ℕ) → Cell {E = E} x [] cell n → n ≤ end
-      from x cell n (inl z) = omega (arith, z .1)
-      from x cell n (inr z) = absurd (false≢true (z .0))
+      by : (x cell n : ℕ) → x < heads → Cell {E = E} x [] cell n → Reach {E = E} x [] n (getD covers cell 0)
+      by x cell n h (inl z) =
+          subst (Reach {E = E} x [] n) (sym (ap (λ (k : ℕ). getD covers k 0) (z .0) ∙ g .firsts x h)) (record { within = omega (arith, z .1); gap = λ i a b. refl; stop = inl refl })
+      by x cell n h (inr z) = absurd (false≢true (z .0))
 
   -- another table with the same links
   pub covering-links : (rows : List (Row E)) (old new : List ℕ) → length rows ≤ rowCells → length new ≡ length old → ((i : ℕ) → i < listCells → getD new i 0 ≡ getD old i 0) → Covering rows old → Covering rows new

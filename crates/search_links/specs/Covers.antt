@@ -46,6 +46,11 @@ module _ {E : Type 0} where
     pub is : Cell x rows cell from
     pub last : getD covers cell 0 ≡ end
 
+-- no list has a row: the cell of each nonterminal leads to the end
+pub record Unlinked (covers : List ℕ) : Type 0 where
+  pub size : length covers ≡ tableCells
+  pub firsts : (x : ℕ) → x < heads → getD covers (headCell x) 0 ≡ end
+
 -- the list of x has a row: the cell of x does not lead to the end
 abbrev pub isLinked : ℕ → List ℕ → Bool
 isLinked x covers = not (eqb (getD covers (headCell x) 0) end)

@@ -6,9 +6,7 @@ use search_rows::Candidate;
 use search_state::Fate;
 use search_state::State;
 use spec_calls::Row;
-ghost use mathlib.Core.Path.{_≡_};
-ghost use lib.ListN.{replicate};
-ghost use Rattle.search_cover.specs.Near.{nearWords};
+ghost use lib.Dec.{T};
 ghost use Rattle.search_laws.specs.OnRelations.{MayFind, NearIn, Looked, MayInsert, CandidateInserted, Running, Ran};
 
 // Looks for a live row that covers `candidate`: at the row of its nonterminal that covered last, at the row that its hint names, and then in
@@ -69,7 +67,7 @@ pub fn run(
     rules: &[[u8; 4]],
     state: State,
 ) -> State
-    requires { ⌜ Running (now letters) (now rules) state (now journal) state (now journal) (now table) × (now near ≡ replicate nearWords 0) ⌝ }
+    requires { ⌜ Running (now letters) (now rules) state (now journal) state (now journal) (now table) × (T (state .going) → NearIn state (now journal) (now near)) ⌝ }
     ensures { λ r. ⌜ Ran (now (letters .entry)) (now (rules .entry)) state (now (journal .entry)) (now (journal .exit)) (now (table .exit)) r ⌝ }
 {
     let mut state = state;

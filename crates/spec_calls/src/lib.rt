@@ -24,7 +24,9 @@ pub const ABSENT: u64 = 65535;
 // The length of a word of this many letters, and of every longer one.
 pub const LONG_WORD: u64 = 65535;
 
-// A kept effect. A pointer is the number of an older row, or ABSENT; a length is exact below LONG_WORD; a live row is retired in pass 0.
+// A kept effect. A pointer is the number of an older row, or ABSENT; a length is exact below LONG_WORD; a live row is retired in pass 0. A host
+// may lend its own rows (`include/bolfrega.h` names their eleven words): C's layout.
+#[repr(C)]
 pub struct Row {
     pub head: u64,
     pub rule: u64,

@@ -5,9 +5,9 @@ use Prim.Native.Nat.{ℕ}
 use Rattle.spec_calls.specs.Judging.{Judgement, accepted, turnedAway}
 use Rattle.spec_calls.specs.Replies.{Reply, refused, answered}
 
--- the version of this interface: 2 since it has `bolfrega_check_from`
+-- the version of this interface: 2 since it has `bolfrega_check_from`, 3 since a host may lend its own rows
 abbrev pub version : ℕ
-version = 2
+version = 3
 
 -- ---- judgements
 
@@ -51,9 +51,18 @@ convertedCode = 115
 abbrev pub conversionCode : ℕ → ℕ
 conversionCode n = convertedCode
 
+-- ---- a run that is written
+
+abbrev pub writtenCode : ℕ
+writtenCode = 116
+
+-- the same number for every length of the run
+abbrev pub writingCode : ℕ → ℕ
+writingCode n = writtenCode
+
 -- ---- replies
 
--- the count of entries, or the length of a result; 0 where the call is refused
+-- the count of entries, or the length of a result or of a run; 0 where the call is refused
 abbrev pub sizeIn : Reply ℕ → ℕ
 sizeIn (refused r) = 0
 sizeIn (answered n) = n

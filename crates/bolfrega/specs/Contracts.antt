@@ -1,24 +1,31 @@
 -- What the library's functions ensure, each in one record. Definitions only. Assumes nothing.
 use mathlib.Core.Path.{_≡_}
-use mathlib.Core.List.{List, [], _∷_, _++_}
+use mathlib.Core.List.{List, [], _∷_, _++_, map}
 use Prim.Native.Nat.{ℕ}
-use lib.ListN.{length, take, replicate}
+use lib.ListN.{length, take, drop, replicate}
 use Rattle.spec_file.specs.Refusals.{fault}
 use Rattle.spec_order.specs.Journal.{Row}
+use Rattle.spec_order.specs.Order.{Answer}
 use Rattle.spec_calls.specs.Base.{initialAlone}
 use Rattle.spec_calls.specs.Checking.{Settings, checkOf, journalAfter}
 use Rattle.spec_calls.specs.Judging.{judgeOf, JudgementMeans}
 use Rattle.spec_calls.specs.Recognizing.{recognizeOf, RecognizeMeans}
 use Rattle.spec_calls.specs.Listing.{listOf, listAfter, ListMeans}
 use Rattle.spec_calls.specs.Codes.{codeBy}
-use Rattle.spec_calls.specs.Replies.{Reply}
+use Rattle.spec_calls.specs.DemandThree.{Promises}
+use Rattle.spec_calls.specs.Replies.{Reply, answered}
+use Rattle.spec_calls.specs.Rows.{rowOf, Journal}
+use Rattle.spec_calls.specs.Writing.{writeOf, bufferAfter, WordMeans}
+use Rattle.spec_calls.specs.declared.Options.{Options}
 use Rattle.spec_unfold.specs.Unfolding.{leastFor}
 use Rattle.spec_unfold.specs.Calls.{widenOf, widenAfter, narrowOf, narrowAfter, unfoldOf, unfoldAfter}
 use Rattle.spec_unfold.specs.MovingMeans.{WidenMeans, NarrowMeans}
 use Rattle.spec_unfold.specs.UnfoldingMeans.{UnfoldMeans}
-use Rattle.host_check.specs.Details.{zeroRow, headOf}
+use Rattle.call_check.specs.Answers.{usedIn}
+use Rattle.call_check.specs.Contracts.{settingsOver}
+use Rattle.host_check.specs.Details.{zeroRow, answerCode, rowNumbers, headOf}
 use Rattle.host_check.specs.Contracts.{ChecksBy}
-use Rattle.bolfrega.specs.Codes.{judgementCode, derivationCode, listingCode, conversionCode, sizeIn, placeIn}
+use Rattle.bolfrega.specs.Codes.{judgementCode, derivationCode, listingCode, conversionCode, writingCode, sizeIn, placeIn}
 
 -- r is the number that refuses the file bs, or 0, and i the number of the refused record
 pub record Refuses (bs : List ℕ) (r i : ℕ) : Type 0 where
@@ -90,3 +97,32 @@ pub record ChecksFrom (bs : List ℕ) (g : Settings) (d old new : List ℕ) (r :
 -- the settings of a check of procedure 0 alone
 abbrev pub ofInitial : ℕ → ℕ → Settings
 ofInitial J B = record { rows = J; budget = B; starts = initialAlone }
+
+-- ---- over a host's own rows
+
+-- a check with the options o over the rows old, which left the rows new, told as the number r and the nine details d
+pub record ChecksRows (bs : List ℕ) (o : Options) (old new : Journal) (d : List ℕ) (r : ℕ) : Type 0 where
+  pub code : r ≡ codeBy answerCode (checkOf bs (settingsOver o old))
+  -- eight numbers and the procedure of the row that breaks the plan; no run is written
+  pub details : d ≡ rowNumbers (map rowOf new) (checkOf bs (settingsOver o old)) ++ (headOf (checkOf bs (settingsOver o old)) ∷ [])
+  -- the working order's rows, and then the old contents; the old contents whole on a refusal
+  pub journal : map rowOf new ≡ journalAfter bs (settingsOver o old) (map rowOf old)
+  -- and so number by number: a refusal uses none
+  pub untouched : drop (usedIn (checkOf bs (settingsOver o old))) new ≡ drop (usedIn (checkOf bs (settingsOver o old))) old
+  -- demand 3, where the verdict comes and what the joins are, the least height, what the rows are, writing the word that is shown,
+  -- and stability, of the answer
+  pub promises : (a : Answer ℕ) → checkOf bs (settingsOver o old) ≡ answered a → Promises bs (settingsOver o old) a
+
+-- the reply x to writing, told as the number r, the record's number i and the run's length n
+pub record ToldRun (x : Reply ℕ) (r i n : ℕ) : Type 0 where
+  pub code : r ≡ codeBy writingCode x
+  pub place : i ≡ placeIn x
+  pub size : n ≡ sizeIn x
+
+-- the run behind row k of a host's rows, of which `used` are used, told so, with the buffer before and after the call
+pub record WritesRun (bs : List ℕ) (rows : Journal) (used k : ℕ) (old new : List ℕ) (r i n : ℕ) : Type 0 where
+  pub told : ToldRun (writeOf bs (map rowOf rows) used k (length old)) r i n
+  -- the run, and then the old bytes; the old bytes whole on a refusal
+  pub buffer : new ≡ bufferAfter bs (map rowOf rows) used k old
+  -- a run that is written derives from the procedure of row k, whoever made the rows
+  pub meaning : WordMeans bs (map rowOf rows) k new (writeOf bs (map rowOf rows) used k (length old))

@@ -2,6 +2,7 @@ pub mod Codes
 pub mod Contracts
 pub mod Telling
 pub mod ZeroRows
+pub mod OwnRows
 pub mod Hosts
 pub mod BrokenLaws
 pub mod HostReplies

@@ -1,11 +1,16 @@
 // The library for hosts in C and Rust: the calls of document 01 as functions on numbers and lent bytes. No function asks anything of
 // its caller. A result below 100 is the number that refused the call; from 100 on it is an answer (the verdicts' numbers are in
 // `host_result`). `include/bolfrega.h` says the same to C.
+use call_check::Checked;
 use call_gaps::Listed;
 use call_judge::Judged;
 use call_member::Recognized;
 use call_move::Moved;
+use call_write::Writing;
 use host_result::CheckResult;
+use relation::Letter;
+use search_cover::NEAR_WORDS;
+use search_state::CELLS;
 use spec_calls::INITIAL_ALONE;
 use spec_calls::Options;
 use spec_calls::Row;
@@ -15,11 +20,13 @@ ghost use Rattle.spec_calls.specs.Rows.{blank};
 ghost use Rattle.host_result.specs.Results.{numbersIn};
 ghost use Rattle.host_check.specs.Contracts.{ChecksAlone};
 ghost use Rattle.bolfrega.specs.Codes.{version};
-ghost use Rattle.bolfrega.specs.Contracts.{Refuses, Judges, Recognizes, ListsGaps, ToldMove, WidensFile, NarrowsFile, UnfoldsFile, ChecksZeros, ChecksFrom, ofInitial};
+ghost use Rattle.bolfrega.specs.Contracts.{Refuses, Judges, Recognizes, ListsGaps, ToldMove, WidensFile, NarrowsFile, UnfoldsFile, ChecksZeros, ChecksFrom, ofInitial, ChecksRows, ToldRun, WritesRun};
+ghost use Rattle.bolfrega.specs.OwnRows.{ToldRows};
 ghost use Rattle.spec_calls.specs.Base.{initialAlone};
 ghost use Rattle.call_move.specs.Answers.{movedOf};
+ghost use Rattle.call_write.specs.Answers.{writingOf};
 
-const VERSION: u64 = 2;
+const VERSION: u64 = 3;
 
 const ACCEPTED: u64 = 110;
 
@@ -32,6 +39,8 @@ const NOT_DERIVED: u64 = 113;
 const LISTED: u64 = 114;
 
 const CONVERTED: u64 = 115;
+
+const WRITTEN: u64 = 116;
 
 // Returns the version of this interface.
 #[no_mangle]
@@ -292,4 +301,74 @@ pub extern "C" fn bolfrega_check_from(
     let told = check_zeros(file, rows, options, buffer);
     *details = nine_of(told);
     told.code
+}
+
+// ---- over a host's own rows
+
+// Stores the nine details of `checked` in `details`, where `row` is the row that a broken answer names, and returns its number.
+fn tell_rows(checked: Checked, row: Row, details: &mut [u64; 9]) -> u64
+    ensures { λ r. ⌜ ToldRows checked row r (now (details .exit)) ⌝ }
+{
+    let told = host_result::to_unwritten(checked, row);
+    *details = nine_of(told);
+    told.code
+}
+
+// As `bolfrega_check_from`, over the rows of `journal`, which the host lends, in a `table` and in words (`near`) that it lends too. All three
+// may have any contents: nothing is cleared but what is read. The rows that the check uses are those of `journal` then; the others keep their
+// contents, and a refused call leaves all of them as they were. No run is written, so the detail of that is 0. Proved by hand.
+#[no_mangle]
+pub extern "C" fn bolfrega_check_rows(
+    file: &[u8],
+    starts: u64,
+    budget: u64,
+    journal: &mut [Row],
+    table: &mut [u32; CELLS],
+    near: &mut [Letter; NEAR_WORDS],
+    details: &mut [u64; 9],
+) -> u64
+    ensures { λ r. ⌜ ChecksRows (now (file .entry)) (record { budget = budget; starts = starts }) (now (journal .entry)) (now (journal .exit)) (now (details .exit)) r ⌝ }
+{
+    let options = Options { budget, starts };
+    let checked = call_check::check_in(file, journal, table, near, options);
+    let named = host_result::row_to_write(checked, 0);
+    let row = host_check::row_at(journal, named.row);
+    tell_rows(checked, row, details)
+}
+
+// Stores the record and the length of `writing` in `place` and `length`, and returns WRITTEN or the number that refuses the call.
+fn tell_written(writing: Writing, place: &mut u64, length: &mut u64) -> u64
+    ensures { λ r. ⌜ ToldRun (writingOf writing) r (now (place .exit)) (now (length .exit)) ⌝ }
+{
+    match writing {
+        Writing::Length(n) => {
+            *place = 0;
+            *length = n as u64;
+            WRITTEN
+        }
+        Writing::Refused(found) => {
+            *place = found.place as u64;
+            *length = 0;
+            found.number
+        }
+    }
+}
+
+// Writes the run behind row `row` of `journal`, of which `used` rows are used, to the front of `buffer`: returns WRITTEN, or the number that
+// refuses the call, with `place` as above. Stores the run's length in `length`, 0 for a refused call. The other bytes of `buffer` keep their
+// values, and a refused call leaves all of them as they were. Proved by hand.
+#[no_mangle]
+pub extern "C" fn bolfrega_write(
+    file: &[u8],
+    journal: &[Row],
+    used: usize,
+    row: usize,
+    place: &mut u64,
+    length: &mut u64,
+    buffer: &mut [u8],
+) -> u64
+    ensures { λ r. ⌜ WritesRun (now (file .entry)) (now (journal .entry)) used row (now (buffer .entry)) (now (buffer .exit)) r (now (place .exit)) (now (length .exit)) ⌝ }
+{
+    let writing = call_write::write(file, journal, used, row, buffer);
+    tell_written(writing, place, length)
 }

@@ -43,6 +43,11 @@ detailsOf bs rows room (refused r) = r .place ∷ 0 ∷ 0 ∷ 0 ∷ 0 ∷ 0 ∷ 
 detailsOf bs rows room (answered a) =
     0 ∷ a .joins ∷ a .used ∷ a .pass ∷ a .row ∷ lastThree (a .verdict) (rowAfter rows (a .row)) (writeOf bs rows (a .used) (a .row) room)
 
+-- of a check after which no run is written, so that none is refused
+abbrev pub rowNumbers : List (Row ℕ) → Reply (Answer ℕ) → List ℕ
+rowNumbers rows (refused r) = r .place ∷ 0 ∷ 0 ∷ 0 ∷ 0 ∷ 0 ∷ 0 ∷ 0 ∷ []
+rowNumbers rows (answered a) = 0 ∷ a .joins ∷ a .used ∷ a .pass ∷ a .row ∷ lastThree (a .verdict) (rowAfter rows (a .row)) (answered 0)
+
 -- the nonterminal of a broken answer's row, which derives the run; 0 unless broken
 abbrev pub headOf : Reply (Answer ℕ) → ℕ
 headOf (refused r) = 0

@@ -27,6 +27,7 @@ use Rattle.spec_calls.specs.declared.Options.{Options}
 use Rattle.spec_calls.specs.declared.Row.{Row as LentRow}
 use Rattle.search_laws.specs.Meanings.{verdictOf, answerOf}
 use Rattle.search_laws.specs.declared.Answer.the-variants as answer
+use Rattle.search_laws.specs.declared.Totals.{Totals}
 use Rattle.search_laws.specs.declared.Unbroken.the-variants as unbroken
 use Rattle.search_laws.specs.declared.Unbroken.{Unbroken}
 use Rattle.call_check.specs.declared.Checked.{Checked}
@@ -94,11 +95,33 @@ few-bytes (checked.Answered (answer.Ended v n)) s = omega arith
 few-bytes (checked.Answered (answer.Broken i n)) s = omega arith
 
 -- a verdict that shows no row is not broken
-unbroken-shows-none : {A : Type 0} (v : Unbroken) (x y : A) → ifBroken (verdictOf v) x y ≡ y
+pub unbroken-shows-none : {A : Type 0} (v : Unbroken) (x y : A) → ifBroken (verdictOf v) x y ≡ y
 unbroken-shows-none unbroken.Holds x y = refl
 unbroken-shows-none unbroken.Full x y = refl
 unbroken-shows-none unbroken.Spent x y = refl
 unbroken-shows-none unbroken.Empty x y = refl
+
+-- ---- a broken answer, over the journal before and after the check
+
+module _ (bs : List ℕ) (o : Options) (before after : Journal) (as-many : length after ≡ length before) (i : ℕ) (n : Totals) (h : Checks bs o before after (checked.Answered (answer.Broken i n))) where
+  abbrev said : Answer ℕ
+  said = answerOf rowOf (answer.Broken i n) after
+
+  used-there : i < n .used
+  used-there = broken-used bs (settingsOver o before) _ (sym (h .answer)) refl
+
+  -- the journal has its row
+  pub row-there : i < length after
+  row-there = omega (arith, used-there, h .promises _ (sym (h .answer)) .counts .rows-bound, as-many)
+
+  -- whose nonterminal is told
+  pub head-there : rowAfter (map rowOf after) i .head ≡ headOf (answered said)
+  unfolding journalAfter
+  head-there =
+      ap (λ (x : Row ℕ). x .head)
+      (ap (λ (xs : List (Row ℕ)). rowAfter xs i) (h .journal ∙ ap (keptBy (map rowOf before)) (sym (h .answer)))
+      ∙ List·getD-append (said .journal) (drop (n .used) (map rowOf before)) zeroRow i (omega (arith, used-there, h .promises _ (sym (h .answer)) .counts .used-rows)))
+      ∙ sym (head-at (said .journal) i zeroRow)
 
 -- ---- the whole reply
 
@@ -123,9 +146,7 @@ module _ (bs : List ℕ) (o : Options) (before after rest : Journal) (few : leng
       }
   tells (checked.Answered (answer.Broken i n)) h u =
       let v = subst (λ (xs : List ℕ). Writes xs (map rowOf after) (n .used) i old new w) (take-length bs) u in
-      let lt = broken-used bs (settingsOver o before) _ (sym (h .answer)) refl in
-      let le = h .promises _ (sym (h .answer)) .counts .rows-bound in
-      let low : i < length after = omega (arith, lt, le, as-many) in
+      let low = row-there bs o before after as-many i n h in
       let here = ap (λ (k : ℕ). rowOf (getD (after ++ rest) k blank)) (place-low i (omega (arith, low, as-many, few))) ∙ row-front after rest i low in
       record {
         code = refl;
@@ -148,24 +169,14 @@ module _ (bs : List ℕ) (o : Options) (before after rest : Journal) (few : leng
 
   -- the nonterminal of the row
   head-told : (c : Checked) → Checks bs o before after c → tale c .head ≡ headOf (checkOf bs (settingsOver o before))
-  unfolding journalAfter
   head-told c h = by c h ∙ ap headOf (h .answer)
     where
       by : (c : Checked) → Checks bs o before after c → tale c .head ≡ headOf (checkedOf c after)
       by (checked.Refused r) h = refl
       by (checked.Answered (answer.Ended x n)) h = sym (unbroken-shows-none x _ 0)
       by (checked.Answered (answer.Broken i n)) h =
-          let lt = broken-used bs (settingsOver o before) _ (sym (h .answer)) refl in
-          let le = h .promises _ (sym (h .answer)) .counts .rows-bound in
-          let low : i < length after = omega (arith, lt, le, as-many) in
-          let a = answerOf rowOf (answer.Broken i n) after in
-          let rows = h .promises _ (sym (h .answer)) .counts .used-rows in
-          ap (λ (k : ℕ). rowOf (getD (after ++ rest) k blank) .head) (place-low i (omega (arith, low, as-many, few)))
-          ∙ ap (λ (x : Row ℕ). x .head)
-          (row-front after rest i low
-          ∙ ap (λ (xs : List (Row ℕ)). rowAfter xs i) (h .journal ∙ ap (keptBy (map rowOf before)) (sym (h .answer)))
-          ∙ List·getD-append (a .journal) (drop (n .used) (map rowOf before)) zeroRow i (omega (arith, lt, rows)))
-          ∙ sym (head-at (a .journal) i zeroRow)
+          let low = row-there bs o before after as-many i n h in
+          ap (λ (k : ℕ). rowOf (getD (after ++ rest) k blank) .head) (place-low i (omega (arith, low, as-many, few))) ∙ ap (λ (x : Row ℕ). x .head) (row-front after rest i low) ∙ head-there bs o before after as-many i n h
 
 -- the sample is told
 sample-told : (c : Checked) (x y : LentRow) (f : ℕ) → toldBy c x y f .sample ≡ y

@@ -193,3 +193,10 @@ pub fn to_result(checked: Checked, row: Row, sample: Row, writing: Writing) -> C
         Checked::Answered(answer) => answer_result(answer, row, sample, writing),
     }
 }
+
+// The same where no run is written, and so none is refused.
+pub fn to_unwritten(checked: Checked, row: Row) -> CheckResult
+    ensures { λ r. ⌜ r ≡ toldBy checked row row 0 ⌝ }
+{
+    to_result(checked, row, row, Writing::Length(0))
+}

@@ -18,10 +18,14 @@
  * members, as a word: bit p is 1 if procedure p (0 to 63) is one. Every word is such a set. bolfrega_check and bolfrega_unfold have procedure 0
  * as their one member: they say what those two say for the word 1.
  *
+ * A check keeps a journal, a row for each effect that it keeps. bolfrega_check and bolfrega_check_from have one of their own; a host that wants to
+ * see the rows, or to write the run behind any of them, lends its own to bolfrega_check_rows and bolfrega_write.
+ *
  * What every call asks of its caller:
  * - A pointer and the length after it are those of one area of memory. With length 0 the pointer may be null.
- * - `record`, `entries`, `length` and `details` are not null.
- * - `record`, `entries`, `length`, `details`, `buffer`, `table`, `list` and `out` overlap neither each other nor the file or the run.
+ * - `record`, `entries`, `length`, `details`, `cells` and `near` are not null.
+ * - `record`, `entries`, `length`, `details`, `buffer`, `table`, `list`, `out`, `journal`, `cells` and `near` overlap neither each other nor the file
+ *   or the run, and are aligned as their types ask. What they hold before the call is of no account.
  *
  * Numbers that a call refuses with:
  *    1  The length of a file of 8-byte records is no multiple of 8.
@@ -32,6 +36,8 @@
  *    6  A record does not exceed the one before it.
  *    7  A record is the 257th rule or the 1,025th move.
  *    8  The journal has no row or more than 4,096 rows.
+ *    9  The row whose run is to be written is none of the used ones, or more rows are said to be used than there are, or a row up to it does not
+ *       fit: it is none that a check of the file could have stored.
  *   10  The run to be written has 65,535 or more steps, or more than the buffer has bytes; or the output of a move or an unfolding is shorter
  *       than its result.
  *   11  A run given to be judged or recognized has more than 65,534 steps or a code above 127.
@@ -55,7 +61,7 @@
 extern "C" {
 #endif
 
-/* What bolfrega_check and bolfrega_check_from return, unless they refuse. */
+/* What bolfrega_check, bolfrega_check_from and bolfrega_check_rows return, unless they refuse. */
 #define BOLFREGA_HOLDS 100  /* each member has a run, and the sheet accepts every run of every member */
 #define BOLFREGA_BROKEN 101 /* a member has a run that the sheet turns away */
 #define BOLFREGA_FULL 102   /* the journal had no row left */
@@ -89,7 +95,29 @@ extern "C" {
 #define BOLFREGA_WIDE_BYTES 20736
 #define BOLFREGA_FILE_BYTES 10368
 
-/* The places of the details: bolfrega_check has the first eight, bolfrega_check_from all nine. */
+/* What bolfrega_write returns, unless it refuses. */
+#define BOLFREGA_WRITTEN 116
+
+/* A row of a journal, which a host lends: eleven words. */
+struct bolfrega_row {
+    uint64_t procedure; /* the procedure whose run it is */
+    uint64_t rule;      /* the number of the rule, among the file's rules, that it was made by */
+    uint64_t effect[4]; /* the pairs of stages that the run leads from and to: (a, b) is bit 16 * (a % 4) + b of word a / 4 */
+    uint64_t left;      /* the row of the rule's first symbol, if that is a procedure, and else 65,535 */
+    uint64_t right;     /* the row of its second symbol, likewise */
+    uint64_t length;    /* the length of the run; 65,535 means that or more */
+    uint64_t birth;     /* the pass in which it was stored, from 1 */
+    uint64_t retired;   /* the pass in which a smaller one took its place, or 0 */
+};
+
+/* The most rows of a journal. */
+#define BOLFREGA_ROWS 4096
+
+/* How much room bolfrega_check_rows works in: cells of 32 bits, and words of 64. */
+#define BOLFREGA_TABLE_CELLS 45952
+#define BOLFREGA_NEAR_WORDS 20484
+
+/* The places of the details: bolfrega_check has the first eight, bolfrega_check_from and bolfrega_check_rows all nine. */
 #define BOLFREGA_RECORD 0    /* the record that is refused */
 #define BOLFREGA_JOINS 1     /* candidates formed */
 #define BOLFREGA_USED 2      /* journal rows used */
@@ -101,9 +129,10 @@ extern "C" {
 #define BOLFREGA_PROCEDURE 8 /* the procedure of that row, whose run it is: one of the members */
 
 /*
- * The version of this interface: 2.
+ * The version of this interface: 3.
  *
- * Version 2 adds bolfrega_check_from, bolfrega_unfold_from and BOLFREGA_PROCEDURE. What version 1 had is unchanged.
+ * Version 2 adds bolfrega_check_from, bolfrega_unfold_from and BOLFREGA_PROCEDURE. Version 3 adds bolfrega_check_rows and bolfrega_write. What the
+ * versions before had is unchanged.
  */
 uint64_t bolfrega_version(void);
 
@@ -258,6 +287,35 @@ uint64_t bolfrega_check(const uint8_t *file, size_t file_length, size_t rows, ui
  */
 uint64_t bolfrega_check_from(const uint8_t *file, size_t file_length, uint64_t starts, size_t rows, uint64_t budget, uint64_t details[9],
                              uint8_t *buffer, size_t buffer_length);
+
+/*
+ * Checks a file's plan as bolfrega_check_from does, over `rows` rows of the host's own, and writes no run: bolfrega_write does that, of any row.
+ *
+ * It works in the lent `cells` and `near`. These and the rows may hold anything: nothing is cleared but what is read, so that a check of a tiny
+ * file takes about a microsecond, and a host that checks many files lends the same areas again. It keeps about 7 KiB on the stack.
+ *
+ * Returns, and sets all nine details, as bolfrega_check_from does, but for REFUSED, which is 0.
+ *
+ * The first `used` rows become those of the check. All other rows keep their contents, and so do all of them if the call is refused. What `cells`
+ * and `near` hold after the call is of no use.
+ */
+uint64_t bolfrega_check_rows(const uint8_t *file, size_t file_length, uint64_t starts, uint64_t budget, struct bolfrega_row *journal,
+                             size_t rows, uint32_t cells[BOLFREGA_TABLE_CELLS], uint64_t near[BOLFREGA_NEAR_WORDS], uint64_t details[9]);
+
+/*
+ * Writes the run behind row `row` of a journal of `rows` rows, of which `used` are used: that of a broken check, or any other that it stored.
+ *
+ * Returns 1 to 7 or 12 if the file is refused; else 8 if `rows` is 0 or above 4,096; else 9 if `row` is not below `used`, or `used` is above
+ * `rows`, or a row up to `row` does not fit; else 10 if the run has 65,535 or more steps, or more than the buffer has bytes; else BOLFREGA_WRITTEN.
+ * Whoever made the rows, a run that is written is one of the plan's, from the procedure of that row.
+ * Sets *record as bolfrega_refusal does: to 0 if it returns anything but 3 to 7 or 12. Sets *length to the length of the run, and to 0 if it
+ * refuses.
+ *
+ * The first *length bytes of the buffer become the run. All other bytes of the buffer keep their values, and so do all of them if the call is
+ * refused. It takes up to 576 KiB of stack (144 bytes for each row on the way down).
+ */
+uint64_t bolfrega_write(const uint8_t *file, size_t file_length, const struct bolfrega_row *journal, size_t rows, size_t used, size_t row,
+                        uint64_t *record, uint64_t *length, uint8_t *buffer, size_t buffer_length);
 
 #ifdef __cplusplus
 }

@@ -138,10 +138,11 @@ pub struct Broken<'b> {
     pub run: Result<&'b [u8], Refusal>,
 }
 
-/// The version of the library's interface. Since 2 it has [`check_from`] and [`unfold_from`].
+/// The version of the library's interface. Since 2 it has [`check_from`] and [`unfold_from`], and since 3 the library has calls over a
+/// host's own rows, which this crate does not offer yet.
 ///
 /// ```
-/// assert_eq!(bolfrega::version(), 2);
+/// assert_eq!(bolfrega::version(), 3);
 /// ```
 pub fn version() -> u64 {
     raw::version()

@@ -1,8 +1,9 @@
 -- What the library's functions ensure, each in one record. Definitions only. Assumes nothing.
 use mathlib.Core.Path.{_≡_}
 use mathlib.Core.List.{List, [], _∷_, _++_, map}
-use Prim.Native.Nat.{ℕ}
+use Prim.Native.Nat.{ℕ, _+_, _≤_}
 use lib.ListN.{length, take, drop, replicate}
+use Rattle.spec_file.specs.Reading.{stepAt, stretch}
 use Rattle.spec_file.specs.Refusals.{fault}
 use Rattle.spec_order.specs.Journal.{Row}
 use Rattle.spec_order.specs.Order.{Answer}
@@ -24,13 +25,26 @@ use Rattle.spec_unfold.specs.UnfoldingMeans.{UnfoldMeans}
 use Rattle.call_check.specs.Answers.{usedIn}
 use Rattle.call_check.specs.Contracts.{settingsOver}
 use Rattle.host_check.specs.Details.{zeroRow, answerCode, rowNumbers, headOf}
+use Rattle.file_reader.specs.Answers.{placeAfter}
 use Rattle.host_check.specs.Contracts.{ChecksBy}
-use Rattle.bolfrega.specs.Codes.{judgementCode, derivationCode, listingCode, conversionCode, writingCode, sizeIn, placeIn}
+use Rattle.bolfrega.specs.Codes.{judgementCode, derivationCode, listingCode, conversionCode, writingCode, stepCode, stepRecord, stepValues, sizeIn, placeIn}
 
 -- r is the number that refuses the file bs, or 0, and i the number of the refused record
 pub record Refuses (bs : List ℕ) (r i : ℕ) : Type 0 where
   pub number : r ≡ fault bs .number
   pub place : i ≡ fault bs .place
+
+-- the step of the reader from `place`, told as the number r, the refused record's number i, four values and the place after it
+pub record StepsFrom (bs : List ℕ) (place r i : ℕ) (values : List ℕ) (next : ℕ) : Type 0 where
+  pub code : r ≡ stepCode (stepAt bs place)
+  pub refused : i ≡ stepRecord (stepAt bs place)
+  pub says : values ≡ stepValues (stepAt bs place)
+  pub after : next ≡ placeAfter (stepAt bs place) place
+
+-- the n bytes of the file from o on are its moves: none where the file is refused
+pub record MovesAt (bs : List ℕ) (o n : ℕ) : Type 0 where
+  pub within : o + n ≤ length bs
+  pub bytes : take n (drop o bs) ≡ stretch bs
 
 -- r is the number of the judgement of the run w, or of what refuses the call, and i the number of the refused record
 pub record Judges (bs w : List ℕ) (r i : ℕ) : Type 0 where

@@ -6,6 +6,9 @@ use lib.ListN.{length}
 use Rattle.spec_file.specs.Answers.{refusalOf}
 use Rattle.spec_file.specs.Refusals.{Refusal, fault}
 use Rattle.spec_file.specs.declared.Refusal.{Refusal as RefusalAnswer}
+use Rattle.spec_file.specs.Reading.{ReaderStep, stepAt}
+use Rattle.file_reader.specs.Answers.{stepOf, placeAfter}
+use Rattle.file_reader.specs.declared.Step.{Step}
 use Rattle.spec_calls.specs.Judging.{judgeOf, JudgementMeans}
 use Rattle.call_judge.specs.declared.Judged.{Judged}
 use Rattle.call_judge.specs.Answers.{judgedOf, Judging}
@@ -21,12 +24,18 @@ use Rattle.call_move.specs.declared.Moved.{Moved}
 use Rattle.spec_unfold.specs.Unfolding.{leastFor}
 use Rattle.call_move.specs.Answers.{movedOf, Widens, Narrows}
 use Rattle.call_unfold.specs.Answers.{Unfolds}
-use Rattle.bolfrega.specs.Codes.{judgementCode, derivationCode, listingCode, conversionCode, sizeIn, placeIn}
-use Rattle.bolfrega.specs.Contracts.{Refuses, Judges, Recognizes, ListsGaps, ToldMove, Converts, WidensFile, NarrowsFile, UnfoldsFile}
+use Rattle.bolfrega.specs.Codes.{judgementCode, derivationCode, listingCode, conversionCode, stepCode, stepRecord, stepValues, sizeIn, placeIn}
+use Rattle.bolfrega.specs.Contracts.{Refuses, StepsFrom, Judges, Recognizes, ListsGaps, ToldMove, Converts, WidensFile, NarrowsFile, UnfoldsFile}
 
 -- the file's refusal
 pub refuses : (bs : List ℕ) (x : RefusalAnswer) → refusalOf x ≡ fault bs → Refuses bs (x .number) (x .place)
 refuses bs x e = record { number = ap (λ (y : Refusal). y .number) e; place = ap (λ (y : Refusal). y .place) e }
+
+-- the step x, which is y
+pub steps-from : (bs : List ℕ) (place : ℕ) (x y : Step) → stepOf x ≡ stepAt bs place → x ≡ y → StepsFrom bs place (stepCode (stepOf y)) (stepRecord (stepOf y)) (stepValues (stepOf y)) (placeAfter (stepOf y) place)
+steps-from bs place x y j q =
+    let e : stepOf y ≡ stepAt bs place = ap stepOf (sym q) ∙ j in
+    record { code = ap stepCode e; refused = ap stepRecord e; says = ap stepValues e; after = ap (λ (s : ReaderStep). placeAfter s place) e }
 
 -- the judgement x, which is y
 pub judges : (bs w : List ℕ) (x y : Judged) → Judging bs w x → x ≡ y → Judges bs w (codeBy judgementCode (judgedOf y)) (placeIn (judgedOf y))

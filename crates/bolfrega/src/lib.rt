@@ -7,6 +7,7 @@ use call_judge::Judged;
 use call_member::Recognized;
 use call_move::Moved;
 use call_write::Writing;
+use file_reader::Step;
 use host_result::CheckResult;
 use relation::Letter;
 use search_cover::NEAR_WORDS;
@@ -14,13 +15,15 @@ use search_state::CELLS;
 use spec_calls::INITIAL_ALONE;
 use spec_calls::Options;
 use spec_calls::Row;
+use spec_file::Record;
 ghost use mathlib.Core.Path.{_≡_};
 ghost use mathlib.Core.List.{[], _∷_, _++_};
+ghost use Rattle.spec_file.specs.Answers.{saidBy};
 ghost use Rattle.spec_calls.specs.Rows.{blank};
 ghost use Rattle.host_result.specs.Results.{numbersIn};
 ghost use Rattle.host_check.specs.Contracts.{ChecksAlone};
-ghost use Rattle.bolfrega.specs.Codes.{version};
-ghost use Rattle.bolfrega.specs.Contracts.{Refuses, Judges, Recognizes, ListsGaps, ToldMove, WidensFile, NarrowsFile, UnfoldsFile, ChecksZeros, ChecksFrom, ofInitial, ChecksRows, ToldRun, WritesRun};
+ghost use Rattle.bolfrega.specs.Codes.{version, recordCode, recordValues};
+ghost use Rattle.bolfrega.specs.Contracts.{Refuses, StepsFrom, MovesAt, Judges, Recognizes, ListsGaps, ToldMove, WidensFile, NarrowsFile, UnfoldsFile, ChecksZeros, ChecksFrom, ofInitial, ChecksRows, ToldRun, WritesRun};
 ghost use Rattle.bolfrega.specs.OwnRows.{ToldRows};
 ghost use Rattle.spec_calls.specs.Base.{initialAlone};
 ghost use Rattle.call_move.specs.Answers.{movedOf};
@@ -42,6 +45,14 @@ const CONVERTED: u64 = 115;
 
 const WRITTEN: u64 = 116;
 
+const RULE: u64 = 117;
+
+const MOVE: u64 = 118;
+
+const FINISHING: u64 = 119;
+
+const ENDED: u64 = 120;
+
 // Returns the version of this interface.
 #[no_mangle]
 pub extern "C" fn bolfrega_version() -> u64
@@ -58,6 +69,89 @@ pub extern "C" fn bolfrega_refusal(file: &[u8], place: &mut u64) -> u64
     let refusal = file_whole::file_refusal(file);
     *place = refusal.place as u64;
     refusal.number
+}
+
+// Returns the number of what `found` is.
+fn record_code(found: Record) -> u64
+    ensures { λ r. ⌜ r ≡ recordCode (saidBy found) ⌝ }
+{
+    match found {
+        Record::Rule(_) => RULE,
+        Record::Transition(_) => MOVE,
+        Record::Final(_) => FINISHING,
+    }
+}
+
+// Returns what `found` says, as four numbers.
+fn record_values(found: Record) -> [u64; 4]
+    ensures { λ r. ⌜ r ≡ recordValues (saidBy found) ⌝ }
+{
+    match found {
+        Record::Rule(rule) => [
+            rule.head as u64,
+            rule.size as u64,
+            rule.first as u64,
+            rule.second as u64,
+        ],
+        Record::Transition(transition) => [
+            transition.source as u64,
+            transition.letter as u64,
+            transition.target as u64,
+            0,
+        ],
+        Record::Final(state) => [state as u64, 0, 0, 0],
+    }
+}
+
+// Reads the record at `from` of `file`: returns RULE, MOVE or FINISHING, ENDED past the last record, or the number that refuses the step.
+// Stores what the record says in `values`, zeros where none came; the place of the next record in `next`, or `from` where none came; and
+// the refused record's number in `place`, or 0.
+#[no_mangle]
+pub extern "C" fn bolfrega_step(
+    file: &[u8],
+    from: usize,
+    place: &mut u64,
+    values: &mut [u64; 4],
+    next: &mut u64,
+) -> u64
+    ensures { λ r. ⌜ StepsFrom (now (file .entry)) from r (now (place .exit)) (now (values .exit)) (now (next .exit)) ⌝ }
+{
+    let step = file_reader::step_at(file, from);
+    match step {
+        Step::Gives(record, after) => {
+            *place = 0;
+            *values = record_values(record);
+            *next = after as u64;
+            record_code(record)
+        }
+        Step::Refused(refusal) => {
+            *place = refusal.place as u64;
+            *values = [0, 0, 0, 0];
+            *next = from as u64;
+            refusal.number
+        }
+        Step::Ended => {
+            *place = 0;
+            *values = [0, 0, 0, 0];
+            *next = from as u64;
+            ENDED
+        }
+    }
+}
+
+// Stores where the moves of `file` stand in it: from the byte `offset` on, `length` bytes; both are 0 where the file is refused.
+#[no_mangle]
+pub extern "C" fn bolfrega_moves(file: &[u8], offset: &mut u64, length: &mut u64)
+    ensures { λ _. ⌜ MovesAt (now (file .entry)) (now (offset .exit)) (now (length .exit)) ⌝ }
+{
+    let refusal = file_whole::file_refusal(file);
+    if refusal.number != 0 {
+        *offset = 0;
+        *length = 0;
+        return;
+    }
+    *offset = file_views::rule_count(file) as u64 * 8;
+    *length = file_views::transition_count(file) as u64 * 8;
 }
 
 // Judges `run` by the sheet in `file`: returns ACCEPTED, TURNED_AWAY, or the number that refuses the call. Stores the number of the refused

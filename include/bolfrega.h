@@ -23,8 +23,8 @@
  *
  * What every call asks of its caller:
  * - A pointer and the length after it are those of one area of memory. With length 0 the pointer may be null.
- * - `record`, `entries`, `length`, `details`, `cells` and `near` are not null.
- * - `record`, `entries`, `length`, `details`, `buffer`, `table`, `list`, `out`, `journal`, `cells` and `near` overlap neither each other nor the file
+ * - `record`, `entries`, `length`, `details`, `values`, `next`, `offset`, `cells` and `near` are not null.
+ * - `record`, `entries`, `length`, `details`, `values`, `next`, `offset`, `buffer`, `table`, `list`, `out`, `journal`, `cells` and `near` overlap neither each other nor the file
  *   or the run, and are aligned as their types ask. What they hold before the call is of no account.
  *
  * Numbers that a call refuses with:
@@ -98,6 +98,12 @@ extern "C" {
 /* What bolfrega_write returns, unless it refuses. */
 #define BOLFREGA_WRITTEN 116
 
+/* What bolfrega_step returns, unless it refuses, and what the four values are then: those that are not named are 0. */
+#define BOLFREGA_RULE 117      /* procedure, number of symbols (0 to 2), first symbol, second symbol: 128 + p is procedure p */
+#define BOLFREGA_MOVE 118      /* from-stage, step code, to-stage */
+#define BOLFREGA_FINISHING 119 /* stage */
+#define BOLFREGA_ENDED 120     /* past the last record */
+
 /* A row of a journal, which a host lends: eleven words. */
 struct bolfrega_row {
     uint64_t procedure; /* the procedure whose run it is */
@@ -131,8 +137,8 @@ struct bolfrega_row {
 /*
  * The version of this interface: 3.
  *
- * Version 2 adds bolfrega_check_from, bolfrega_unfold_from and BOLFREGA_PROCEDURE. Version 3 adds bolfrega_check_rows and bolfrega_write. What the
- * versions before had is unchanged.
+ * Version 2 adds bolfrega_check_from, bolfrega_unfold_from and BOLFREGA_PROCEDURE. Version 3 adds bolfrega_check_rows, bolfrega_write, bolfrega_step
+ * and bolfrega_moves. What the versions before had is unchanged.
  */
 uint64_t bolfrega_version(void);
 
@@ -143,6 +149,22 @@ uint64_t bolfrega_version(void);
  * Sets *record to the number of the record at fault, from 0, if it returns 3 to 7 or 12, and else to 0.
  */
 uint64_t bolfrega_refusal(const uint8_t *file, size_t file_length, uint64_t *record);
+
+/*
+ * Reads the record at place `from` of a file, from 0. To read a whole file, begin at 0 and go on at *next until BOLFREGA_ENDED.
+ *
+ * Returns 1 or 2 by the file's length; else BOLFREGA_ENDED if there is no record at `from`; else 3 to 7 or 12 if that record is refused: 6 and 7 look
+ * at the records before it, which are not checked again; else BOLFREGA_RULE, BOLFREGA_MOVE or BOLFREGA_FINISHING.
+ * Sets all four values to what the record says, and to 0 if none came. Sets *next to `from` + 1 if a record came, and else to `from`. Sets *record
+ * to `from` if it returns 3 to 7 or 12, and else to 0.
+ */
+uint64_t bolfrega_step(const uint8_t *file, size_t file_length, size_t from, uint64_t *record, uint64_t values[4], uint64_t *next);
+
+/*
+ * Says where the moves of a file stand in it: they are the *length bytes from file + *offset on. There are none if *length is 0, and both are 0 if the
+ * file is refused: this call gives no number.
+ */
+void bolfrega_moves(const uint8_t *file, size_t file_length, uint64_t *offset, uint64_t *length);
 
 /*
  * Judges a run by the order sheet in a file.

@@ -107,6 +107,53 @@ static void refusals(void)
     EXPECT(bolfrega_refusal(on_remark, 16, &record) == 12 && record == 1);
 }
 
+/* Steps from a place with other things in what is set, and says whether all of it is as expected. */
+static int steps(const uint8_t *file, size_t length, size_t from, uint64_t code, uint64_t record, uint64_t a, uint64_t b, uint64_t c, uint64_t d,
+                 uint64_t next)
+{
+    const uint64_t expected[4] = {a, b, c, d};
+    uint64_t found = 77, values[4] = {77, 77, 77, 77}, after = 77;
+    return bolfrega_step(file, length, from, &found, values, &after) == code && found == record &&
+           memcmp(values, expected, sizeof expected) == 0 && after == next;
+}
+
+static void reading(void)
+{
+    EXPECT(steps(plan_b, sizeof plan_b, 0, BOLFREGA_RULE, 0, 0, 2, 129, 3, 1));
+    EXPECT(steps(plan_b, sizeof plan_b, 1, BOLFREGA_RULE, 0, 1, 0, 0, 0, 2));
+    EXPECT(steps(plan_b, sizeof plan_b, 7, BOLFREGA_MOVE, 0, 1, 2, 0, 0, 8));
+    EXPECT(steps(plan_b, sizeof plan_b, 8, BOLFREGA_FINISHING, 0, 2, 0, 0, 0, 9));
+    EXPECT(steps(plan_b, sizeof plan_b, 9, BOLFREGA_ENDED, 0, 0, 0, 0, 0, 9));
+    EXPECT(steps(plan_b, sizeof plan_b, SIZE_MAX, BOLFREGA_ENDED, 0, 0, 0, 0, 0, SIZE_MAX));
+    EXPECT(steps(NULL, 0, 0, BOLFREGA_ENDED, 0, 0, 0, 0, 0, 0));
+    EXPECT(steps(plan_b, 7, 3, 1, 0, 0, 0, 0, 0, 3));
+
+    uint8_t damaged[sizeof plan_b];
+    memcpy(damaged, plan_b, sizeof plan_b);
+    damaged[8 * 6 + 7] = 1;
+    EXPECT(steps(damaged, sizeof damaged, 6, 5, 6, 0, 0, 0, 0, 6));
+    /* A record before it is not checked again. */
+    EXPECT(steps(damaged, sizeof damaged, 7, BOLFREGA_MOVE, 0, 1, 2, 0, 0, 8));
+    /* But it is to be exceeded. */
+    EXPECT(steps(damaged + 8, sizeof damaged - 8, 5, 5, 5, 0, 0, 0, 0, 5));
+    memcpy(damaged + 8 * 7, plan_b, 8);
+    EXPECT(steps(damaged, sizeof damaged, 7, 6, 7, 0, 0, 0, 0, 7));
+
+    uint64_t offset = 77, length = 77;
+    bolfrega_moves(plan_b, sizeof plan_b, &offset, &length);
+    EXPECT(offset == 40 && length == 24);
+    bolfrega_moves(SHEET, SHEET_LENGTH, &offset, &length);
+    EXPECT(offset == 0 && length == 24);
+    bolfrega_moves(plan_b, 40, &offset, &length);
+    EXPECT(offset == 40 && length == 0);
+    offset = length = 77;
+    bolfrega_moves(damaged, sizeof damaged, &offset, &length);
+    EXPECT(offset == 0 && length == 0);
+    offset = length = 77;
+    bolfrega_moves(NULL, 0, &offset, &length);
+    EXPECT(offset == 0 && length == 0);
+}
+
 static void judgements(void)
 {
     static const uint8_t accepted[] = {1, 2, 3}, turned_away[] = {1, 3}, no_code[] = {128}, with_remarks[] = {120, 1, 2, 127, 3};
@@ -408,6 +455,7 @@ int main(void)
 {
     EXPECT(bolfrega_version() == 3);
     refusals();
+    reading();
     judgements();
     recognitions();
     lists();

@@ -7,6 +7,7 @@ pub mod Elements
 pub mod Functions
 pub mod Handing
 pub mod LendingAgain
+pub mod LentArrays
 pub mod LentPart
 pub mod Loans
 pub mod LocalArrays

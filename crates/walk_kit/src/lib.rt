@@ -9,6 +9,7 @@
 //     Sharing, SharedFront      a `&[T]` that the walk holds, and its first elements
 //     LentPart                  a part of a `&mut [T]`, lent for a call
 //     Elements                  an element of a slice, read or stored
+//     LentArrays                a `&mut [T; n]`, whose elements are lent on as a `&mut [T]`
 //     LocalArrays, ZeroBytes    a local array, lent or shared as a slice; one of bytes that are zeros
 //     Tokens                    the token of a lifetime that is made for a loan
 //     Borrowed                  what a `&mut T` points to

@@ -45,6 +45,7 @@ use Rattle.walk_kit.proofs.Handing.{Hand, Handing, seen, binds, calls-handing}
 use Rattle.walk_kit.proofs.LendingAgain.{passed-on, Kept, passes-on, comes-back, relends}
 use Rattle.walk_kit.proofs.Loans.{Loan, Lent, ref, loan-of, as-passed}
 use Rattle.walk_kit.proofs.Locals.{its, field-of, sets}
+use Rattle.walk_kit.proofs.LentArrays.{given-away}
 use Rattle.walk_kit.proofs.LocalArrays.{lifts, lays, uses}
 use Rattle.walk_kit.proofs.Opening.{Arguments, entering}
 use Rattle.walk_kit.proofs.Parameters.{Param, shared, lent, number, dropped, stays, typed-all}
@@ -62,7 +63,6 @@ use Rattle.call_check.specs.Contracts as contracts
 use Rattle.call_check.specs.declared.Checked.{Checked}
 use Rattle.call_check.proofs.Checked as C
 use Rattle.call_check.proofs.Checked.Laws as C′
-use Rattle.call_check.proofs.LentArrays.{given-away}
 use Rattle.call_check.proofs.check_in as inside
 use Rattle.call_check.proofs.check_in.Symbol as inside-def
 use Rattle.call_check.proofs.check_in.Met as inside-thm

@@ -36,13 +36,13 @@ use Rattle.walk_kit.proofs.CallPlain.{past-head}
 use Rattle.walk_kit.proofs.Closing.{closing}
 use Rattle.walk_kit.proofs.Functions.{Callee, callee, Function, Knows, Walk, walked}
 use Rattle.walk_kit.proofs.Locals.{its, field-of, sets}
+use Rattle.walk_kit.proofs.LentArrays.{given-away}
 use Rattle.walk_kit.proofs.LocalArrays.{lifts, lays, uses}
 use Rattle.walk_kit.proofs.Opening.{Arguments, entering}
 use Rattle.walk_kit.proofs.Parameters.{Param, shared, handed, number, dropped, stays, typed-all}
 use Rattle.spec_calls.specs.Rows.{rowOf}
 use Rattle.spec_calls.specs.declared.Row.{Row}
 use Rattle.spec_calls.proofs.Types.{RowType}
-use Rattle.call_check.proofs.LentArrays.{given-away}
 use Rattle.call_write.specs.Answers.{writingOf}
 use Rattle.call_write.specs.Contracts as written
 use Rattle.call_write.specs.declared.Writing.{Writing}

@@ -42,6 +42,7 @@ use Rattle.walk_kit.proofs.CallPlain.{past-head, asks-plain, calls-plain}
 use Rattle.walk_kit.proofs.Closing.{closing}
 use Rattle.walk_kit.proofs.Functions.{Callee, callee, Function, Knows, Walk, walked}
 use Rattle.walk_kit.proofs.Locals.{its, field-of, sets}
+use Rattle.walk_kit.proofs.LentArrays.{behind, array-opens, array-closes, lends-behind, behind-back}
 use Rattle.walk_kit.proofs.LocalArrays.{lifts, lays, uses, from-start, big-lit, array-made, array-gone, lends-whole, whole-back, shares-array, array-unshared}
 use Rattle.walk_kit.proofs.Opening.{Arguments, entering}
 use Rattle.walk_kit.proofs.Parameters.{Param, shared, handed, datum, dropped, stays, typed-all}
@@ -71,7 +72,6 @@ use Rattle.call_check.specs.Answers.{checkedBy}
 use Rattle.call_check.specs.Contracts.{settingsOver, Checks}
 use Rattle.call_check_start.specs.Starting.{Starts}
 use Rattle.call_check.proofs.Answered.{checks-by}
-use Rattle.call_check.proofs.LentArrays.{behind, array-opens, array-closes, lends-behind, behind-back}
 use Rattle.call_check_start.proofs.Started.{may-run, may-look}
 use Rattle.call_check.proofs.Checked as Ck
 use Rattle.call_check.proofs.Checked.Laws as Ck′

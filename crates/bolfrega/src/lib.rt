@@ -124,11 +124,11 @@ pub extern "C" fn bolfrega_step(
             *next = after as u64;
             record_code(record)
         }
-        Step::Refused(refusal) => {
-            *place = refusal.place as u64;
+        Step::Refused(stopped) => {
+            *place = stopped.place as u64;
             *values = [0, 0, 0, 0];
             *next = from as u64;
-            refusal.number
+            stopped.number
         }
         Step::Ended => {
             *place = 0;
@@ -144,8 +144,8 @@ pub extern "C" fn bolfrega_step(
 pub extern "C" fn bolfrega_moves(file: &[u8], offset: &mut u64, length: &mut u64)
     ensures { λ _. ⌜ MovesAt (now (file .entry)) (now (offset .exit)) (now (length .exit)) ⌝ }
 {
-    let refusal = file_whole::file_refusal(file);
-    if refusal.number != 0 {
+    let fault = file_whole::file_refusal(file);
+    if fault.number != 0 {
         *offset = 0;
         *length = 0;
         return;

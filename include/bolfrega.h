@@ -121,7 +121,7 @@ struct bolfrega_row {
 
 /* How much room bolfrega_check_rows works in: cells of 32 bits, and words of 64. */
 #define BOLFREGA_TABLE_CELLS 45952
-#define BOLFREGA_NEAR_WORDS 20484
+#define BOLFREGA_NEAR_WORDS 28676
 
 /* The places of the details: bolfrega_check has the first eight, bolfrega_check_from and bolfrega_check_rows all nine. */
 #define BOLFREGA_RECORD 0    /* the record that is refused */

@@ -8,7 +8,7 @@ use native.Mathlib.Omega.{arith}
 use lib.Dec.{eqb, ltb}
 use lib.Arith.{digits-lt, lt-one, lt-of-le-ne}
 use lib.Pow.{pow-pos, pow-lt, shr-shr, high, low, field, mod-mod-pow, recompose, ones-lt, ones-split}
-use lib.Bits.{bitAnd, bitOr, bitXor, and-mask, and-shr, and-step, or-shr, or-step, and-le-l, and-le-r, and-self, xor-self, or-add-and, xor-add-and}
+use lib.Bits.{bitAnd, bitOr, bitXor, and-mask, and-shr, and-step, and-block, and-zero-l, or-shr, or-step, and-le-l, and-le-r, and-self, xor-self, or-add-and, xor-add-and}
 use borrow.Author.Tests.{eqb-true, eqb-false, eq-eqb, ltb-true, ltb-false}
 use Rattle.spec_basics.specs.Tests.{and-intro, and-fst, and-snd, or-left, or-right, iff-equal}
 use Rattle.relation.specs.Digits.{bit, digit, number, some, all, union, subset}
@@ -196,6 +196,12 @@ unfolding union all
 union-none zero f = refl
 union-none (suc m) f = or-none (union m f) (f m) ∙ ap (λ (t : Bool). t && eqb (f m) 0) (union-none m f)
 
+-- numbers that are equal have the same places together
+pub union-same : (m : ℕ) (f g : ℕ → ℕ) → ((k : ℕ) → k < m → f k ≡ g k) → union m f ≡ union m g
+unfolding union
+union-same zero f g h = refl
+union-same (suc m) f g h = ap₂ bitOr (union-same m f g (λ k l. h k (le-of-lt (suc-le-suc l)))) (h m (le-refl (suc m)))
+
 -- numbers that differ nowhere are equal
 pub xor-none : (a b : ℕ) → eqb (bitXor a b) 0 ≡ eqb a b
 xor-none a b =
@@ -236,6 +242,34 @@ below-power (suc x) = let l = below-power x in omega (arith, pow-lt (le-refl (su
 
 pub subset-trans : (x y z : ℕ) → subset x y ≡ true → subset y z ≡ true → subset x z ≡ true
 subset-trans x y z p q = bit-subset x x z (below-power x) (λ k l h. subset-bit y z q k (subset-bit x y p k h))
+
+-- what is made of both alike: the places that are in m too, those moved up by n, and those of two numbers together
+pub subset-and : (m x y : ℕ) → subset x y ≡ true → subset (bitAnd x m) (bitAnd y m) ≡ true
+subset-and m x y s =
+    bit-subset (bitAnd x m) (bitAnd x m) (bitAnd y m) (below-power (bitAnd x m))
+    (λ k l h.
+    let b = sym (bit-and x m k) ∙ h in
+    bit-and y m k ∙ and-intro (bit y k) (bit m k) (subset-bit x y s k (and-fst (bit x k) (bit m k) b)) (and-snd (bit x k) (bit m k) b))
+
+pub subset-shl : (n x y : ℕ) → subset x y ≡ true → subset (x * 2 ^ n) (y * 2 ^ n) ≡ true
+unfolding subset
+subset-shl n x y s = eq-eqb (bitAnd (x * 2 ^ n) (y * 2 ^ n)) (x * 2 ^ n) (moved ∙ ap (λ (z : ℕ). z * 2 ^ n) (eqb-true (bitAnd x y) x s))
+  where
+    moved : bitAnd (x * 2 ^ n) (y * 2 ^ n) ≡ bitAnd x y * 2 ^ n
+    moved =
+        ap₂ bitAnd (sym (add-zero (x * 2 ^ n))) (sym (add-zero (y * 2 ^ n)))
+        ∙ and-block n x y 0 0 (pow-pos n) (pow-pos n)
+        ∙ ap (λ (z : ℕ). bitAnd x y * 2 ^ n + z) (and-zero-l 0)
+        ∙ add-zero (bitAnd x y * 2 ^ n)
+
+pub subset-or : (x y u v : ℕ) → subset x y ≡ true → subset u v ≡ true → subset (bitOr x u) (bitOr y v) ≡ true
+subset-or x y u v s t =
+    bit-subset (bitOr x u) (bitOr x u) (bitOr y v) (below-power (bitOr x u))
+    (λ k l h. bit-or y v k ∙ one-of (bit x k) (bit u k) (bit y k) (bit v k) (subset-bit x y s k) (subset-bit u v t k) (sym (bit-or x u k) ∙ h))
+  where
+    one-of : (a b c d : Bool) → (a ≡ true → c ≡ true) → (b ≡ true → d ≡ true) → (a || b) ≡ true → (c || d) ≡ true
+    one-of true b c d f g h = or-left c d (f refl)
+    one-of false b c d f g h = or-right c d (g h)
 
 -- ---- some number below m
 

@@ -12,3 +12,6 @@ pub mod Words
 pub mod Stored
 pub mod StoredLaws
 pub mod Turns
+pub mod KeyLaws
+pub mod Columns
+pub mod ColumnLaws

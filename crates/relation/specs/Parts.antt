@@ -2,8 +2,8 @@
 -- Each word of x is composed for itself, and each word of y brings its own middle states. Assumes nothing.
 use mathlib.Core.Path.{_≡_, refl, sym, ap, ap₂, _∙_, subst}
 use mathlib.Core.Bool.{Bool, true, false, _&&_, _||_, or-false}
-use Prim.Native.Nat.{ℕ, zero, suc, _+_, _-_, _*_, _/_, _%_, _^_, _≤_, _<_}
-use native.Mathlib.Nat.{div-eq-of-lt, add-zero, add-suc, add-comm, zero-mul, suc-mul, add-mul, mul-assoc, lt-of-lt-of-le}
+use Prim.Native.Nat.{ℕ, zero, suc, _+_, _-_, _*_, _/_, _%_, _^_, _≤_, _<_, suc-le-suc}
+use native.Mathlib.Nat.{le-refl, le-of-lt, div-eq-of-lt, add-zero, add-suc, add-comm, zero-mul, suc-mul, add-mul, mul-assoc, lt-of-lt-of-le}
 use native.Mathlib.Omega.{arith}
 use native.Mathlib.Numerals.{add-one}
 use lib.Dec.{ltb}
@@ -11,10 +11,10 @@ use lib.Arith.{digits-lt, lt-one}
 use lib.Pow.{pow-add}
 use lib.Bits.{bitOr, or-lt, or-zero-r}
 use borrow.Author.Tests.{ltb-true, ltb-false}
-use Rattle.relation.specs.Digits.{bit, pieces, piece, some}
+use Rattle.relation.specs.Digits.{bit, pieces, piece, some, union}
 use Rattle.relation.specs.DigitLaws.{bit-or, bit-shr, bit-low, bit-up, bit-mod, some-same}
 use Rattle.relation.specs.Pieces.{pieces-lt, piece-of}
-use Rattle.relation.specs.Product.{product, product-lt, bit-product, product-is, product-empty}
+use Rattle.relation.specs.Product.{product, product-lt, bit-product, product-is, product-none, product-empty}
 use Rattle.relation.specs.Relation.{has, single}
 use Rattle.relation.specs.RelationLaws.{single-place}
 
@@ -87,6 +87,16 @@ product-word n k c j x w g hw h =
   where
     y : ℕ
     y = pieces (c * n) j g
+
+-- the middle states of the first w words together
+pub product-words : (n k c j x : ℕ) (g r : ℕ → ℕ) → ((i : ℕ) → g i < 2 ^ (c * n)) → (w : ℕ) → w ≤ j
+    → ((i : ℕ) → i < w → r i ≡ product n k c (x / 2 ^ (i * c)) (g i)) → union w r ≡ product n k (w * c) x (pieces (c * n) j g)
+unfolding union
+product-words n k c j x g r h zero hw e = sym (ap (λ (z : ℕ). product n k z x (pieces (c * n) j g)) (zero-mul c) ∙ product-none n k x (pieces (c * n) j g))
+product-words n k c j x g r h (suc w) hw e =
+    ap₂ bitOr (product-words n k c j x g r h w (le-of-lt hw) (λ i l. e i (le-of-lt (suc-le-suc l)))) (e w (le-refl (suc w)))
+    ∙ product-word n k c j x w g hw h
+    ∙ ap (λ (z : ℕ). product n k (z * c) x (pieces (c * n) j g)) (add-one w)
 
 -- ---- x in words
 

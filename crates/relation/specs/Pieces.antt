@@ -1,7 +1,7 @@
 -- Numbers made of k pieces of n digits, for any k and n: the words of a relation and the rows of a word are such pieces. Assumes nothing.
 use mathlib.Core.Path.{_≡_, refl, sym, ap, ap₂, _∙_, subst}
 use mathlib.Core.Logic.{_⊎_, inl, inr}
-use mathlib.Core.Bool.{Bool, _&&_}
+use mathlib.Core.Bool.{Bool, true, _&&_}
 use Prim.Native.Nat.{ℕ, zero, suc, _+_, _*_, _/_, _%_, _^_, _<_, suc-le-suc}
 use native.Mathlib.Nat.{le-refl, le-of-lt, le-of-suc-le-suc, not-suc-le-zero, zero-lt-suc, mod-lt, div-lt-iff-lt-mul, div-add-mod', eq-or-lt-of-le, add-comm, zero-mul, mul-zero, suc-mul, add-mul, mul-right-comm}
 use lib.Arith.{digits-lt, digits-div, digits-mod}
@@ -10,8 +10,8 @@ use lib.Dec.{eqb}
 use lib.Pow.{pow-pos, pow-add, high, low}
 use borrow.Author.Tests.{eqb-true, eq-eqb}
 use Rattle.spec_basics.specs.Tests.{and-intro, and-fst, and-snd, iff-equal}
-use Rattle.relation.specs.Digits.{bit, number, pieces, piece, all}
-use Rattle.relation.specs.DigitLaws.{bit-number, bit-up, bit-low, bit-mod, bit-shr, ext}
+use Rattle.relation.specs.Digits.{bit, number, pieces, piece, all, subset}
+use Rattle.relation.specs.DigitLaws.{bit-number, bit-up, bit-low, bit-mod, bit-shr, ext, subset-bit, bit-subset}
 
 -- ---- what is made of pieces
 
@@ -102,6 +102,11 @@ piece-lt n x a = mod-lt (x / 2 ^ (a * n)) (pow-pos n)
 pub bit-piece : (n x a b : ℕ) → b < n → bit (piece n x a) b ≡ bit x (a * n + b)
 unfolding piece
 bit-piece n x a b hb = bit-mod (x / 2 ^ (a * n)) n b hb ∙ bit-shr x (a * n) b
+
+pub subset-piece : (n x y a : ℕ) → subset x y ≡ true → subset (piece n x a) (piece n y a) ≡ true
+subset-piece n x y a s =
+    bit-subset n (piece n x a) (piece n y a) (piece-lt n x a)
+    (λ b l h. bit-piece n y a b l ∙ subset-bit x y s (a * n + b) (sym (bit-piece n x a b l) ∙ h))
 
 -- ---- the places of k pieces
 

@@ -2,9 +2,9 @@
 -- the pair (a, b) is the place a * n + b. Definitions only. Assumes nothing.
 use mathlib.Core.Bool.{Bool, not, _&&_, _||_}
 use Prim.Native.Nat.{ℕ, _+_, _-_, _*_, _/_, _%_, _^_}
-use lib.Bits.{bitOr, bitXor}
+use lib.Bits.{bitAnd, bitOr, bitXor}
 use lib.Dec.{eqb}
-use Rattle.relation.specs.Digits.{bit, number, piece, some, count, subset}
+use Rattle.relation.specs.Digits.{bit, number, pieces, piece, some, count, subset}
 
 -- how many states an automaton has (request C-14: stages 0 to 15; all sixteen always exist)
 abbrev pub states : ℕ
@@ -51,6 +51,14 @@ turned k x = bitOr (x * 2 ^ k % 2 ^ 64) (x / 2 ^ (64 - k))
 abbrev pub digest : ℕ → ℕ
 digest r =
     bitXor (bitXor (piece 64 r 0) (turned 8 (piece 64 r 1))) (turned 29 (bitXor (piece 64 r 2) (turned 8 (piece 64 r 3)))) % 32749
+
+-- the eight lowest places of each of four rows: the pairs of four states to the states below 8
+unfoldable pub lowerHalves : ℕ
+lowerHalves = pieces 16 4 (λ a. 2 ^ 8 - 1)
+
+-- the pairs among the states below 8 in one word of 64 digits: the rows of the states 0 to 3 in the lower halves, of 4 to 7 in the upper
+unfoldable pub keyOf : ℕ → ℕ
+keyOf r = bitOr (bitAnd (piece 64 r 0) lowerHalves) (bitAnd (piece 64 r 1) lowerHalves * 2 ^ 8)
 
 -- no pair (0, f) with f final (document 000, section 3: rejecting)
 unfoldable pub rejects : ℕ → (ℕ → Bool) → ℕ → Bool

@@ -1,17 +1,19 @@
 // Relations on the states of an automaton as four words of 64 bits: a row of 16 bits for each state, four rows to a word, so that the pair
 // (a, b) is bit a * 16 + b of the four together. No other crate knows that. Definitions in specs/: Digits (binary digits), Relation (pairs,
 // identity, composition, containment, rejecting), Representation (how the code holds one), Stored (relations in a table), Turns (the steps of
-// a composition). Laws, for every number of states and words: DigitLaws, Pieces (numbers made of pieces: words, rows), RelationLaws, Product
-// (composition by masks, of any count of rows), Parts (composition word by word), Words (containment word by word), StoredLaws, Counting (pairs),
-// Masks (final states).
+// a composition), Columns (the columns of a relation, and a composition by them). Laws, for every number of states and words: DigitLaws, Pieces
+// (numbers made of pieces: words, rows), RelationLaws, Product (composition by masks and by products, of any count of rows), Parts (composition
+// word by word), Words (containment and composition in the code's words), ColumnLaws, StoredLaws, Counting (pairs), Masks (final states),
+// KeyLaws.
 ghost use mathlib.Core.Path.{_≡_};
-ghost use Prim.Native.Nat.{_+_, _*_, _/_, _^_, _≤_};
+ghost use Prim.Native.Nat.{_+_, _*_, _/_, _^_, _≤_, _<_};
 ghost use lib.Bits.{bitOr};
 ghost use lib.Dec.{eqb};
 ghost use lib.ListN.{length};
+ghost use Rattle.relation.specs.Columns.{columnCells, AreColumns, byColumns, cell, cellsFrom, wordBy, columnsOf};
 ghost use Rattle.relation.specs.Digits.{bit, subset};
 ghost use Rattle.relation.specs.Product.{product, spread, repeated, crossed};
-ghost use Rattle.relation.specs.Relation.{states, identity, compose, contained, single, insert, pairs, turned, digest, rejects};
+ghost use Rattle.relation.specs.Relation.{states, identity, compose, contained, single, insert, pairs, turned, digest, keyOf, rejects};
 ghost use Rattle.relation.specs.Representation.{rowsOfWord, relationWords, ofWords, word, value, none};
 ghost use Rattle.relation.specs.Stored.{relationIn, withRelation};
 ghost use Rattle.relation.specs.Turns.{Moved, Joined};
@@ -34,10 +36,16 @@ pub type Letter = u64;
 
 pub const WORDS: usize = 4;
 
+// How many words the columns of a relation take: one for each middle state and each word of the relation.
+pub const COLUMNS: usize = 64;
+
 // The lowest bit of each row of a word, and the bits of its lowest row.
 const COLUMN: u64 = 0x0001_0001_0001_0001;
 
 const ROW: u64 = 0xffff;
+
+// The lower half of each row of a word: the pairs to the states below 8.
+const LOWER_HALVES: u64 = 0x00ff_00ff_00ff_00ff;
 
 // A prime.
 const DIGESTS: u64 = 32749;
@@ -67,6 +75,13 @@ fn outside(x: u64, y: u64) -> u64
     ensures { λ r. ⌜ eqb r 0 ≡ subset x y ⌝ }
 {
     (x & y) ^ x
+}
+
+// Tests whether every bit of `x` is one of `y`: of two keys, whether the second relation can have every pair of the first.
+pub fn within(x: u64, y: u64) -> bool
+    ensures { λ r. ⌜ r ≡ subset x y ⌝ }
+{
+    outside(x, y) == 0
 }
 
 // Returns the word `x` turned by 8 and by 29 places: the bits that leave it above come in below.
@@ -106,17 +121,31 @@ fn block(x: u64, r0: u64, r1: u64, r2: u64, r3: u64) -> u64
     (spread(x) & r0) | (spread(x >> 1) & r1) | (spread(x >> 2) & r2) | (spread(x >> 3) & r3)
 }
 
-// Returns the pairs of the four rows `x` with the states of the four lowest columns in the middle, to whose states the four rows of `y` belong:
-// for each of these states the column of those that lead to it, times its row. A column has at most one bit in each row, so the product
-// puts the row of `y` into the rows of the column, and nothing carries.
+// Returns the pairs of four rows with four states in the middle, to whose states the four rows of `y` belong: `c0` to `c3` are the columns of
+// these states, the lowest bit of each row that leads to the state, each times the row of its state. A column has at most one bit in each
+// row, so the product puts the row of `y` into the rows of the column, and nothing carries.
+fn crossed_by(c0: u64, c1: u64, c2: u64, c3: u64, y: u64) -> u64
+    requires { ⌜ AreColumns rowsOfWord (word (ofWords c0 c1 c2 c3)) ⌝ }
+    ensures { λ r. ⌜ r ≡ byColumns (word (ofWords c0 c1 c2 c3)) y ⌝ }
+{
+    let first = c0 * (y & ROW);
+    let second = c1 * ((y >> 16) & ROW);
+    let third = c2 * ((y >> 32) & ROW);
+    let fourth = c3 * ((y >> 48) & ROW);
+    first | second | third | fourth
+}
+
+// Returns the pairs of the four rows `x` with the states of the four lowest columns in the middle, to whose states the four rows of `y` belong.
 fn crossed(x: u64, y: u64) -> u64
     ensures { λ r. ⌜ r ≡ product states rowsOfWord rowsOfWord x y ⌝ }
 {
-    let first = (x & COLUMN) * (y & ROW);
-    let second = ((x >> 1) & COLUMN) * ((y >> 16) & ROW);
-    let third = ((x >> 2) & COLUMN) * ((y >> 32) & ROW);
-    let fourth = ((x >> 3) & COLUMN) * ((y >> 48) & ROW);
-    first | second | third | fourth
+    crossed_by(
+        x & COLUMN,
+        (x >> 1) & COLUMN,
+        (x >> 2) & COLUMN,
+        (x >> 3) & COLUMN,
+        y,
+    )
 }
 
 // Returns the pairs of the four rows `x` with the states below 8 in the middle, whose rows are those of `y0` and `y1`.
@@ -124,6 +153,40 @@ fn crossed_twice(x: u64, y0: u64, y1: u64) -> u64
     ensures { λ r. ⌜ r ≡ bitOr (product states rowsOfWord rowsOfWord x y0) (product states rowsOfWord rowsOfWord (x / 2 ^ rowsOfWord) y1) ⌝ }
 {
     crossed(x, y0) | crossed(x >> 4, y1)
+}
+
+// Returns the pairs of four rows with four states in the middle, to whose states the four rows of `y` belong. The columns of these states in
+// the four rows are in `columns` at `at` and 4, 8 and 12 places after it.
+fn by_columns(columns: &[u64; COLUMNS], at: usize, y: u64) -> u64
+    requires { ⌜ (at + 12 < columnCells) × AreColumns columnCells (cell (now columns)) ⌝ }
+    ensures { λ r. ⌜ r ≡ byColumns (cellsFrom (now (columns .entry)) at) y ⌝ }
+{
+    crossed_by(
+        columns[at],
+        columns[at + 4],
+        columns[at + 8],
+        columns[at + 12],
+        y,
+    )
+}
+
+// Returns word `w` of a composition with `next`, where the states from 8 on have no rows in `next`: the columns of the relation before it are
+// in `columns`.
+fn by_two(columns: &[u64; COLUMNS], w: usize, next: Relation) -> u64
+    requires { ⌜ (w < relationWords) × AreColumns columnCells (cell (now columns)) ⌝ }
+    ensures { λ r. ⌜ r ≡ wordBy 2 (now (columns .entry)) w next ⌝ }
+{
+    by_columns(columns, w, next.w0) | by_columns(columns, w + 16, next.w1)
+}
+
+// Returns word `w` of a composition with `next`, with all middle states.
+fn by_four(columns: &[u64; COLUMNS], w: usize, next: Relation) -> u64
+    requires { ⌜ (w < relationWords) × AreColumns columnCells (cell (now columns)) ⌝ }
+    ensures { λ r. ⌜ r ≡ wordBy 4 (now (columns .entry)) w next ⌝ }
+{
+    by_two(columns, w, next)
+        | by_columns(columns, w + 32, next.w2)
+        | by_columns(columns, w + 48, next.w3)
 }
 
 impl Relation {
@@ -244,7 +307,8 @@ impl Relation {
 
     // Composes this relation with `next`. Where no state from 8 on leads on in either, as in a file of eight states, the first two words have
     // all that is to be done, and products are faster than masks. Where none does in `next` alone, its first two words have every middle
-    // state that leads on.
+    // state that leads on. `after` is given both relations made anew of their words: handed on as they came, the two structs are copied by
+    // loads of 16 bytes behind stores of 8, and the processor waits for these.
     pub fn compose(self, next: Relation) -> Relation
         ensures { λ r. ⌜ value r ≡ compose states (value self) (value next) ⌝ }
     {
@@ -256,10 +320,48 @@ impl Relation {
                 0,
             );
         }
-        if (next.w2 | next.w3) == 0 {
-            return after(self, next, 2);
+        let x = of_words(self.w0, self.w1, self.w2, self.w3);
+        let y = of_words(next.w0, next.w1, next.w2, next.w3);
+        if (y.w2 | y.w3) == 0 {
+            return after(x, y, 2);
         }
-        after(self, next, WORDS)
+        after(x, y, WORDS)
+    }
+
+    // Returns the columns of this relation, for compositions with many others: the column of each middle state in each word, those of one
+    // state side by side.
+    pub fn columns(self) -> [u64; COLUMNS]
+        ensures { λ r. ⌜ r ≡ columnsOf self ⌝ }
+    {
+        let mut cells = [0u64; COLUMNS];
+        let mut state: u32 = 0;
+        while state < SIDE {
+            let at = (state as usize) * WORDS;
+            cells[at] = (self.w0 >> state) & COLUMN;
+            cells[at + 1] = (self.w1 >> state) & COLUMN;
+            cells[at + 2] = (self.w2 >> state) & COLUMN;
+            cells[at + 3] = (self.w3 >> state) & COLUMN;
+            state += 1;
+        }
+        cells
+    }
+
+    // Composes this relation with `next` as `compose` does, where `columns` are its columns: a composition then masks and shifts no word of
+    // this relation. Where no state from 8 on leads on in either, the first two words of both have all that is to be done.
+    pub fn compose_by(self, columns: &[u64; COLUMNS], next: Relation) -> Relation
+        requires { ⌜ now columns ≡ columnsOf self ⌝ }
+        ensures { λ r. ⌜ value r ≡ compose states (value self) (value next) ⌝ }
+    {
+        let upper = self.w2 | self.w3 | next.w2 | next.w3;
+        if upper == 0 {
+            return of_words(by_two(columns, 0, next), by_two(columns, 1, next), 0, 0);
+        }
+        of_words(
+            by_four(columns, 0, next),
+            by_four(columns, 1, next),
+            by_four(columns, 2, next),
+            by_four(columns, 3, next),
+        )
     }
 
     // Tests whether every pair of this relation is one of `other`.
@@ -309,6 +411,14 @@ impl Relation {
         let lower = self.w0 ^ turned_8(self.w1);
         let upper = self.w2 ^ turned_8(self.w3);
         ((lower ^ turned_29(upper)) % DIGESTS) as usize
+    }
+
+    // Returns the pairs among the states below 8 in one word: of a file of eight states, the whole relation. A relation that is contained in
+    // another has a key within the other's, so a caller that keeps keys side by side tests these first, by `within`, and few relations.
+    pub fn key(self) -> u64
+        ensures { λ r. ⌜ r ≡ keyOf (value self) ⌝ }
+    {
+        (self.w0 & LOWER_HALVES) | ((self.w1 & LOWER_HALVES) << 8)
     }
 
     // Tests whether there is no pair (0, f) with f in `finals`, the set of the final states.

@@ -3,3 +3,4 @@ pub mod Steps
 pub mod Seeking
 pub mod NearLaws
 pub mod SeekLaws
+pub mod DropLaws

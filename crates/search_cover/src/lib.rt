@@ -1,61 +1,62 @@
-// Looking for a row that covers a candidate. Two rows are tried first, which hints name. Then all live rows of its nonterminal are looked
-// through, and to be looked through fast, their effects stand beside each other in one array of words, `near`: it has those of one
-// nonterminal at a time, since a rule's candidates are all of its head. A cursor leads over the rows that are to be read: a hint, and, where
-// `near` has another nonterminal, the linked rows, whose effects are copied there.
+// Looking for a row that covers a candidate. One array of words, `near`, has what is read on the way: the effect and the nonterminal of every
+// row, and the numbers of the live rows of one nonterminal, each beside a key of its effect. It has those of one nonterminal at a time, since a
+// rule's candidates are all of its head; where another is looked for, its rows are numbered along the links. No row of the journal is read.
+use relation::Effect;
 use relation::Letter;
 use relation::WORDS;
 use search_rows::Candidate;
 use search_state::FIRSTS;
 use search_state::Fate;
-use search_state::LASTS;
 use search_state::ROWS;
-use search_state::SLOTS;
 use search_state::State;
-use spec_calls::Row;
 ghost use mathlib.Core.Path.{_≡_};
-ghost use mathlib.Core.Bool.{false, _||_};
+ghost use mathlib.Core.Bool.{true, false, _||_};
 ghost use Prim.Native.Nat.{_≤_, _<_};
 ghost use lib.ListN.{length, set};
-ghost use Rattle.relation.specs.Relation.{contained};
-ghost use Rattle.spec_calls.specs.Rows.{rowOf};
+ghost use Rattle.relation.specs.Relation.{contained, keyOf};
+ghost use Rattle.relation.specs.Representation.{value};
 ghost use Rattle.search_rows.specs.Meanings.{candidateOf};
-ghost use Rattle.search_state.specs.Comparing.{isBelow};
-ghost use Rattle.search_state.specs.Positions.{positionRow};
-ghost use Rattle.search_state.specs.Layout.{rowCells, tableCells};
-ghost use Rattle.search_cover.specs.Near.{nearWords, isNear, countOf};
-ghost use Rattle.search_cover.specs.Steps.{lastNoted, linkedAt, endNoted, fromLinks, foundAt, hintedAt, Begins, stepped, FirstBelow, NoneAbove, LooksThrough, nearAfter};
+ghost use Rattle.search_state.specs.Layout.{rowCells};
+ghost use Rattle.search_cover.specs.Near.{nearWords, isNear, countOf, numberAt, effectAt};
+ghost use Rattle.search_cover.specs.Steps.{withNumber, Ready, FirstBelow, NoneAbove, LooksThrough, withRow, keptAt, withLast, Drops, Stays};
+ghost use Rattle.search_cover.specs.Seeking.{MayLook, Brings, FindsIn};
 
 // ---- the words of `near`
 
-// One effect takes four words. The first four are numbers: one more than the nonterminal (`HEAD`), or 0 where `near` has none; how many
-// effects there are (`COUNT`); and the cell that leads past its last live row (`LINK`). Then come the effects, and from `NUMBERS` on the
-// numbers of their rows, for the hints.
+// The first four are numbers: one more than the nonterminal (`HEAD`), or 0 where `near` has none; how many rows of it there are (`COUNT`); and
+// the cell that leads past its last live row (`LINK`). From `KEYS` on stand the keys of these rows, from `NUMBERS` on their numbers. From
+// `HEADS_OF` on stand the nonterminals of all rows, and then their effects, four words each: that of row i at the place `ROW_PLACES` + i.
 const HEAD: usize = 0;
 
 const COUNT: usize = 1;
 
 const LINK: usize = 2;
 
-const NUMBERS: usize = WORDS * (ROWS + 1);
+const KEYS: usize = WORDS;
 
-pub const NEAR_WORDS: usize = NUMBERS + ROWS;
+const NUMBERS: usize = KEYS + ROWS;
 
-// While the cursor is `active`, `row` is the row to read next: a hint, or, if `linked`, the row to which the link in `cell` leads, of which
-// `count` come before it. Once it is not `active`, either `row` covers the candidate (`covers`), or no row does; then `cell` is the last link of
-// the nonterminal, which a new row is to be linked to, and `larger` says whether a live row may be larger than the candidate. `slot` is the
-// cell of the hint by the candidate's effect. A row that covers is `linked` where no hint named it.
-pub struct CoverCursor {
-    pub active: bool,
+pub const HEADS_OF: usize = NUMBERS + ROWS;
+
+pub const ROW_PLACES: usize = 1 + 3 * ROWS / WORDS;
+
+pub const NEAR_WORDS: usize = WORDS * (ROW_PLACES + ROWS);
+
+// What looking for a cover found. Either a row covers the candidate (`covers`): `row`, where it is `linked`, that is, where no hint named it. Or
+// none does; then `cell` is the last link of the nonterminal, which a new row is to be linked to, and `larger` says whether a live row may be
+// larger than the candidate. `slot` is the cell of the hint by the candidate's effect.
+pub struct CoverAnswer {
     pub covers: bool,
     pub linked: bool,
     pub row: usize,
     pub cell: usize,
     pub larger: bool,
     pub slot: usize,
-    pub count: usize,
 }
 
-// Returns whether `near` has the effects of the nonterminal `head`.
+// ---- the rows of one nonterminal
+
+// Returns whether `near` has the rows of the nonterminal `head`.
 fn is_near(near: &[Letter], head: u8) -> bool
     requires { ⌜ length (now near) ≡ nearWords ⌝ }
     ensures { λ r. ⌜ r ≡ isNear (now (near .entry)) head ⌝ }
@@ -63,7 +64,7 @@ fn is_near(near: &[Letter], head: u8) -> bool
     near[HEAD] == head as u64 + 1
 }
 
-// Makes `near`, whatever it has, one that has no nonterminal: it is filled when one is looked for.
+// Makes `near`, whatever it has, one that has no nonterminal: its rows are numbered when one is looked for.
 pub fn forget(near: &mut [Letter])
     requires { ⌜ length (now near) ≡ nearWords ⌝ }
     ensures { λ _. ⌜ now (near .exit) ≡ set (now (near .entry)) 0 0 ⌝ }
@@ -71,166 +72,91 @@ pub fn forget(near: &mut [Letter])
     near[HEAD] = 0;
 }
 
-// ---- the rows that are read
-
-// Returns the row of the nonterminal `head` that covered last, or row 0 where none is noted.
-pub fn last_row(table: &[u32], state: State, head: u8) -> usize
-    requires { ⌜ length (now table) ≡ tableCells ⌝ }
-    ensures { λ r. ⌜ r ≡ positionRow (lastNoted (now (table .entry)) head) (state .counts .used) ⌝ }
+// Puts the row `row` at place `n`, with its key.
+fn put_number(near: &mut [Letter], n: usize, row: usize)
+    requires { ⌜ (length (now near) ≡ nearWords) × (n < rowCells) × (row < rowCells) ⌝ }
+    ensures { λ _. ⌜ now (near .exit) ≡ withNumber (now (near .entry)) n row ⌝ }
 {
-    let counts = state.counts;
-    let hint = search_order::position(table[LASTS + head as usize]);
-    search_state::position_row(hint, counts.used)
+    let held = Effect::read(near, ROW_PLACES + row);
+    near[KEYS + n] = held.key();
+    near[NUMBERS + n] = row as u64;
 }
 
-// The cursor at the linked row `row`, before which come `count`, or past the last one.
-fn at_link(used: usize, row: usize, cell: usize, slot: usize, count: usize) -> CoverCursor
-    ensures { λ r. ⌜ r ≡ linkedAt used row cell slot count ⌝ }
+// Numbers the live rows of the nonterminal `head`, along the links of `table` over the `used` rows.
+fn fill(near: &mut [Letter], table: &[u32], used: usize, head: u8)
+    requires { ⌜ MayLook used (now table) (now near) ⌝ }
+    ensures { λ _. ⌜ Brings used head (now (table .entry)) (now (near .entry)) (now (near .exit)) ⌝ }
 {
-    CoverCursor {
-        active: row < used,
-        covers: false,
-        linked: true,
-        row,
-        cell,
-        larger: false,
-        slot,
-        count,
+    let mut cell = FIRSTS + head as usize;
+    let mut row = search_order::position(table[cell]);
+    let mut n: usize = 0;
+    // `n` rows have been numbered, those before `row`, to which the link in `cell` leads.
+    while row < used {
+        put_number(near, n, row);
+        cell = row;
+        row = search_order::position(table[cell]);
+        n += 1;
     }
+    near[HEAD] = head as u64 + 1;
+    near[COUNT] = n as u64;
+    near[LINK] = cell as u64;
 }
 
-// Where `cursor` has come past the last linked row of `head`, `near` has the effects of all of them, and notes that.
-fn note_end(near: &mut [Letter], head: u8, cursor: CoverCursor)
-    requires { ⌜ length (now near) ≡ nearWords ⌝ }
-    ensures { λ _. ⌜ now (near .exit) ≡ endNoted (now (near .entry)) head cursor ⌝ }
+// Numbers the live rows of the nonterminal `head`, where `near` does not have them already.
+fn bring(near: &mut [Letter], table: &[u32], used: usize, head: u8)
+    requires { ⌜ MayLook used (now table) (now near) ⌝ }
+    ensures { λ _. ⌜ Brings used head (now (table .entry)) (now (near .entry)) (now (near .exit)) ⌝ }
 {
-    if !cursor.active {
-        near[HEAD] = head as u64 + 1;
-        near[COUNT] = cursor.count as u64;
-        near[LINK] = cursor.cell as u64;
-    }
-}
-
-// Where no hint covers: the cursor at the first linked row of `head`, or, where `near` has its effects already, past the last one.
-fn from_links(near: &mut [Letter], table: &[u32], used: usize, head: u8, slot: usize) -> CoverCursor
-    requires { ⌜ (length (now near) ≡ nearWords) × (length (now table) ≡ tableCells) ⌝ }
-    ensures { λ r. ⌜ (r, now (near .exit)) ≡ fromLinks (now (table .entry)) (now (near .entry)) used head slot ⌝ }
-{
-    let cell = FIRSTS + head as usize;
-    if is_near(near, head) {
-        return at_link(used, used, cell, slot, 0);
-    }
-    let cursor = at_link(used, search_order::position(table[cell]), cell, slot, 0);
-    note_end(near, head, cursor);
-    cursor
-}
-
-// The cursor, ended at its row, which covers.
-fn found(cursor: CoverCursor) -> CoverCursor
-    ensures { λ r. ⌜ r ≡ foundAt cursor ⌝ }
-{
-    CoverCursor {
-        active: false,
-        covers: true,
-        linked: cursor.linked,
-        row: cursor.row,
-        cell: cursor.cell,
-        larger: cursor.larger,
-        slot: cursor.slot,
-        count: cursor.count,
+    if !is_near(near, head) {
+        fill(near, table, used, head);
     }
 }
 
-// The cursor at `row`, which a hint names.
-fn at_hint(row: usize, slot: usize) -> CoverCursor
-    ensures { λ r. ⌜ r ≡ hintedAt row slot ⌝ }
+// ---- looking through them
+
+// Returns the effect of the row at place `i`.
+fn effect_of(near: &[Letter], i: usize) -> Effect
+    requires { ⌜ (length (now near) ≡ nearWords) × (i < rowCells) × (numberAt (now near) i < rowCells) ⌝ }
+    ensures { λ r. ⌜ value r ≡ effectAt (now (near .entry)) i ⌝ }
 {
-    CoverCursor {
-        active: true,
-        covers: false,
-        linked: false,
-        row,
-        cell: FIRSTS,
-        larger: false,
-        slot,
-        count: 0,
-    }
+    let row = near[NUMBERS + i] as usize;
+    Effect::read(near, ROW_PLACES + row)
 }
 
-// Where the row `last`, which is `noted`, covers `candidate`, nothing is left to do. Otherwise the cursor begins at the row that is noted in
-// the slot of the effect, or at the linked rows. `last` counts only as one of the used rows: what stands behind them is not compared.
-pub fn begin(
-    near: &mut [Letter],
-    table: &[u32],
-    state: State,
-    candidate: Candidate,
-    last: usize,
-    noted: Row,
-) -> CoverCursor
-    requires { ⌜ (length (now near) ≡ nearWords) × (length (now table) ≡ tableCells) ⌝ }
-    ensures { λ r. ⌜ Begins (now (table .entry)) (now (near .entry)) (state .counts .used) (candidate .head) last (isBelow contained (candidateOf candidate) (rowOf noted)) (now (near .exit)) r ⌝ }
+// Returns whether the effect at place `i` is contained in `effect`, whose key is `key`. The key of a contained one is contained too, and seldom
+// that of another, so the key decides first.
+fn is_below(near: &[Letter], i: usize, key: u64, effect: Effect) -> bool
+    requires { ⌜ Ready rowCells (now near) × (i < countOf (now near)) × (key ≡ keyOf (value effect)) ⌝ }
+    ensures { λ r. ⌜ r ≡ contained (effectAt (now (near .entry)) i) (value effect) ⌝ }
 {
-    let counts = state.counts;
-    let used = counts.used;
-    let compared = search_rows::compare(noted, candidate);
-    let slot = SLOTS + search_rows::slot_unless(compared, candidate);
-    if compared.covers & (last < used) {
-        return found(at_hint(last, slot));
+    if !relation::within(near[KEYS + i], key) {
+        return false;
     }
-    let hint = search_order::position(table[slot]);
-    if hint < used {
-        return at_hint(hint, slot);
-    }
-    from_links(near, table, used, candidate.head, slot)
+    let held = effect_of(near, i);
+    held.contained(effect)
 }
 
-// One step, where `held` is the row at `cursor`. The effect of a linked row is copied, and the next one comes. A hint ends the looking where it
-// covers `candidate`, and else come the linked rows.
-pub fn step(
-    near: &mut [Letter],
-    table: &[u32],
-    state: State,
-    candidate: Candidate,
-    cursor: CoverCursor,
-    held: Row,
-) -> CoverCursor
-    requires { ⌜ (length (now near) ≡ nearWords) × (length (now table) ≡ tableCells) × (cursor .row < rowCells) × (cursor .count < rowCells) ⌝ }
-    ensures { λ r. ⌜ (r, now (near .exit)) ≡ stepped (now (table .entry)) (now (near .entry)) (state .counts .used) (candidate .head) cursor (isBelow contained (candidateOf candidate) (rowOf held)) (rowOf held .effect) ⌝ }
+// Returns whether the effect at place `i` contains `effect`, whose key is `key`.
+fn is_above(near: &[Letter], i: usize, key: u64, effect: Effect) -> bool
+    requires { ⌜ Ready rowCells (now near) × (i < countOf (now near)) × (key ≡ keyOf (value effect)) ⌝ }
+    ensures { λ r. ⌜ r ≡ contained (value effect) (effectAt (now (near .entry)) i) ⌝ }
 {
-    let counts = state.counts;
-    let used = counts.used;
-    if cursor.linked {
-        let row = cursor.row;
-        let n = cursor.count;
-        search_rows::put_row(near, n + 1, held);
-        near[NUMBERS + n] = row as u64;
-        let next = at_link(
-            used,
-            search_order::position(table[row]),
-            row,
-            cursor.slot,
-            n + 1,
-        );
-        note_end(near, candidate.head, next);
-        return next;
+    if !relation::within(key, near[KEYS + i]) {
+        return false;
     }
-    let compared = search_rows::compare(held, candidate);
-    if compared.covers {
-        return found(cursor);
-    }
-    from_links(near, table, used, candidate.head, cursor.slot)
+    effect.contained(effect_of(near, i))
 }
 
-// ---- the effects beside each other
-
-// Returns the place of the first of the `count` effects in `near` that is contained in that of `candidate`, or `count`.
-fn first_below(near: &[Letter], count: usize, candidate: Candidate) -> usize
-    requires { ⌜ (length (now near) ≡ nearWords) × (count ≤ rowCells) ⌝ }
-    ensures { λ r. ⌜ FirstBelow contained (now (near .entry)) count (candidateOf candidate .effect) r ⌝ }
+// Returns the place of the first of the `count` effects that is contained in `effect`, or `count`.
+fn first_below(near: &[Letter], count: usize, effect: Effect) -> usize
+    requires { ⌜ Ready rowCells (now near) × (count ≡ countOf (now near)) ⌝ }
+    ensures { λ r. ⌜ FirstBelow (now (near .entry)) count (value effect) r ⌝ }
 {
+    let key = effect.key();
     let mut i: usize = 0;
+    // No effect before place `i` is contained in `effect`.
     while i < count {
-        if search_rows::is_below(near, i + 1, candidate) {
+        if is_below(near, i, key, effect) {
             return i;
         }
         i += 1;
@@ -238,78 +164,152 @@ fn first_below(near: &[Letter], count: usize, candidate: Candidate) -> usize
     count
 }
 
-// Returns whether one of the `count` effects in `near` contains that of `candidate`.
-fn some_above(near: &[Letter], count: usize, candidate: Candidate) -> bool
-    requires { ⌜ (length (now near) ≡ nearWords) × (count ≤ rowCells) ⌝ }
-    ensures { λ r. ⌜ (r ≡ false → NoneAbove contained (now (near .entry)) count (candidateOf candidate .effect)) ⌝ }
+// Returns whether one of the `count` effects contains `effect`.
+fn some_above(near: &[Letter], count: usize, effect: Effect) -> bool
+    requires { ⌜ Ready rowCells (now near) × (count ≡ countOf (now near)) ⌝ }
+    ensures { λ r. ⌜ (r ≡ false → NoneAbove (now (near .entry)) count (value effect)) ⌝ }
 {
-    let mut some = false;
+    let key = effect.key();
     let mut i: usize = 0;
+    // No effect before place `i` contains `effect`.
     while i < count {
-        some = some | search_rows::is_above(near, i + 1, candidate);
+        if is_above(near, i, key, effect) {
+            return true;
+        }
         i += 1;
     }
-    some
+    false
 }
 
-// Where no hint covered `candidate`, which `cursor` says, looks through the effects in `near`, which are those of its nonterminal. Only where
-// none of them covers it, it is asked whether one is larger.
-pub fn look_through(
-    near: &[Letter],
-    state: State,
-    candidate: Candidate,
-    cursor: CoverCursor,
-) -> CoverCursor
-    requires { ⌜ (length (now near) ≡ nearWords) × (cursor .covers ≡ false → countOf (now near) ≤ rowCells) ⌝ }
-    ensures { λ r. ⌜ LooksThrough contained (now (near .entry)) (state .counts .used) (candidateOf candidate .effect) cursor r ⌝ }
+// Looks through the effects for one that is contained in `effect`, whose hint is `slot`. Only where there is none, it is asked whether one
+// contains it.
+fn look_through(near: &[Letter], effect: Effect, slot: usize) -> CoverAnswer
+    requires { ⌜ Ready rowCells (now near) ⌝ }
+    ensures { λ r. ⌜ LooksThrough (now (near .entry)) (value effect) slot r ⌝ }
 {
-    if cursor.covers {
-        return cursor;
-    }
-    let counts = state.counts;
     let count = near[COUNT] as usize;
-    let i = first_below(near, count, candidate);
+    let i = first_below(near, count, effect);
     if i < count {
-        let number = near[NUMBERS + i] as usize;
-        let row = search_state::position_row(number, counts.used);
-        return found(at_link(counts.used, row, FIRSTS, cursor.slot, 0));
+        return CoverAnswer {
+            covers: true,
+            linked: true,
+            row: near[NUMBERS + i] as usize,
+            cell: FIRSTS,
+            larger: false,
+            slot,
+        };
     }
-    CoverCursor {
-        active: false,
+    CoverAnswer {
         covers: false,
         linked: true,
         row: 0,
         cell: near[LINK] as usize,
-        larger: some_above(near, count, candidate),
-        slot: cursor.slot,
-        count,
+        larger: some_above(near, count, effect),
+        slot,
     }
 }
 
-// After `candidate` became a row, which `fate` says, its effect stands last in `near`. Where larger rows retired, which `found` says may be,
-// `near` has no nonterminal any more, and is filled when one is looked for again.
+// Looks for a live row that covers a candidate of the nonterminal `head` with this `effect`. Where a hint covers it, which `known` says, nothing
+// is left to do; else the live rows of `head` are looked through. Any row that covers will do: the contract is whether there is one.
+pub fn find(
+    near: &mut [Letter],
+    table: &[u32],
+    state: State,
+    head: u8,
+    effect: Effect,
+    known: bool,
+    slot: usize,
+) -> CoverAnswer
+    requires { ⌜ MayLook (state .counts .used) (now table) (now near) ⌝ }
+    ensures { λ r. ⌜ FindsIn (state .counts .used) head (value effect) known slot (now (table .entry)) (now (near .entry)) (now (near .exit)) r ⌝ }
+{
+    if known {
+        return CoverAnswer {
+            covers: true,
+            linked: false,
+            row: 0,
+            cell: FIRSTS,
+            larger: false,
+            slot,
+        };
+    }
+    let counts = state.counts;
+    bring(near, table, counts.used, head);
+    look_through(near, effect, slot)
+}
+
+// ---- after a candidate
+
+// Notes the effect and the nonterminal of `candidate`, which became row `row`.
+fn note_row(near: &mut [Letter], row: usize, candidate: Candidate)
+    requires { ⌜ (length (now near) ≡ nearWords) × (row < rowCells) ⌝ }
+    ensures { λ _. ⌜ now (near .exit) ≡ withRow (now (near .entry)) row (candidate .head) (candidateOf candidate .effect) ⌝ }
+{
+    search_rows::put_candidate(near, ROW_PLACES + row, candidate);
+    near[HEADS_OF + row] = candidate.head as u64;
+}
+
+// Keeps the row at place `i`, as the one at place `k`, unless its effect contains `effect`. Returns how many rows are kept then.
+fn keep_row(near: &mut [Letter], i: usize, k: usize, effect: Effect) -> usize
+    requires { ⌜ (length (now near) ≡ nearWords) × (i < rowCells) × (k ≤ i) × (numberAt (now near) i < rowCells) ⌝ }
+    ensures { λ r. ⌜ (r, now (near .exit)) ≡ keptAt (value effect) (now (near .entry)) i k ⌝ }
+{
+    let held = effect_of(near, i);
+    if effect.contained(held) {
+        return k;
+    }
+    let row = near[NUMBERS + i] as usize;
+    put_number(near, k, row);
+    k + 1
+}
+
+// Drops the rows whose effect contains `effect`, which may be, if `larger`: they retire. The others close up.
+fn drop_above(near: &mut [Letter], larger: bool, effect: Effect)
+    requires { ⌜ Ready rowCells (now near) ⌝ }
+    ensures { λ _. ⌜ Drops (value effect) (now (near .entry)) (now (near .exit)) ⌝ }
+{
+    if !larger {
+        return;
+    }
+    let count = near[COUNT] as usize;
+    let mut i: usize = 0;
+    let mut k: usize = 0;
+    // Of the first `i` rows `k` are kept, and stand in front; from place `i` on all is as it was.
+    while i < count {
+        k = keep_row(near, i, k, effect);
+        i += 1;
+    }
+    near[COUNT] = k as u64;
+}
+
+// Puts the row `row` behind the others: it is the last live row of the nonterminal now.
+fn put_last(near: &mut [Letter], row: usize)
+    requires { ⌜ (length (now near) ≡ nearWords) × (countOf (now near) < rowCells) × (row < rowCells) ⌝ }
+    ensures { λ _. ⌜ now (near .exit) ≡ withLast (now (near .entry)) row ⌝ }
+{
+    let count = near[COUNT] as usize;
+    put_number(near, count, row);
+    near[COUNT] = count as u64 + 1;
+    near[LINK] = row as u64;
+}
+
+// After `candidate` became a row, which `fate` says, it is noted, the larger rows are dropped, which `found` says may be, and it stands last.
 pub fn keep_near(
     near: &mut [Letter],
     state: State,
     candidate: Candidate,
     fate: Fate,
-    found: CoverCursor,
+    found: CoverAnswer,
 )
-    requires { ⌜ (length (now near) ≡ nearWords) × ((fate .covered || fate .full) ≡ false → countOf (now near) < rowCells) ⌝ }
-    ensures { λ _. ⌜ now (near .exit) ≡ nearAfter (now (near .entry)) (state .counts .used) (candidateOf candidate .effect) (fate .covered || fate .full) (found .larger) ⌝ }
+    requires { ⌜ (length (now near) ≡ nearWords) × ((fate .covered || fate .full) ≡ false → Ready (state .counts .used) (now near) × (state .counts .used < rowCells)) ⌝ }
+    ensures { λ _. ⌜ Stays (now (near .entry)) (state .counts .used) (candidate .head) (candidateOf candidate .effect) (fate .covered || fate .full) (now (near .exit)) ⌝ }
 {
     if fate.covered | fate.full {
         return;
     }
-    if found.larger {
-        near[HEAD] = 0;
-        return;
-    }
     let counts = state.counts;
     let used = counts.used;
-    let count = near[COUNT] as usize;
-    search_rows::put_candidate(near, count + 1, candidate);
-    near[NUMBERS + count] = used as u64;
-    near[COUNT] = count as u64 + 1;
-    near[LINK] = used as u64;
+    note_row(near, used, candidate);
+    drop_above(near, found.larger, candidate.relation);
+    put_last(near, used);
 }

@@ -1,5 +1,5 @@
 // What becomes of a candidate, in steps on values: a hint remembers where looking for it ended, and it is counted.
-use search_cover::CoverCursor;
+use search_cover::CoverAnswer;
 use search_laws::Outcome;
 use search_laws::Stop;
 use search_laws::Unbroken;
@@ -13,7 +13,7 @@ ghost use Rattle.search_laws.specs.Steps.{MayRemember, Remembers, MayDecide};
 
 // Updates the hints: a covering row found through the links becomes the last-cover hint of its nonterminal and the hint of its relation; a
 // new row becomes the hint of its relation.
-pub fn remember_hint(table: &mut [u32], state: State, fate: Fate, found: CoverCursor)
+pub fn remember_hint(table: &mut [u32], state: State, fate: Fate, found: CoverAnswer)
     requires { ⌜ MayRemember state found (now table) ⌝ }
     ensures { λ r. ⌜ Remembers (now (table .entry)) (now (table .exit)) ⌝ }
 {

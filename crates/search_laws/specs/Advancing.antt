@@ -23,7 +23,7 @@ use Rattle.search_links.specs.CoverLaws.{covering-links, covering-without}
 use Rattle.search_links.specs.RowLaws.{rows-length}
 use Rattle.search_retire.specs.Clearing.{ClearingEnd as Ending}
 use Rattle.search_cover.specs.Seeking.{Finds}
-use Rattle.search_cover.specs.declared.CoverCursor.{CoverCursor}
+use Rattle.search_cover.specs.declared.CoverAnswer.{CoverAnswer}
 use Rattle.search_state.specs.Fates.{fullIn}
 use Rattle.search_state.specs.declared.Counts.{Counts}
 use Rattle.search_state.specs.declared.Fate.{Fate}
@@ -55,7 +55,7 @@ stop-ends : {E R : Type 0} (rowOf : R → Row E) (p : Stop) → EndsFrom rowOf (
 stop-ends rowOf (stop.Ended v w) = λ j K. refl
 stop-ends rowOf (stop.Broken i w) = λ j K. refl
 
-module _ {E R : Type 0} {P : Problem E R} {rules : RuleBytes} {start : State} {j₀ : List R} {s : State} {c : Candidate E} {f : Fate} {l : CoverCursor} {j : List R} {t : List ℕ} (x : Considered P rules start j₀ s c f l j t) where
+module _ {E R : Type 0} {P : Problem E R} {rules : RuleBytes} {start : State} {j₀ : List R} {s : State} {c : Candidate E} {f : Fate} {l : CoverAnswer} {j : List R} {t : List ℕ} (x : Considered P rules start j₀ s c f l j t) where
   abbrev Q : Problem E R
   Q = problemAt P rules start
 

@@ -21,7 +21,7 @@ use Rattle.search_state.specs.declared.State.{State}
 use Rattle.search_state.specs.declared.Terms.{Terms}
 use Rattle.search_links.specs.Rows.{rowsRead}
 use Rattle.search_cover.specs.Near.{isNear, Beside}
-use Rattle.search_cover.specs.declared.CoverCursor.{CoverCursor}
+use Rattle.search_cover.specs.declared.CoverAnswer.{CoverAnswer}
 use Rattle.search_laws.specs.Problems.{RuleBytes, Problem, algebraOf}
 use Rattle.search_laws.specs.Running as running
 use Rattle.search_laws.specs.declared.Reached.{Reached}
@@ -47,10 +47,7 @@ problemIn starts finals letters rules =
 
 -- ---- a candidate, whatever the letters and the rules
 
-abbrev pub MayFind : State → Journal → List ℕ → Type 0
-MayFind s j t = running.MayFind (problemIn (s .terms .starts) (s .terms .finals) [] []) s j t
-
-abbrev pub CoverFound : State → Candidate → Journal → List ℕ → CoverCursor → Type 0
+abbrev pub CoverFound : State → Candidate → Journal → List ℕ → CoverAnswer → Type 0
 CoverFound s c j t l = running.CoverFound (problemIn (s .terms .starts) (s .terms .finals) [] []) s (candidateOf c) j t l
 
 -- the effects that stand beside each other in the words w are those of live rows among the used ones
@@ -58,7 +55,7 @@ abbrev pub NearIn : State → Journal → List ℕ → Type 0
 NearIn s j w = Beside (rowsRead rowOf (s .counts .used) j) w
 
 -- and after looking for a cover in vain those of the candidate's nonterminal
-pub record Looked (s : State) (c : Candidate) (j : Journal) (t w : List ℕ) (l : CoverCursor) : Type 0 where
+pub record Looked (s : State) (c : Candidate) (j : Journal) (t w : List ℕ) (l : CoverAnswer) : Type 0 where
   pub found : CoverFound s c j t l
   pub beside : NearIn s j w
   pub near : l .covers ≡ false → isNear w (c .head) ≡ true
@@ -66,10 +63,10 @@ pub record Looked (s : State) (c : Candidate) (j : Journal) (t w : List ℕ) (l 
 abbrev pub fateFor : State → Candidate → Bool → Fate
 fateFor s c covered = running.fateFor (problemIn (s .terms .starts) (s .terms .finals) [] []) s (candidateOf c) covered
 
-abbrev pub MayInsert : State → Candidate → Fate → CoverCursor → Journal → List ℕ → Type 0
+abbrev pub MayInsert : State → Candidate → Fate → CoverAnswer → Journal → List ℕ → Type 0
 MayInsert s c f l j t = running.MayInsert (problemIn (s .terms .starts) (s .terms .finals) [] []) s (candidateOf c) f l j t
 
-abbrev pub CandidateInserted : State → Candidate → CoverCursor → Journal → List ℕ → Journal → List ℕ → Type 0
+abbrev pub CandidateInserted : State → Candidate → CoverAnswer → Journal → List ℕ → Journal → List ℕ → Type 0
 CandidateInserted s c l j t j′ t′ = running.CandidateInserted (problemIn (s .terms .starts) (s .terms .finals) [] []) s (candidateOf c) l j t j′ t′
 
 -- ---- the loop
@@ -83,7 +80,7 @@ pub record Running (letters : Letters) (rules : RuleBytes) (start : State) (j₀
 abbrev pub Ran : Letters → RuleBytes → State → Journal → Journal → List ℕ → State → Type 0
 Ran letters rules start j₀ j t r = T (not (r .going)) × Running letters rules start j₀ r j t
 
-abbrev pub Considered : Letters → RuleBytes → State → Journal → State → Candidate → Fate → CoverCursor → Journal → List ℕ → Type 0
+abbrev pub Considered : Letters → RuleBytes → State → Journal → State → Candidate → Fate → CoverAnswer → Journal → List ℕ → Type 0
 Considered letters rules start j₀ s c f l j t = running.Considered (problemIn (start .terms .starts) (start .terms .finals) letters rules) rules start j₀ s (candidateOf c) f l j t
 
 -- ---- the steps between candidates
@@ -104,5 +101,5 @@ GoesFrom rules t s x t′ r = ForAll (λ P. running.GoesFrom P rules t s x t′ 
 abbrev pub GoesOn : RuleBytes → List ℕ → State → Counts → List ℕ → State → Type 0
 GoesOn rules t s w t′ r = ForAll (λ P. running.GoesOn P rules t s w t′ r)
 
-abbrev pub Advances : RuleBytes → List ℕ → State → Fate → CoverCursor → List ℕ → State → Type 0
+abbrev pub Advances : RuleBytes → List ℕ → State → Fate → CoverAnswer → List ℕ → State → Type 0
 Advances rules t s f l t′ r = ForAll (λ P. running.Advances P rules t s f l t′ r)

@@ -258,11 +258,18 @@ module _ {E R : Type 0} {b : Terms} {P : Problem E R} {first : Counts} {j₁ : L
             covering = subst (λ (o : Outcome). Covering (firstRows P (countsIn o .used) j′) t′) z v;
           }
 
+  -- a candidate that a live row covers is one join, and nothing else
+  pub pass-covered : Laws (algebraOf P) → p .rule < length (P .rules) → w .joins < b .budget → dropped (P .below) (candidateIn P used p) used ≡ true → {q : Place} → NextPlace (listsIn t) (P .rules) p q
+      → InPass b P first j₁ t (withJoin w) j q
+  pass-covered L h paid e {q} f =
+      let c : Candidate E = candidateIn P used p in
+      let room : w .used ≤ length j = omega (arith, g .left .room, g .left .same) in
+      pass-going h {c = c} refl refl (answers-dropped P b c w j room (g .left .paid) (λ y. omega (arith, y, paid)) e) L refl refl (g .covering) f
+
   -- a candidate that the pass before formed is one join, and nothing else
   pub pass-over : Laws (algebraOf P) → p .rule < length (P .rules) → w .joins < b .budget → repeatsAt (b .old) p ≡ true → {q : Place} → NextPlace (listsIn t) (P .rules) p q
       → InPass b P first j₁ t (withJoin w) j q
   pass-over L h paid e {q} f =
       let c : Candidate E = candidateIn P used p in
-      let room : w .used ≤ length j = omega (arith, g .left .room, g .left .same) in
       let z = formed-repeats (P .composing) (unread P) (b .old) used (P .rules) p e in
-      pass-going h {c = c} refl refl (answers-dropped P b c w j room (g .left .paid) (λ y. omega (arith, y, paid)) (there h {c = c} refl (z .0) (z .1))) L refl refl (g .covering) f
+      pass-covered L h paid (there h {c = c} refl (z .0) (z .1)) f

@@ -70,7 +70,7 @@ module _ {E R : Type 0} {P : Problem E R} {rules : RuleBytes} {start : State} {j
   row-there p i e =
       among-row (P .rowOf) (P .blank) (s .counts .used) j used-fits p (getD j i (P .blank)) (λ h. ap (λ (n : ℕ). getD j n (P .blank)) (e ∙ position-row p (s .counts .used) h))
 
-  rule-there : entryAt rules (s .place .rule) ≡ entryAt (works-on .rules) (s .place .rule)
+  pub rule-there : entryAt rules (s .place .rule) ≡ entryAt (works-on .rules) (s .place .rule)
   rule-there = ap entryOf (sym (getD-take (start .rules) rules (s .place .rule) [] (omega (arith, goes-on .here, length-take (start .rules) rules))))
 
   pub formed-there : formedFrom (P .composing) (P .rowOf) (P .blank) (entryAt rules (s .place .rule)) s (getD j (s .«left_row») (P .blank)) (getD j (s .«right_row») (P .blank)) ≡ candidateIn works-on (firstRows P (s .counts .used) j) (s .place)

@@ -13,7 +13,7 @@ use Rattle.search_state.specs.Layout.{rowCells, listsIn}
 use Rattle.search_order.specs.Places as places
 use Rattle.search_links.specs.Covers.{Covering}
 use Rattle.search_cover.specs.Seeking.{Leads, Finds, Found}
-use Rattle.search_cover.specs.declared.CoverCursor.{CoverCursor}
+use Rattle.search_cover.specs.declared.CoverAnswer.{CoverAnswer}
 use Rattle.search_retire.specs.Clearing.{Inserted}
 use Rattle.search_state.specs.Fates.{fateIn}
 use Rattle.search_state.specs.Positions.{positionRow}
@@ -87,13 +87,13 @@ module _ {E R : Type 0} (P : Problem E R) where
   abbrev pub MayFind : State → List R → List ℕ → Type 0
   MayFind s j t = (s .counts .used ≤ length j) × (0 < length j) × Leads (firstRows P (s .counts .used) j) (s .counts .used) t
 
-  -- looking for a cover of the candidate c has ended at the cursor l
-  abbrev pub CoverFound : State → Candidate E → List R → List ℕ → CoverCursor → Type 0
+  -- looking for a cover of the candidate c gave l
+  abbrev pub CoverFound : State → Candidate E → List R → List ℕ → CoverAnswer → Type 0
   CoverFound s c j t l = Found (P .below) c (firstRows P (s .counts .used) j) (s .counts .used) t l
 
   -- the candidate c has become a row, unless a row covers it or the journal is full: j and t were the journal and the table before, j′ and t′
   -- are those after
-  abbrev pub CandidateInserted : State → Candidate E → CoverCursor → List R → List ℕ → List R → List ℕ → Type 0
+  abbrev pub CandidateInserted : State → Candidate E → CoverAnswer → List R → List ℕ → List R → List ℕ → Type 0
   CandidateInserted s c l j t j′ t′ = Inserted (P .below) (P .rowOf) (P .blank) (s .terms .pass) c (s .counts .used) l j t j′ t′
 
   -- what becomes of the candidate c, where a row covers it or not
@@ -101,7 +101,7 @@ module _ {E R : Type 0} (P : Problem E R) where
   fateFor s c covered = fateIn s (c .head) covered (P .breaks (c .head) (c .effect))
 
   -- what inserting the candidate c asks
-  pub record MayInsert (s : State) (c : Candidate E) (f : Fate) (l : CoverCursor) (j : List R) (t : List ℕ) : Type 0 where
+  pub record MayInsert (s : State) (c : Candidate E) (f : Fate) (l : CoverAnswer) (j : List R) (t : List ℕ) : Type 0 where
     pub fate : f ≡ fateFor s c (l .covers)
     pub pass : 0 < s .terms .pass
     pub rows : s .rows ≡ length j
@@ -130,7 +130,7 @@ module _ {E R : Type 0} (P : Problem E R) (rules : RuleBytes) where
     pub stands : T (start .going) → SearchAt (problemAt start) (start .terms .budget) j₀ s j t
 
   -- the candidate c of the place has been looked for, and inserted where no row covers it and there is room
-  pub record Considered (start : State) (j₀ : List R) (s : State) (c : Candidate E) (f : Fate) (l : CoverCursor) (j : List R) (t : List ℕ) : Type 0 where
+  pub record Considered (start : State) (j₀ : List R) (s : State) (c : Candidate E) (f : Fate) (l : CoverAnswer) (j : List R) (t : List ℕ) : Type 0 where
     pub before : List R
     pub table : List ℕ
     pub running : Running start j₀ s before table
@@ -181,7 +181,7 @@ module _ {E R : Type 0} (P : Problem E R) where
   GoesOn rules t s w t′ r = GoesOnOver (take (s .rules) rules) t s w t′ r
 
   -- after a candidate c that was considered: the invariant of the loop holds of r, its measure has fallen, and no row was used but for c
-  abbrev pub Advances : RuleBytes → List ℕ → State → Fate → CoverCursor → List ℕ → State → Type 0
+  abbrev pub Advances : RuleBytes → List ℕ → State → Fate → CoverAnswer → List ℕ → State → Type 0
   Advances rules t s f l t′ r =
       (start : State) (j₀ j : List R) (c : Candidate E) → Considered P rules start j₀ s c f l j t
       → Running P rules start j₀ r j t′ × (candidatesLeft r < candidatesLeft s) × (T (r .going) → r .counts .used ≡ countsIn (decidedIn s f) .used)

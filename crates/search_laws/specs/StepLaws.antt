@@ -67,10 +67,10 @@ module _ {step : Reached → Reached → Type 0} where
   pub moves-keep : (I : Reached → Type 0) → ((y r : Reached) → step y r → I y → I r) → {x r : Reached} → Moves step x r → I x → I r
   moves-keep I f (k, s) i = steps-keep I f k s i
 
-  moves-none : (x : Reached) → Moves step x x
+  pub moves-none : (x : Reached) → Moves step x x
   moves-none x = (0, refl)
 
-  moves-next : {x y r : Reached} → Moves step x y → step y r → Moves step x r
+  pub moves-next : {x y r : Reached} → Moves step x y → step y r → Moves step x r
   moves-next {x} {y} (k, s) e = (suc k, (y, s, e))
 
   moves-more : {x y z : Reached} → Moves step x y → Moves step y z → Moves step x z

@@ -21,7 +21,7 @@ use Rattle.search_order.specs.Places.{NextPlace}
 use Rattle.search_order.specs.PlacesLeft.{placesLeft, PassFrom}
 use Rattle.search_spans.specs.Spans.{Measured, Measures}
 use Rattle.search_links.specs.Covers.{Covering}
-use Rattle.search_cover.specs.declared.CoverCursor.{CoverCursor}
+use Rattle.search_cover.specs.declared.CoverAnswer.{CoverAnswer}
 use Rattle.search_laws.specs.Meanings.{countsIn, withJoin, decidedIn}
 use Rattle.search_laws.specs.Problems.{RuleBytes}
 use Rattle.search_laws.specs.declared.Reached.{Reached}
@@ -35,7 +35,7 @@ pub record Remembers (old new : List ℕ) : Type 0 where
   pub lists : listsIn new ≡ listsIn old
 
 -- a slot of the hints is there, and what is stored in it is a row
-pub record MayRemember (s : State) (l : CoverCursor) (t : List ℕ) : Type 0 where
+pub record MayRemember (s : State) (l : CoverAnswer) (t : List ℕ) : Type 0 where
   pub used : s .counts .used ≤ rowCells
   pub table : length t ≡ tableCells
   pub above : headCell heads ≤ l .slot
@@ -138,7 +138,7 @@ pub record MayGoOn (rules : RuleBytes) (s : State) (w : Counts) (t : List ℕ) :
   pub pass : s .terms .pass ≤ 65535
 
 -- what follows a candidate may be done: hints are stored, the candidate is counted, the pass goes on from the place of s, or the next one begins
-pub record MayAdvance (rules : RuleBytes) (s : State) (f : Fate) (l : CoverCursor) (t : List ℕ) : Type 0 where
+pub record MayAdvance (rules : RuleBytes) (s : State) (f : Fate) (l : CoverAnswer) (t : List ℕ) : Type 0 where
   pub full : f .full ≡ fullIn s
   pub remember : MayRemember s l t
   pub decide : MayDecide s

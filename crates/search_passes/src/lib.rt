@@ -1,5 +1,5 @@
 // The passes of the search, in steps on values: the place after a candidate, the pass after this one, and the end.
-use search_cover::CoverCursor;
+use search_cover::CoverAnswer;
 use search_laws::Outcome;
 use search_laws::Reached;
 use search_state::Counts;
@@ -126,7 +126,7 @@ pub fn advance(
     table: &mut [u32],
     state: State,
     fate: Fate,
-    found: CoverCursor,
+    found: CoverAnswer,
 ) -> State
     requires { ⌜ MayAdvance (now rules) state fate found (now table) ⌝ }
     ensures { λ r. ⌜ Advances (now (rules .entry)) (now (table .entry)) state fate found (now (table .exit)) r ⌝ }

@@ -27,13 +27,13 @@ use Rattle.search_cover.specs.Seeking.{Finds}
 use Rattle.search_retire.specs.Clearing.{Idle, Fresh, Cleared, Added, Clears, ClearingEnd, ClearingAt, InClearing, Inserted, clearsLeft, MayClear}
 use Rattle.search_retire.specs.Steps.{retireBy, retireFrom, idleAt, begun, endedAt, stepped, linksAfter}
 use Rattle.search_retire.specs.declared.RetireCursor.{RetireCursor}
-use Rattle.search_cover.specs.declared.CoverCursor.{CoverCursor}
+use Rattle.search_cover.specs.declared.CoverAnswer.{CoverAnswer}
 
 -- lists stand behind all other cells
 lists-kept : (t : List ℕ) (cell v : ℕ) → cell < listsFrom → listsIn (set t cell v) ≡ listsIn t
 lists-kept t cell v h = drop-set-lt listsFrom t cell v h
 
-module _ {E R : Type 0} (below : E → E → Bool) (rowOf : R → Row E) (blank : R) (k : ℕ) (c : Candidate E) (u : ℕ) (l : CoverCursor) (j₀ : List R) where
+module _ {E R : Type 0} (below : E → E → Bool) (rowOf : R → Row E) (blank : R) (k : ℕ) (c : Candidate E) (u : ℕ) (l : CoverAnswer) (j₀ : List R) where
   pub idle-of : (l .covers || eqb u (length j₀)) ≡ true → Idle below rowOf blank k c u l j₀
   idle-of e = by (l .covers) refl e
     where
@@ -48,7 +48,7 @@ module _ {E R : Type 0} (below : E → E → Bool) (rowOf : R → Row E) (blank 
       by true x y = absurd (false≢true (sym y))
       by false x y = record { none = x; room = lt-of-le-ne r (eqb-false u (length j₀) y); limit = m; pass = p }
 
-module _ {E R : Type 0} {below : E → E → Bool} {rowOf : R → Row E} {blank : R} {k : ℕ} {c : Candidate E} {u : ℕ} {l : CoverCursor} {j₀ : List R} (hh : c .head < heads) where
+module _ {E R : Type 0} {below : E → E → Bool} {rowOf : R → Row E} {blank : R} {k : ℕ} {c : Candidate E} {u : ℕ} {l : CoverAnswer} {j₀ : List R} (hh : c .head < heads) where
   -- ---- the linked row v, or past the last one the new row
 
   module _ (f : Fresh below rowOf blank k c u l j₀) where
@@ -216,7 +216,7 @@ many-left cl w e {n} h = by (cl .active) w
     by true z = rw e h
     by false z = absurd z
 
-pub clearing-done : {E R : Type 0} {below : E → E → Bool} {rowOf : R → Row E} {blank : R} {k : ℕ} {c : Candidate E} {u : ℕ} {l : CoverCursor} {j₀ : List R} {t₀ : List ℕ} {cl : RetireCursor} {j : List R} {t : List ℕ} → InClearing below rowOf blank k c u l j₀ t₀ cl j t → T (not (cl .active)) → Inserted below rowOf blank k c u l j₀ t₀ j t
+pub clearing-done : {E R : Type 0} {below : E → E → Bool} {rowOf : R → Row E} {blank : R} {k : ℕ} {c : Candidate E} {u : ℕ} {l : CoverAnswer} {j₀ : List R} {t₀ : List ℕ} {cl : RetireCursor} {j : List R} {t : List ℕ} → InClearing below rowOf blank k c u l j₀ t₀ cl j t → T (not (cl .active)) → Inserted below rowOf blank k c u l j₀ t₀ j t
 clearing-done {E} {R} {below} {rowOf} {blank} {k} {c} {u} {l} {j₀} {t₀} {cl} {j} {t} i w = record { size = i .size; lists = i .lists; outcome = by (cl .active) w (i .stands) }
   where
     by : (b : Bool) → T (not b) → ClearingAt below rowOf blank k c u l j₀ t₀ b cl j t → ClearingEnd below rowOf blank k c u l j₀ t₀ j t
@@ -225,7 +225,7 @@ clearing-done {E} {R} {below} {rowOf} {blank} {k} {c} {u} {l} {j₀} {t₀} {cl}
 
 -- ---- the steps, which are equations on values
 
-module _ {E R : Type 0} {below : E → E → Bool} {rowOf : R → Row E} {blank : R} {k : ℕ} {c : Candidate E} {u : ℕ} {l : CoverCursor} {j₀ : List R} (hh : c .head < heads) where
+module _ {E R : Type 0} {below : E → E → Bool} {rowOf : R → Row E} {blank : R} {k : ℕ} {c : Candidate E} {u : ℕ} {l : CoverAnswer} {j₀ : List R} (hh : c .head < heads) where
   -- the beginning, where the fate says of the candidate what looking for a cover and the journal's length say
   pub clears-begun : {t : List ℕ} (f : Fate) → f .head ≡ c .head → f .covered ≡ l .covers → f .full ≡ eqb u (length j₀) → 0 < k → u ≤ length j₀ → length j₀ ≤ rowCells
       → Covering (rowsRead rowOf u j₀) t → Finds below c (rowsRead rowOf u j₀) u t l → InClearing below rowOf blank k c u l j₀ t (begun t u f l) j₀ t

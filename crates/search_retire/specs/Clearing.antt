@@ -13,11 +13,11 @@ use Rattle.search_state.specs.Layout.{rowCells, listsFrom, tableCells, listsIn}
 use Rattle.search_links.specs.Covers.{Covering, LastCell, Retiring}
 use Rattle.search_links.specs.Rows.{rowsRead, Stored}
 use Rattle.search_retire.specs.declared.RetireCursor.{RetireCursor}
-use Rattle.search_cover.specs.declared.CoverCursor.{CoverCursor}
+use Rattle.search_cover.specs.declared.CoverAnswer.{CoverAnswer}
 
 -- in pass k, for the candidate c, over the journal j₀ with u rows used, where looking for a cover ended in l; cl is the cursor. `rowOf` reads the
 -- rows of the journal, and `blank` stands past its end
-module _ {E R : Type 0} (below : E → E → Bool) (rowOf : R → Row E) (blank : R) (k : ℕ) (c : Candidate E) (u : ℕ) (l : CoverCursor) (j₀ : List R) where
+module _ {E R : Type 0} (below : E → E → Bool) (rowOf : R → Row E) (blank : R) (k : ℕ) (c : Candidate E) (u : ℕ) (l : CoverAnswer) (j₀ : List R) where
   -- a row covers, or there is no room
   abbrev pub Idle : Type 0
   Idle = (l .covers ≡ true) ⊎ (u ≡ length j₀)

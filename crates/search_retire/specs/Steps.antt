@@ -7,7 +7,7 @@ use lib.Dec.{ltb}
 use lib.ListN.{getD, set}
 use Rattle.search_state.specs.declared.Fate.{Fate}
 use Rattle.search_state.specs.Layout.{rowCells, headCell, end}
-use Rattle.search_cover.specs.declared.CoverCursor.{CoverCursor}
+use Rattle.search_cover.specs.declared.CoverAnswer.{CoverAnswer}
 use Rattle.search_retire.specs.declared.RetireCursor.{RetireCursor}
 
 abbrev pub retireBy : Bool → ℕ → ℕ → ℕ → RetireCursor
@@ -23,7 +23,7 @@ abbrev pub idleAt : ℕ → RetireCursor
 idleAt u = record { active = false; new = false; row = u; cell = rowCells }
 
 -- the beginning, where looking for a cover ended in l
-abbrev pub begun : List ℕ → ℕ → Fate → CoverCursor → RetireCursor
+abbrev pub begun : List ℕ → ℕ → Fate → CoverAnswer → RetireCursor
 begun t u f l =
     cond (f .covered || f .full) (idleAt u)
     (cond (l .larger) (retireFrom u (getD t (headCell (f .head)) 0) (headCell (f .head))) (retireFrom u end (l .cell)))

@@ -1,7 +1,7 @@
 // A candidate that no row covers becomes a row, and the larger rows retire: a cursor over the live rows of its nonterminal and then the new
 // row, moved in steps that know neither a row nor a candidate. A step is given what comparing the row at the cursor with the candidate gave,
 // keeps the links, and returns the cursor at the row to compare next.
-use search_cover::CoverCursor;
+use search_cover::CoverAnswer;
 use search_state::Comparison;
 use search_state::END;
 use search_state::FIRSTS;
@@ -42,9 +42,9 @@ fn at_link(used: usize, row: usize, cell: usize) -> RetireCursor
     }
 }
 
-// The beginning. Nothing is to be done where a row covers or the journal is full, which `fate` says. Where `found`, the cursor that looked for
-// a cover, has seen no larger row, none retires and only the new row is left.
-pub fn begin(table: &[u32], state: State, fate: Fate, found: CoverCursor) -> RetireCursor
+// The beginning. Nothing is to be done where a row covers or the journal is full, which `fate` says. Where `found`, which looking for a cover
+// gave, says that no row is larger, none retires and only the new row is left.
+pub fn begin(table: &[u32], state: State, fate: Fate, found: CoverAnswer) -> RetireCursor
     requires { ⌜ length (now table) ≡ tableCells ⌝ }
     ensures { λ r. ⌜ r ≡ begun (now (table .entry)) (state .counts .used) fate found ⌝ }
 {

@@ -1,3 +1,4 @@
 pub mod Base
 pub mod Meanings
 pub mod Forming
+pub mod FormLaws

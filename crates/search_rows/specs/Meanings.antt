@@ -1,4 +1,5 @@
 -- What the code's candidates, choices and letter tables stand for in the working order. Definitions only. Assumes nothing.
+use mathlib.Core.Path.{_≡_}
 use mathlib.Core.List.{List}
 use Prim.Native.Nat.{ℕ}
 use Rattle.relation.specs.Relation.{states, identity, compose}
@@ -16,5 +17,6 @@ composingOf letters = record { ofEmpty = identity states; ofTerminal = λ c. val
 abbrev pub candidateOf : Candidate → order.Candidate
 candidateOf c = record { head = c .head; rule = c .rule; effect = value (c .relation); left = c .left; right = c .right; len = c .len }
 
-abbrev pub choiceOf : Choice → order.Choice
-choiceOf c = record { effect = value (c .relation); pointer = c .pointer; len = c .len }
+-- c has the pointer and the length of x
+abbrev pub takenAs : order.Choice → Choice → Type 0
+takenAs c x = (x .pointer ≡ c .pointer) × (x .len ≡ c .len)

@@ -1,5 +1,5 @@
 // One row of the journal, one way to take a symbol, and one candidate of the working order, each by value. All that is done with an effect in
-// a search stands here: forming, comparing, retiring, opening, breaking, the digest. A rule is four bytes: its head, its body's size and its
+// a search stands here: comparing, retiring, opening, breaking. A rule is four bytes: its head, its body's size and its
 // symbols.
 use relation::Effect;
 use relation::Letter;
@@ -12,24 +12,24 @@ use spec_calls::ABSENT;
 use spec_calls::Row;
 use spec_file::TERMINALS;
 ghost use mathlib.Core.Path.{_≡_};
+ghost use mathlib.Core.List.{[]};
 ghost use Prim.Native.Nat.{_+_, _*_, _≤_, _<_};
 ghost use lib.ListN.{length};
 ghost use Rattle.relation.specs.Relation.{contained};
 ghost use Rattle.relation.specs.Representation.{relationWords, value};
-ghost use Rattle.relation.specs.Stored.{relationIn, withRelation};
-ghost use Rattle.spec_file.specs.Limits.{letterWords};
+ghost use Rattle.relation.specs.Stored.{withRelation};
 ghost use Rattle.spec_file.specs.Views.{symbolOf};
 ghost use Rattle.spec_order.specs.Candidates.{sole};
 ghost use Rattle.spec_order.specs.Order.{larger, born};
 ghost use Rattle.spec_file.specs.Entries.{entryOf};
 ghost use Rattle.spec_calls.specs.Rows.{rowOf};
 ghost use Rattle.search_rows.specs.Base.{emptyBody, joined, breaking};
-ghost use Rattle.search_rows.specs.Meanings.{composingOf, candidateOf, choiceOf};
+ghost use Rattle.search_rows.specs.Base as order;
+ghost use Rattle.search_rows.specs.Meanings.{composingOf, candidateOf, takenAs};
 ghost use Rattle.search_state.specs.Comparing.{isBelow, retiredIn, replacedBy};
 ghost use Rattle.search_state.specs.Fates.{fateIn};
 ghost use Rattle.search_state.specs.Forming.{symbolChoice, formedBy};
-ghost use Rattle.search_state.specs.Layout.{slotCells};
-ghost use Rattle.search_rows.specs.Forming.{amongFirst, formedIn};
+ghost use Rattle.search_rows.specs.Forming.{amongFirst, withEffect, formedWith};
 
 // What would become a row.
 pub struct Candidate {
@@ -47,9 +47,8 @@ struct Origin {
     rule: u64,
 }
 
-// One way to take a symbol.
+// One way to take a symbol, but for its effect.
 struct Choice {
-    relation: Effect,
     pointer: u64,
     len: u64,
 }
@@ -148,47 +147,6 @@ pub fn fate(state: State, candidate: Candidate, covered: bool) -> Fate
     )
 }
 
-// Returns where the hints have a row for the nonterminal and the relation of `candidate`, unless `compared` says that a row covers it: then
-// no such hint is read, and the remainder that the digest takes is saved.
-pub fn slot_unless(compared: Comparison, candidate: Candidate) -> usize
-    ensures { λ r. ⌜ r < slotCells ⌝ }
-{
-    if compared.covers {
-        return 0;
-    }
-    let formed = candidate.relation;
-    formed.digest() + 16 * candidate.head as usize
-}
-
-// ---- effects in a table of words, beside each other
-
-// Returns whether the effect at place `i` of `words` is contained in that of `candidate`, or equal.
-pub fn is_below(words: &[Letter], i: usize, candidate: Candidate) -> bool
-    requires { ⌜ (i + 1) * relationWords ≤ length (now words) ⌝ }
-    ensures { λ r. ⌜ r ≡ contained (value (relationIn (now (words .entry)) i)) (candidateOf candidate .effect) ⌝ }
-{
-    let held = Effect::read(words, i);
-    held.contained_if_first(candidate.relation)
-}
-
-// Returns whether the effect at place `i` of `words` contains that of `candidate`, or is equal.
-pub fn is_above(words: &[Letter], i: usize, candidate: Candidate) -> bool
-    requires { ⌜ (i + 1) * relationWords ≤ length (now words) ⌝ }
-    ensures { λ r. ⌜ r ≡ contained (candidateOf candidate .effect) (value (relationIn (now (words .entry)) i)) ⌝ }
-{
-    let formed = candidate.relation;
-    formed.contained_if_first(Effect::read(words, i))
-}
-
-// Stores the effect of `row` at place `i` of `words`.
-pub fn put_row(words: &mut [Letter], i: usize, row: Row)
-    requires { ⌜ (i + 1) * relationWords ≤ length (now words) ⌝ }
-    ensures { λ _. ⌜ now (words .exit) ≡ withRelation (now (words .entry)) i (rowOf row .effect) ⌝ }
-{
-    let held = row.relation;
-    held.store(words, i);
-}
-
 // Stores the effect of `candidate` at place `i` of `words`.
 pub fn put_candidate(words: &mut [Letter], i: usize, candidate: Candidate)
     requires { ⌜ (i + 1) * relationWords ≤ length (now words) ⌝ }
@@ -200,72 +158,64 @@ pub fn put_candidate(words: &mut [Letter], i: usize, candidate: Candidate)
 
 // ---- forming a candidate
 
-// Returns how `symbol` is taken: a terminal by its relation in `letters`, a nonterminal by row `i`, which is `row`.
-fn choice_of(letters: &[Letter], symbol: u8, i: usize, row: Row) -> Choice
-    requires { ⌜ letterWords ≤ length (now letters) ⌝ }
-    ensures { λ r. ⌜ choiceOf r ≡ symbolChoice (composingOf (now (letters .entry))) (symbolOf symbol) i (rowOf row) ⌝ }
+// Returns how `symbol` is taken: a terminal by itself, a nonterminal by row `i`, which is `row`.
+fn choice_of(symbol: u8, i: usize, row: Row) -> Choice
+    ensures { λ r. ⌜ takenAs (symbolChoice (composingOf []) (symbolOf symbol) i (rowOf row)) r ⌝ }
 {
     if symbol < TERMINALS {
         return Choice {
-            relation: Effect::read(letters, symbol as usize),
             pointer: ABSENT,
             len: 1,
         };
     }
-    let relation = row.relation;
     Choice {
-        relation,
         pointer: i as u64,
         len: row.len,
     }
 }
 
-fn empty_body(origin: Origin) -> Candidate
-    ensures { λ r. ⌜ candidateOf r ≡ emptyBody (origin .head) (origin .rule) ⌝ }
+fn empty_body(origin: Origin, effect: Effect) -> Candidate
+    ensures { λ r. ⌜ candidateOf r ≡ withEffect (value effect) (emptyBody (origin .head) (origin .rule)) ⌝ }
 {
     Candidate {
         head: origin.head,
         rule: origin.rule,
-        relation: Effect::identity(),
+        relation: effect,
         left: ABSENT,
         right: ABSENT,
         len: 0,
     }
 }
 
-fn one_symbol(origin: Origin, first: Choice) -> Candidate
-    ensures { λ r. ⌜ candidateOf r ≡ sole (origin .head) (origin .rule) (choiceOf first) ⌝ }
+fn one_symbol(origin: Origin, effect: Effect, first: Choice) -> Candidate
+    ensures { λ r. ⌜ ((c : order.Choice) → takenAs c first → candidateOf r ≡ withEffect (value effect) (sole (origin .head) (origin .rule) c)) ⌝ }
 {
-    let relation = first.relation;
     Candidate {
         head: origin.head,
         rule: origin.rule,
-        relation,
+        relation: effect,
         left: first.pointer,
         right: ABSENT,
         len: first.len,
     }
 }
 
-fn two_symbols(origin: Origin, first: Choice, second: Choice) -> Candidate
-    ensures { λ r. ⌜ candidateOf r ≡ joined (origin .head) (origin .rule) (choiceOf first) (choiceOf second) ⌝ }
+fn two_symbols(origin: Origin, effect: Effect, first: Choice, second: Choice) -> Candidate
+    ensures { λ r. ⌜ ((c d : order.Choice) → takenAs c first → takenAs d second → candidateOf r ≡ withEffect (value effect) (joined (origin .head) (origin .rule) c d)) ⌝ }
 {
-    let left = first.relation;
-    let right = second.relation;
     Candidate {
         head: origin.head,
         rule: origin.rule,
-        relation: left.compose(right),
+        relation: effect,
         left: first.pointer,
         right: second.pointer,
         len: spec_calls::capped_sum(first.len, second.len),
     }
 }
 
-// Returns the candidate of `place`, whose rule is `rule` and whose rows are `left` and `right`.
-fn form_from(letters: &[Letter], rule: [u8; 4], place: Place, left: Row, right: Row) -> Candidate
-    requires { ⌜ letterWords ≤ length (now letters) ⌝ }
-    ensures { λ r. ⌜ candidateOf r ≡ formedBy (composingOf (now (letters .entry))) (entryOf rule) place (rowOf left) (rowOf right) ⌝ }
+// Returns the candidate of `place` with this `effect`, whose rule is `rule` and whose rows are `left` and `right`.
+fn form_from(rule: [u8; 4], effect: Effect, place: Place, left: Row, right: Row) -> Candidate
+    ensures { λ r. ⌜ candidateOf r ≡ withEffect (value effect) (formedBy (composingOf []) (entryOf rule) place (rowOf left) (rowOf right)) ⌝ }
 {
     let origin = Origin {
         head: rule[0],
@@ -273,14 +223,14 @@ fn form_from(letters: &[Letter], rule: [u8; 4], place: Place, left: Row, right: 
     };
     let size = rule[1];
     if size == 0 {
-        return empty_body(origin);
+        return empty_body(origin, effect);
     }
-    let first = choice_of(letters, rule[2], place.left, left);
+    let first = choice_of(rule[2], place.left, left);
     if size == 1 {
-        return one_symbol(origin, first);
+        return one_symbol(origin, effect, first);
     }
-    let second = choice_of(letters, rule[3], place.right, right);
-    two_symbols(origin, first, second)
+    let second = choice_of(rule[3], place.right, right);
+    two_symbols(origin, effect, first, second)
 }
 
 // Returns `row`, which was read for `position`, or a row of zeros where `position` is none of the `used` rows.
@@ -293,10 +243,10 @@ fn among(row: Row, position: usize, used: usize) -> Row
     Row::blank()
 }
 
-// Forms the candidate of the place at which `state` stands, from the two rows that were read for it.
-pub fn form(letters: &[Letter], rules: &[[u8; 4]], state: State, left: Row, right: Row) -> Candidate
-    requires { ⌜ (letterWords ≤ length (now letters)) × (state .place .rule < length (now rules)) ⌝ }
-    ensures { λ r. ⌜ candidateOf r ≡ formedIn (now (letters .entry)) (now (rules .entry)) state left right ⌝ }
+// Forms the candidate of the place at which `state` stands, whose effect is `effect`, from the two rows that were read for it.
+pub fn form(rules: &[[u8; 4]], state: State, effect: Effect, left: Row, right: Row) -> Candidate
+    requires { ⌜ state .place .rule < length (now rules) ⌝ }
+    ensures { λ r. ⌜ candidateOf r ≡ formedWith (value effect) (now (rules .entry)) state left right ⌝ }
 {
     let counts = state.counts;
     let place = state.place;
@@ -304,5 +254,5 @@ pub fn form(letters: &[Letter], rules: &[[u8; 4]], state: State, left: Row, righ
     let rule = rules[r];
     let first = among(left, place.left, counts.used);
     let second = among(right, place.right, counts.used);
-    form_from(letters, rule, place, first, second)
+    form_from(rule, effect, place, first, second)
 }

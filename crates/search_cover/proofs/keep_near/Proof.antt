@@ -1,69 +1,63 @@
--- `search_cover::keep_near` meets its contract: no row is new, or others may have retired, or the new one comes last. Assumes nothing.
+-- `search_cover::keep_near` meets its contract: no row is new, or the new one is noted, larger ones are dropped, and it stands last. Assumes
+-- nothing.
+use mathlib.Core.Path.{_≡_, refl, sym, ap, _∙_, subst}
+use mathlib.Core.List.{List}
+use mathlib.Core.Bool.{true≢false}
+use Prim.Native.Nat.{ℕ}
 use native.Mathlib.Omega.{arith}
-use lib.ListN.{length-set}
 use borrow.Author.Needs.{needs}
-use Rattle.search_cover.specs.Steps.{withEffect, withLast}
+use Rattle.search_rows.specs.Meanings.{candidateOf}
+use Rattle.search_cover.specs.Near.{countOf}
+use Rattle.search_cover.specs.NearLaws.{row-other, row-ready}
+use Rattle.search_cover.specs.Steps.{withRow, withLast, Drops}
 use Rattle.search_cover.proofs.keep_near.Statement.{statement}
 use Rattle.search_cover.proofs.keep_near.Tie as tie
 
+-- the words after the row was noted, and after larger ones were dropped
+through : (w : List ℕ) (u x e : ℕ) (w₁ w₂ w′ : List ℕ) → w₁ ≡ withRow w u x e → Drops e w₁ w₂ → w′ ≡ withLast w₂ u → (v : List ℕ) × Drops e (withRow w u x e) v × (w′ ≡ withLast v u)
+through w u x e w₁ w₂ w′ n d p = (w₂, subst (λ (v : List ℕ). Drops e v w₂) n d, p)
+
 returns : tie.Need-returns
-returns c = rw (c .if1 .taken)
+returns c = record { idle = λ _. refl; new = λ e. absurd (true≢false (sym (c .if1 .taken) ∙ e)) }
+
+note-requires : tie.Need-note-row-requires
+note-requires c κs =
+    let i = c .before .before in
+    let st = i .before .before .before in
+    (st .pre .0, st .pre .1 (i .if1 .left) .1)
+
+drop-requires : tie.Need-drop-above-requires
+drop-requires c κs =
+    let n = c .before .before .before in
+    let i = n .before .before .before in
+    let st = i .before .before .before in
+    let room = st .pre .1 (i .if1 .left) in
+    rw (n .note-row .ensures) (row-ready (st .args .near .now) (st .args .state .counts .used) (st .args .candidate .head) (candidateOf (st .args .candidate) .effect) (st .pre .0) (room .1) (room .0))
+
+last-requires : tie.Need-put-last-requires
+last-requires c κs =
+    let d = c .before .before .before in
+    let n = d .before .before .before .before in
+    let i = n .before .before .before in
+    let st = i .before .before .before in
+    let room = st .pre .1 (i .if1 .left) in
+    let w = st .args .near .now in
+    let u = st .args .state .counts .used in
+    let x = st .args .candidate .head in
+    let e = candidateOf (st .args .candidate) .effect in
+    (d .drop-above .ensures .size, omega (arith, d .drop-above .ensures .keeps .few, ap (λ (v : List ℕ). countOf v) (n .note-row .ensures), row-other w u x e (st .pre .0) (room .1) 1 (omega arith), room .0 .few, room .1), room .1)
 
 returns-2 : tie.Need-returns-2
-returns-2 c = rw (c .before .if1 .left, c .if2 .taken)
-
-add-put-candidate : tie.Need-add-put-candidate
-add-put-candidate c =
-    let p = c .before .before .before .before in omega (arith, p .before .before .before .pre .1 (p .if1 .left))
-
-put-candidate-requires : tie.Need-put-candidate-requires
-put-candidate-requires c κs =
-    let p = c .before .before .before .before in omega (arith, p .before .before .before .pre .1 (p .if1 .left))
-
-add-near : tie.Need-add-near
-add-near c =
-    let p = c .before .before .before .before .before .before .before in omega (arith, p .before .before .before .pre .1 (p .if1 .left))
-
-mul-near : tie.Need-mul-near
-mul-near c =
-    let p = c .before .before .before .before .before .before .before in omega (arith, p .before .before .before .pre .1 (p .if1 .left))
-
-slice-write-near-2 : tie.Need-slice-write-near-2
-slice-write-near-2 c =
-    let p = c .before .before .before .before .before .before .before in omega (arith, p .before .before .before .pre .1 (p .if1 .left))
-
-add-near-2 : tie.Need-add-near-2
-add-near-2 c =
-    let p = c .before .before .before .before .before .before .before in omega (arith, p .before .before .before .pre .1 (p .if1 .left))
-
-slice-write-near-3 : tie.Need-slice-write-near-3
-slice-write-near-3 c = simp length-set (omega arith)
-
-slice-write-near-4 : tie.Need-slice-write-near-4
-slice-write-near-4 c = simp length-set (omega arith)
-
-returns-3 : tie.Need-returns-3
-unfolding withEffect withLast
-returns-3 c =
-    let p = c .before .before .before .before .before in
-    rw (p .before .before .if1 .left, p .before .if2 .left, c .before .before .put-candidate .ensures)
+returns-2 c =
+    let p = c .before .before in
+    let d = p .before .before .before .before in
+    let n = d .before .before .before .before in
+    let i = n .before .before .before in
+    let st = i .before .before .before in
+    record {
+      idle = λ z. absurd (true≢false (sym z ∙ i .if1 .left));
+      new = λ _. through (st .args .near .now) (st .args .state .counts .used) (st .args .candidate .head) (candidateOf (st .args .candidate) .effect) _ _ _ (n .note-row .ensures) (d .drop-above .ensures) (p .put-last .ensures);
+    }
 
 pub keep-near-spec : {M : Type 1} → statement M
-keep-near-spec =
-    tie.close
-    (tie.spec
-    returns
-    (λ c. search needs)
-    (λ c. search needs)
-    returns-2
-    (λ c. search needs)
-    add-put-candidate
-    put-candidate-requires
-    add-near
-    mul-near
-    slice-write-near-2
-    add-near-2
-    slice-write-near-3
-    slice-write-near-4
-    (λ c. search needs)
-    returns-3)
+keep-near-spec = tie.close (tie.spec returns note-requires drop-requires last-requires (λ c. search needs) returns-2)

@@ -41,7 +41,7 @@ use Rattle.search_rows.specs.declared.Candidate.{Candidate}
 use Rattle.search_state.specs.declared.State.{State}
 use Rattle.search_state.specs.declared.Comparison.{Comparison}
 use Rattle.search_state.specs.declared.Fate.{Fate}
-use Rattle.search_cover.specs.declared.CoverCursor.{CoverCursor}
+use Rattle.search_cover.specs.declared.CoverAnswer.{CoverAnswer}
 use Rattle.search_retire.specs.declared.RetireCursor.{RetireCursor}
 use Rattle.search_state.specs.Comparing.{replacedBy}
 use Rattle.search_rows.proofs.compare as compare
@@ -72,7 +72,7 @@ use Rattle.walk_kit.proofs.Elements.{points, elem-read, elem-store}
 use Rattle.walk_kit.proofs.PlainData.{Row as RowOf, val, Means, tells, makes, typed, value, values-owned, types-of, values-of, machine-of}
 use Rattle.walk_kit.proofs.Handing.{calls-handing, calls-handing-last}
 use Rattle.spec_calls.proofs.Types.{row}
-use Rattle.search_loops.proofs.Values.{cell, candidate, state, comparison, fate, cover-cursor, retire-cursor, head-fits, retire-row-fits}
+use Rattle.search_loops.proofs.Values.{cell, candidate, state, comparison, fate, cover-answer, retire-cursor, head-fits, retire-row-fits}
 use Rattle.search_loops.proofs.Callees.{Compared, to-compare, to-replacement, to-retire-begin, to-retire-step}
 use Rattle.search_loops.proofs.insert.Key.{name as #insert}
 use Rattle.search_loops.proofs.insert as f
@@ -81,7 +81,7 @@ use Rattle.search_loops.proofs.insert.Code as code
 use Rattle.search_loops.proofs.insert.Code.Mir as code-mir
 
 abbrev ps : List (Param 2)
-ps = lent 0 tt (plain (λ _. RowOf row)) ∷ lent 1 tt (plain (λ _. cell)) ∷ datum state (λ x f. refl) ∷ datum candidate (λ x f. refl) ∷ datum fate (λ x f. refl) ∷ datum cover-cursor (λ x f. refl) ∷ []
+ps = lent 0 tt (plain (λ _. RowOf row)) ∷ lent 1 tt (plain (λ _. cell)) ∷ datum state (λ x f. refl) ∷ datum candidate (λ x f. refl) ∷ datum fate (λ x f. refl) ∷ datum cover-answer (λ x f. refl) ∷ []
 
 abbrev callees : List Callee
 callees =
@@ -93,8 +93,8 @@ callees =
 abbrev it : Function
 it = record { lifetimes = 2; outlives = []; params = ps; result = f.signature .result; clauses = f.clauses; callees = callees; mir = code.function }
 
-module _ {M : Type 1} (𝓤 : URA M) (H : Heap 𝓤) (A : Atoms 𝓤) (W : Given 𝓤 H A) (mem′ : Memory → SProp 𝓤) (run : Routine → Fun 𝓤) (J P : Loan) (j₀ : Journal) (t₀ : List ℕ) (s : State) (c : Candidate) (w : Fate) (l : CoverCursor)
-    (j-room : Room (RowOf row) (length j₀)) (t-room : Room cell (length t₀)) (s-is : Means state s) (c-is : Means candidate c) (w-is : Means fate w) (l-is : Means cover-cursor l) (may : MayInsert s c w l j₀ t₀) where
+module _ {M : Type 1} (𝓤 : URA M) (H : Heap 𝓤) (A : Atoms 𝓤) (W : Given 𝓤 H A) (mem′ : Memory → SProp 𝓤) (run : Routine → Fun 𝓤) (J P : Loan) (j₀ : Journal) (t₀ : List ℕ) (s : State) (c : Candidate) (w : Fate) (l : CoverAnswer)
+    (j-room : Room (RowOf row) (length j₀)) (t-room : Room cell (length t₀)) (s-is : Means state s) (c-is : Means candidate c) (w-is : Means fate w) (l-is : Means cover-answer l) (may : MayInsert s c w l j₀ t₀) where
   -- J and P: how the journal and the table are lent
   abbrev x₀ : Bound 𝓤 H A f.signature
   x₀ = (
@@ -102,7 +102,7 @@ module _ {M : Type 1} (𝓤 : URA M) (H : Heap 𝓤) (A : Atoms 𝓤) (W : Given
     (J .share, (P .share, tt)),
     tt,
     (ref (RowOf row) J j₀, (ref cell P t₀, (s, (c, (w, (l, tt)))))),
-    (slice-vals (ref (RowOf row) J j₀), (slice-vals (ref cell P t₀), (val state s ∷ [], (val candidate c ∷ [], (val fate w ∷ [], (val cover-cursor l ∷ [], tt)))))),
+    (slice-vals (ref (RowOf row) J j₀), (slice-vals (ref cell P t₀), (val state s ∷ [], (val candidate c ∷ [], (val fate w ∷ [], (val cover-answer l ∷ [], tt)))))),
   )
 
   abbrev Post : Val → SProp 𝓤
@@ -118,7 +118,7 @@ module _ {M : Type 1} (𝓤 : URA M) (H : Heap 𝓤) (A : Atoms 𝓤) (W : Given
 
   exits : (j : Journal) (t : List ℕ) → length j ≡ length j₀ → length t ≡ length t₀ → CandidateInserted s c l j₀ t₀ j t → ent 𝓤 (⋆ 𝓤 H A (Holds j t [])) (Post vunit)
   exits j t ej et h =
-      let vs = value state s s-is ∷ value candidate c c-is ∷ value fate w w-is ∷ value cover-cursor l l-is ∷ [] in
+      let vs = value state s s-is ∷ value candidate c c-is ∷ value fate w w-is ∷ value cover-answer l l-is ∷ [] in
       qed W (Holds j t []) ∵
       suffices ! _ (ends-at 𝓤 H A f.ended (stays ps) (f.clauses 𝓤 H A mem′ run) W (x₀, tt) vunit tt (j, (t, (tt, (tt, (tt, (tt, tt)))))) (ej, (et, (tt, (tt, (tt, (tt, tt))))))) $ says ! h $
       as-passed ! (RowOf row) J j ej $ move ! (1 ∷ []) $ as-passed ! cell P t et $
@@ -179,7 +179,7 @@ module _ {M : Type 1} (𝓤 : URA M) (H : Heap 𝓤) (A : Atoms 𝓤) (W : Given
 
       -- [the journal; the table; _20; ...; _19; ...; down to room for _0; ...]: local i stands at 42 - 2 i. Local 7 is the cursor
       abbrev Stands : List (Option Val) → List (Item 𝓤)
-      Stands os = locals-of En (none ∷ some (sliceVal (J .block, J .start) (length j₀)) ∷ some (sliceVal (P .block, P .start) (length t₀)) ∷ some (val state s) ∷ some (val candidate c) ∷ some (val fate w) ∷ some (val cover-cursor l) ∷ os) []
+      Stands os = locals-of En (none ∷ some (sliceVal (J .block, J .start) (length j₀)) ∷ some (sliceVal (P .block, P .start) (length t₀)) ∷ some (val state s) ∷ some (val candidate c) ∷ some (val fate w) ∷ some (val cover-answer l) ∷ os) []
 
       abbrev Inv : X → List (Item 𝓤)
       Inv x = Holds (x .j) (x .t) (Stands (some (val retire-cursor (x .g)) ∷ []))

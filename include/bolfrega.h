@@ -2,8 +2,7 @@
  * Bolfrega: checks measurement plans against order sheets.
  *
  * The functions of libbolfrega.a, which `rt staticlib bolfrega` proves and writes to target/staticlib. Each is proved to give the answer
- * that documents 01 and 02 settle, for every input. They keep no state, allocate nothing and call nothing but memset, so threads may call
- * them at once.
+ * that documents 01 and 02 settle, for every input. They keep no state, allocate nothing and call nothing but memset.
  * The archive is for x86-64 Linux; link it alone: cc program.c -Iinclude target/staticlib/libbolfrega.a
  *
  * A file is a sequence of 8-byte records: a plan's rules, then the moves and finishing stages of its order sheet. A run is a sequence of
@@ -23,27 +22,16 @@
  * - `record`, `entries`, `length` and `details` are not null.
  * - `record`, `entries`, `length`, `details`, `buffer`, `table`, `list` and `out` overlap neither each other nor the file or the run.
  *
- * Numbers that a call refuses with:
- *    1  The length of a file of 8-byte records is no multiple of 8.
- *    2  The file has more than 1,296 records.
- *    3  A record's kind is not 1, 2 or 3.
- *    4  A used byte is above its range.
- *    5  An unused byte is not 0.
- *    6  A record does not exceed the one before it.
- *    7  A record is the 257th rule or the 1,025th move.
- *    8  The journal has no row or more than 4,096 rows.
- *   10  The run to be written has 65,535 or more steps, or more than the buffer has bytes; or the output of a move or an unfolding is shorter
- *       than its result.
- *   11  A run given to be judged or recognized has more than 65,534 steps or a code above 127.
- *   12  A move is on a remark: its code is 120 or above.
- *   13  A run given to be recognized has more than 64 steps.
- *   14  The table for a run to be recognized does not have 2,145 cells.
- *   15  The buffer for the list of gaps and doubles has fewer than 5,760 bytes.
- *   16  The length of a file of 16-byte records is no multiple of 16.
- *   17  A file to be moved back has a body of more than two symbols.
- *   18  An unfolding needs procedure 64 or a 257th rule.
+ * What a call returns is a number: from 1 to 99 it refuses, from 100 on it answers; bolfrega_refusal also returns 0. Each has a constant
+ * below, and bolfrega_message says it in words. A later version may return numbers that this header does not have. A host that meets a number
+ * which it does not know has no answer: it never takes it for BOLFREGA_HOLDS, BOLFREGA_ACCEPTED or BOLFREGA_DERIVED. So compare with the
+ * constant that you ask for, and let the default case of a switch be the failure.
+ *
  * 1 and 2 are tested first, or 16 and 2, then 3, 4, 5, 12, 6, 7 record by record: the earliest record wins, and within it the earliest of
  * these.
+ *
+ * Every function may be called from any number of threads at once, also on the same file and run. It takes less than 1 KiB of stack, unless its
+ * text says more.
  */
 #ifndef BOLFREGA_H
 #define BOLFREGA_H
@@ -54,6 +42,57 @@
 #ifdef __cplusplus
 extern "C" {
 #endif
+
+/* The version of the interface that this header describes. A library whose bolfrega_version is this or above has all that stands here. */
+#define BOLFREGA_VERSION 2
+
+/* The numbers that a call refuses with, as documents 01 and 02 have them. */
+#define BOLFREGA_REFUSAL_LENGTH 1
+#define BOLFREGA_REFUSAL_RECORDS 2
+#define BOLFREGA_REFUSAL_KIND 3
+#define BOLFREGA_REFUSAL_ABOVE_RANGE 4
+#define BOLFREGA_REFUSAL_UNUSED 5
+#define BOLFREGA_REFUSAL_ORDER 6
+#define BOLFREGA_REFUSAL_COUNT 7
+#define BOLFREGA_REFUSAL_JOURNAL 8
+#define BOLFREGA_REFUSAL_ROOM 10
+#define BOLFREGA_REFUSAL_RUN 11
+#define BOLFREGA_REFUSAL_REMARK 12
+#define BOLFREGA_REFUSAL_LONG_RUN 13
+#define BOLFREGA_REFUSAL_TABLE 14
+#define BOLFREGA_REFUSAL_LIST 15
+#define BOLFREGA_REFUSAL_WIDE_LENGTH 16
+#define BOLFREGA_REFUSAL_LONG_BODY 17
+#define BOLFREGA_REFUSAL_CHAINS 18
+
+/* Records: byte 0 is the kind. A symbol below 128 is a step code, and BOLFREGA_SYMBOL(p) is procedure p. */
+#define BOLFREGA_RULE 1      /* byte 1 the procedure, byte 2 the body's length, its symbols from byte 3 on */
+#define BOLFREGA_MOVE 2      /* byte 1 from this stage, byte 2 on this step code, byte 3 to this stage */
+#define BOLFREGA_FINISHING 3 /* byte 1 the stage */
+#define BOLFREGA_SYMBOL(p) ((uint8_t)(128 + (p)))
+#define BOLFREGA_RECORD_BYTES 8
+#define BOLFREGA_WIDE_RECORD_BYTES 16
+
+/* How many there are: procedures, stages and step codes count from 0. The codes from BOLFREGA_FIRST_REMARK on are remarks. */
+#define BOLFREGA_PROCEDURES 64
+#define BOLFREGA_STAGES 16
+#define BOLFREGA_CODES 128
+#define BOLFREGA_FIRST_REMARK 120
+
+/* The most of each. */
+#define BOLFREGA_MOST_RECORDS 1296
+#define BOLFREGA_MOST_RULES 256
+#define BOLFREGA_MOST_MOVES 1024
+#define BOLFREGA_MOST_SYMBOLS 2       /* in the body of an 8-byte rule */
+#define BOLFREGA_MOST_WIDE_SYMBOLS 12 /* in the body of a 16-byte rule */
+#define BOLFREGA_MOST_ROWS 4096       /* of a journal */
+#define BOLFREGA_LONGEST_RUN 65534    /* steps of a run to be judged or written */
+#define BOLFREGA_MOST_STEPS 64        /* of a run to be recognized */
+
+/* What the check program of document 01 works with: rows, joins, and bytes for a run. */
+#define BOLFREGA_PROGRAM_ROWS 1024
+#define BOLFREGA_PROGRAM_BUDGET 1000000
+#define BOLFREGA_PROGRAM_ROOM 4096
 
 /* What bolfrega_check and bolfrega_check_from return, unless they refuse. */
 #define BOLFREGA_HOLDS 100  /* each member has a run, and the sheet accepts every run of every member */
@@ -100,8 +139,86 @@ extern "C" {
 #define BOLFREGA_REFUSED 7   /* 0 if that run is in the buffer, else 10 */
 #define BOLFREGA_PROCEDURE 8 /* the procedure of that row, whose run it is: one of the members */
 
+/* How many details there are, of bolfrega_check and of bolfrega_check_from. */
+#define BOLFREGA_DETAILS 8
+#define BOLFREGA_DETAILS_FROM 9
+
+/* In the place BOLFREGA_ROW: there is no such row. In the place BOLFREGA_LENGTH: the run has that many steps or more. */
+#define BOLFREGA_NO_ROW 65535
+#define BOLFREGA_LENGTH_CAP 65535
+
 /*
- * The version of this interface: 2.
+ * What a number says that a function returned, as a text without a full stop. For a number that this header does not know it says that, and the
+ * text is never that of another number.
+ */
+static inline const char *bolfrega_message(uint64_t number)
+{
+    switch (number) {
+    case 0:
+        return "nothing refuses the file";
+    case BOLFREGA_REFUSAL_LENGTH:
+        return "the file's length is no multiple of 8";
+    case BOLFREGA_REFUSAL_RECORDS:
+        return "the file has more than 1,296 records";
+    case BOLFREGA_REFUSAL_KIND:
+        return "a record's kind is not 1, 2 or 3";
+    case BOLFREGA_REFUSAL_ABOVE_RANGE:
+        return "a used byte is above its range";
+    case BOLFREGA_REFUSAL_UNUSED:
+        return "an unused byte is not 0";
+    case BOLFREGA_REFUSAL_ORDER:
+        return "a record does not exceed the one before it";
+    case BOLFREGA_REFUSAL_COUNT:
+        return "a record is the 257th rule or the 1,025th move";
+    case BOLFREGA_REFUSAL_JOURNAL:
+        return "the journal has no row or more than 4,096 rows";
+    case BOLFREGA_REFUSAL_ROOM:
+        return "the run to be written has 65,535 or more steps or more than the buffer has bytes, or the output is shorter than the result";
+    case BOLFREGA_REFUSAL_RUN:
+        return "the run to be judged or recognized has more than 65,534 steps or a code above 127";
+    case BOLFREGA_REFUSAL_REMARK:
+        return "a move is on a remark, a code of 120 or above";
+    case BOLFREGA_REFUSAL_LONG_RUN:
+        return "the run to be recognized has more than 64 steps";
+    case BOLFREGA_REFUSAL_TABLE:
+        return "the table for a run to be recognized does not have 2,145 cells";
+    case BOLFREGA_REFUSAL_LIST:
+        return "the buffer for the list of gaps and doubles has fewer than 5,760 bytes";
+    case BOLFREGA_REFUSAL_WIDE_LENGTH:
+        return "the length of the file of 16-byte records is no multiple of 16";
+    case BOLFREGA_REFUSAL_LONG_BODY:
+        return "a body of the file to be moved back has more than two symbols";
+    case BOLFREGA_REFUSAL_CHAINS:
+        return "the unfolding needs procedure 64 or a 257th rule";
+    case BOLFREGA_HOLDS:
+        return "holds: the sheet accepts every run";
+    case BOLFREGA_BROKEN:
+        return "broken: a run is turned away";
+    case BOLFREGA_FULL:
+        return "full: the journal had no row left";
+    case BOLFREGA_SPENT:
+        return "spent: the joins reached the budget";
+    case BOLFREGA_EMPTY:
+        return "empty: a starting procedure has no run";
+    case BOLFREGA_ACCEPTED:
+        return "accepted: the sheet accepts the run";
+    case BOLFREGA_TURNED_AWAY:
+        return "turned away: the sheet does not accept the run";
+    case BOLFREGA_DERIVED:
+        return "derived: the run is one of the plan's";
+    case BOLFREGA_NOT_DERIVED:
+        return "not derived: the run is none of the plan's";
+    case BOLFREGA_LISTED:
+        return "listed: the gaps and doubles are in the list";
+    case BOLFREGA_CONVERTED:
+        return "converted: the result is in the output";
+    default:
+        return "a number that this header does not know: no answer";
+    }
+}
+
+/*
+ * The version of the library's interface, BOLFREGA_VERSION or above.
  *
  * Version 2 adds bolfrega_check_from, bolfrega_unfold_from and BOLFREGA_PROCEDURE. What version 1 had is unchanged.
  */
@@ -121,6 +238,8 @@ uint64_t bolfrega_refusal(const uint8_t *file, size_t file_length, uint64_t *rec
  * Returns 1 to 7 or 12 if the file is refused; else 11 if the run is refused; else BOLFREGA_ACCEPTED if the sheet has a path on the run from
  * stage 0 to a finishing stage, and BOLFREGA_TURNED_AWAY if it has none.
  * Sets *record as bolfrega_refusal does: to 0 if it returns anything but 3 to 7 or 12.
+ *
+ * It keeps tables of about 4 KiB on the stack.
  */
 uint64_t bolfrega_judge(const uint8_t *file, size_t file_length, const uint8_t *run, size_t run_length, uint64_t *record);
 
@@ -207,6 +326,8 @@ uint64_t bolfrega_unfold(const uint8_t *file, size_t file_length, uint64_t *reco
  * symbols.
  * Sets *record to the number of the record at fault, from 0, if it returns 3 to 7 or 12, and else to 0. Sets *length, and the output, as
  * bolfrega_widen does.
+ *
+ * It needs the stack of bolfrega_unfold.
  */
 uint64_t bolfrega_unfold_from(const uint8_t *file, size_t file_length, uint64_t starts, uint64_t *record, uint64_t *length, uint8_t *out,
                               size_t out_length);
@@ -235,7 +356,7 @@ uint64_t bolfrega_unfold_from(const uint8_t *file, size_t file_length, uint64_t 
  * Every byte of the buffer keeps its value but those of a run that is written. Once it returns BOLFREGA_HOLDS, BOLFREGA_BROKEN or
  * BOLFREGA_EMPTY, more rows (up to 4,096) or a larger budget change nothing that it returns, sets or writes.
  */
-uint64_t bolfrega_check(const uint8_t *file, size_t file_length, size_t rows, uint64_t budget, uint64_t details[8], uint8_t *buffer,
+uint64_t bolfrega_check(const uint8_t *file, size_t file_length, size_t rows, uint64_t budget, uint64_t details[BOLFREGA_DETAILS], uint8_t *buffer,
                         size_t buffer_length);
 
 /*
@@ -256,7 +377,7 @@ uint64_t bolfrega_check(const uint8_t *file, size_t file_length, size_t rows, ui
  * Every byte of the buffer keeps its value but those of a run that is written. Once it returns BOLFREGA_HOLDS, BOLFREGA_BROKEN or
  * BOLFREGA_EMPTY, more rows (up to 4,096) or a larger budget change nothing that it returns, sets or writes.
  */
-uint64_t bolfrega_check_from(const uint8_t *file, size_t file_length, uint64_t starts, size_t rows, uint64_t budget, uint64_t details[9],
+uint64_t bolfrega_check_from(const uint8_t *file, size_t file_length, uint64_t starts, size_t rows, uint64_t budget, uint64_t details[BOLFREGA_DETAILS_FROM],
                              uint8_t *buffer, size_t buffer_length);
 
 #ifdef __cplusplus

@@ -9,8 +9,6 @@
 #include "bolfrega.h"
 #include "io.h"
 
-#include <inttypes.h>
-
 /* Prints the answer, and returns the exit status that goes with it. */
 static int print_answer(uint64_t code)
 {
@@ -22,8 +20,7 @@ static int print_answer(uint64_t code)
         printf("not derived\n");
         return 1;
     default:
-        printf("refused %" PRIu64 "\n", code);
-        return 3;
+        return print_refusal(code);
     }
 }
 

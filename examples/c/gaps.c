@@ -10,15 +10,11 @@
 #include "bolfrega.h"
 #include "io.h"
 
-#include <inttypes.h>
-
 /* Prints the answer, and returns the exit status that goes with it. */
 static int print_answer(uint64_t code, uint64_t entries, const uint8_t *list)
 {
-    if (code != BOLFREGA_LISTED) {
-        printf("refused %" PRIu64 "\n", code);
-        return 3;
-    }
+    if (code != BOLFREGA_LISTED)
+        return print_refusal(code);
     for (uint64_t i = 0; i < entries; i++) {
         const uint8_t *entry = list + i * BOLFREGA_ENTRY_BYTES;
         printf("%d %d %d\n", entry[0], entry[1], entry[2]);

@@ -148,8 +148,8 @@ extern "C" {
 #define BOLFREGA_LENGTH_CAP 65535
 
 /*
- * What a number says that a function returned, as a text without a full stop. For a number that this header does not know it says that, and the
- * text is never that of another number.
+ * What a number says that a function returned, in words; of 3 to 7 and 12 they are about the record at fault. Of a number that is none of these
+ * constants it says that it is unknown.
  */
 static inline const char *bolfrega_message(uint64_t number)
 {
@@ -161,33 +161,33 @@ static inline const char *bolfrega_message(uint64_t number)
     case BOLFREGA_REFUSAL_RECORDS:
         return "the file has more than 1,296 records";
     case BOLFREGA_REFUSAL_KIND:
-        return "a record's kind is not 1, 2 or 3";
+        return "the kind is not 1, 2 or 3";
     case BOLFREGA_REFUSAL_ABOVE_RANGE:
         return "a used byte is above its range";
     case BOLFREGA_REFUSAL_UNUSED:
         return "an unused byte is not 0";
     case BOLFREGA_REFUSAL_ORDER:
-        return "a record does not exceed the one before it";
+        return "it does not exceed the record before it";
     case BOLFREGA_REFUSAL_COUNT:
-        return "a record is the 257th rule or the 1,025th move";
+        return "it is the 257th rule or the 1,025th move";
     case BOLFREGA_REFUSAL_JOURNAL:
         return "the journal has no row or more than 4,096 rows";
     case BOLFREGA_REFUSAL_ROOM:
-        return "the run to be written has 65,535 or more steps or more than the buffer has bytes, or the output is shorter than the result";
+        return "the run has 65,535 or more steps or more than the buffer has bytes, or the output is shorter than the result";
     case BOLFREGA_REFUSAL_RUN:
-        return "the run to be judged or recognized has more than 65,534 steps or a code above 127";
+        return "the run has more than 65,534 steps or a code above 127";
     case BOLFREGA_REFUSAL_REMARK:
-        return "a move is on a remark, a code of 120 or above";
+        return "it is a move on a remark, a code of 120 or above";
     case BOLFREGA_REFUSAL_LONG_RUN:
-        return "the run to be recognized has more than 64 steps";
+        return "the run has more than 64 steps";
     case BOLFREGA_REFUSAL_TABLE:
-        return "the table for a run to be recognized does not have 2,145 cells";
+        return "the table does not have 2,145 cells";
     case BOLFREGA_REFUSAL_LIST:
-        return "the buffer for the list of gaps and doubles has fewer than 5,760 bytes";
+        return "the buffer for the list has fewer than 5,760 bytes";
     case BOLFREGA_REFUSAL_WIDE_LENGTH:
-        return "the length of the file of 16-byte records is no multiple of 16";
+        return "the file's length is no multiple of 16";
     case BOLFREGA_REFUSAL_LONG_BODY:
-        return "a body of the file to be moved back has more than two symbols";
+        return "a body has more than two symbols";
     case BOLFREGA_REFUSAL_CHAINS:
         return "the unfolding needs procedure 64 or a 257th rule";
     case BOLFREGA_HOLDS:
@@ -213,7 +213,7 @@ static inline const char *bolfrega_message(uint64_t number)
     case BOLFREGA_CONVERTED:
         return "converted: the result is in the output";
     default:
-        return "a number that this header does not know: no answer";
+        return "an unknown number: no answer";
     }
 }
 

@@ -26,7 +26,7 @@ static inline int print_answer(uint64_t code, const uint64_t *details, const uin
     static const char *const verdicts[] = {"holds", "broken", "full", "spent", "empty"};
     static const int statuses[] = {0, 1, 4, 4, 5};
     if (code < BOLFREGA_HOLDS || code > BOLFREGA_EMPTY)
-        return print_refusal(code);
+        return print_refusal(code, details[BOLFREGA_RECORD]);
     printf("%s %" PRIu64 " %" PRIu64 " %" PRIu64 "\n", verdicts[code - BOLFREGA_HOLDS], details[BOLFREGA_JOINS], details[BOLFREGA_USED],
            details[BOLFREGA_PASS]);
     if (code == BOLFREGA_BROKEN) {

@@ -10,7 +10,7 @@
 #include "io.h"
 
 /* Prints the answer, and returns the exit status that goes with it. */
-static int print_answer(uint64_t code)
+static int print_answer(uint64_t code, uint64_t record)
 {
     switch (code) {
     case BOLFREGA_DERIVED:
@@ -20,7 +20,7 @@ static int print_answer(uint64_t code)
         printf("not derived\n");
         return 1;
     default:
-        return print_refusal(code);
+        return print_refusal(code, record);
     }
 }
 
@@ -54,7 +54,8 @@ int main(int argc, char **argv)
     int status = 2;
     if (run != NULL && file != NULL) {
         uint64_t record, table[BOLFREGA_CELLS];
-        status = print_answer(bolfrega_recognize(file, length, run, steps, &record, table, BOLFREGA_CELLS));
+        uint64_t code = bolfrega_recognize(file, length, run, steps, &record, table, BOLFREGA_CELLS);
+        status = print_answer(code, record);
     }
     free(file);
     free(run);

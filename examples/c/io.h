@@ -58,10 +58,12 @@ static inline int read_number(const char *text, unsigned long most, uint8_t *num
     return 1;
 }
 
-/* Prints a number that is no answer of the call that gave it, and on standard error what it says. Returns the exit status: 3 for a refusal, and
- * 2 for a number that is none, which is not printed. */
-static inline int print_refusal(uint64_t number)
+/* Prints a number that is no answer of the call that gave it, and says on standard error what it means, with the record where it names one. Returns
+ * the exit status: 3 for a refusal, and 2 for a number that is none, which is not printed. */
+static inline int print_refusal(uint64_t number, uint64_t record)
 {
+    if ((number >= BOLFREGA_REFUSAL_KIND && number <= BOLFREGA_REFUSAL_COUNT) || number == BOLFREGA_REFUSAL_REMARK)
+        fprintf(stderr, "record %" PRIu64 ": ", record);
     fprintf(stderr, "%s (%" PRIu64 ")\n", bolfrega_message(number), number);
     if (number < 1 || number > 99)
         return 2;

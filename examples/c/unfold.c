@@ -39,6 +39,7 @@ int main(int argc, char **argv)
     uint64_t record, length, details[BOLFREGA_DETAILS];
     uint8_t run[BOLFREGA_PROGRAM_ROOM];
     uint64_t code = bolfrega_unfold(wide, wide_length, &record, &length, file, sizeof file);
+    details[BOLFREGA_RECORD] = record;
     free(wide);
     if (code == BOLFREGA_CONVERTED) {
         if (argc == 3 && !write_file(argv[2], file, (size_t)length))

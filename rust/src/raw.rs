@@ -8,6 +8,48 @@
 
 #![allow(unsafe_code)]
 
+/// [`Refusal::Length`](crate::Refusal::Length).
+pub const REFUSAL_LENGTH: u64 = 1;
+/// [`Refusal::Records`](crate::Refusal::Records).
+pub const REFUSAL_RECORDS: u64 = 2;
+/// [`Refusal::Kind`](crate::Refusal::Kind).
+pub const REFUSAL_KIND: u64 = 3;
+/// [`Refusal::AboveRange`](crate::Refusal::AboveRange).
+pub const REFUSAL_ABOVE_RANGE: u64 = 4;
+/// [`Refusal::Unused`](crate::Refusal::Unused).
+pub const REFUSAL_UNUSED: u64 = 5;
+/// [`Refusal::Order`](crate::Refusal::Order).
+pub const REFUSAL_ORDER: u64 = 6;
+/// [`Refusal::Count`](crate::Refusal::Count).
+pub const REFUSAL_COUNT: u64 = 7;
+/// [`Refusal::Journal`](crate::Refusal::Journal).
+pub const REFUSAL_JOURNAL: u64 = 8;
+/// [`Refusal::Room`](crate::Refusal::Room).
+pub const REFUSAL_ROOM: u64 = 10;
+/// [`Refusal::Run`](crate::Refusal::Run).
+pub const REFUSAL_RUN: u64 = 11;
+/// [`Refusal::Remark`](crate::Refusal::Remark).
+pub const REFUSAL_REMARK: u64 = 12;
+/// [`Refusal::LongRun`](crate::Refusal::LongRun).
+pub const REFUSAL_LONG_RUN: u64 = 13;
+/// [`Refusal::Table`](crate::Refusal::Table).
+pub const REFUSAL_TABLE: u64 = 14;
+/// [`Refusal::List`](crate::Refusal::List).
+pub const REFUSAL_LIST: u64 = 15;
+/// [`Refusal::WideLength`](crate::Refusal::WideLength).
+pub const REFUSAL_WIDE_LENGTH: u64 = 16;
+/// [`Refusal::LongBody`](crate::Refusal::LongBody).
+pub const REFUSAL_LONG_BODY: u64 = 17;
+/// [`Refusal::Chains`](crate::Refusal::Chains).
+pub const REFUSAL_CHAINS: u64 = 18;
+
+/// The kind of a record, its first byte: a rule.
+pub const RULE: u8 = 1;
+/// A move.
+pub const MOVE: u8 = 2;
+/// A finishing stage.
+pub const FINISHING: u8 = 3;
+
 /// [`check`]: the plan has a run, and the sheet accepts every one. [`check_from`]: each member has one, and the sheet accepts
 /// every run of every member.
 pub const HOLDS: u64 = 100;

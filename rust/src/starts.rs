@@ -1,7 +1,8 @@
 //! Several starting procedures: one file serves many routes, each with its own first procedure.
 
-use crate::{answer, raw, Answer, Refusal};
-use std::fmt;
+use crate::answers::{answer, words};
+use crate::{raw, Answer, Refusal, PROCEDURES};
+use core::fmt;
 
 /// A set of starting procedures, each from 0 to 63.
 ///
@@ -44,7 +45,7 @@ impl Starts {
 
     /// The members and this procedure; `None` if it is above 63.
     pub const fn with(self, procedure: u8) -> Option<Starts> {
-        if procedure < 64 {
+        if procedure < PROCEDURES {
             Some(Starts(self.0 | 1 << procedure))
         } else {
             None
@@ -53,12 +54,19 @@ impl Starts {
 
     /// Whether a procedure is a member. None above 63 is.
     pub const fn contains(self, procedure: u8) -> bool {
-        procedure < 64 && self.0 >> procedure & 1 == 1
+        procedure < PROCEDURES && self.0 >> procedure & 1 == 1
     }
 
     /// The members, rising.
     pub fn procedures(self) -> impl Iterator<Item = u8> {
-        (0..64).filter(move |&procedure| self.contains(procedure))
+        (0..PROCEDURES).filter(move |&procedure| self.contains(procedure))
+    }
+}
+
+/// The members, rising, with a blank between them.
+impl fmt::Display for Starts {
+    fn fmt(&self, f: &mut fmt::Formatter<'_>) -> fmt::Result {
+        words(f, self.procedures())
     }
 }
 
@@ -76,6 +84,17 @@ pub struct AnswerFrom<'b> {
     pub answer: Answer<'b>,
     /// The procedure whose run a broken answer shows, which is a member; `None` for any other verdict.
     pub procedure: Option<u8>,
+}
+
+/// The lines of the answer, and `procedure` with its number after those of a broken one; the last line without its end.
+impl fmt::Display for AnswerFrom<'_> {
+    fn fmt(&self, f: &mut fmt::Formatter<'_>) -> fmt::Result {
+        write!(f, "{}", self.answer)?;
+        match self.procedure {
+            Some(procedure) => write!(f, "\nprocedure {procedure}"),
+            None => Ok(()),
+        }
+    }
 }
 
 /// As [`check`](crate::check), for the runs of every procedure in `starts`. Of procedure 0 alone ([`Starts::INITIAL`]) it says what `check` says.

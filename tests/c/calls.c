@@ -406,7 +406,7 @@ static void unfoldings(void)
 
 int main(void)
 {
-    EXPECT(bolfrega_version() == 2);
+    EXPECT(bolfrega_version() == BOLFREGA_VERSION);
     refusals();
     judgements();
     recognitions();

@@ -1,7 +1,8 @@
-//! What the tests and the benchmark are made from: the plans of document 01, files at random and damaged.
+//! What the tests and the benchmark are made from: the plans of document 01, files at random and damaged, and every call on such files.
 
 #![forbid(unsafe_code)]
 
+pub mod calls;
 mod files;
 mod numbers;
 mod plans;

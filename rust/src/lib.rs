@@ -55,8 +55,8 @@
 //! `../target/staticlib`, where `rt staticlib bolfrega` leaves it. The archive is for x86-64 Linux. Without it `cargo doc` works, and nothing
 //! else does.
 //!
-//! The crate is `no_std`. With the feature `alloc`, which is on by default, there are also [`FileBuilder`] and the calls that give a vector:
-//! [`widen`], [`narrow`], [`unfold`], [`unfold_from`]. Without it nothing is allocated.
+//! The crate is `no_std`. With the feature `alloc`, which is on by default, there are also [`FileBuilder`] and the calls whose result has
+//! memory of its own: [`check_owned`], [`widen`], [`narrow`], [`unfold`], [`unfold_from`]. Without it nothing is allocated.
 //!
 //! # Stack
 //!
@@ -106,6 +106,8 @@ pub use recognizing::{recognize, Derivations};
 pub use records::{procedure, records, wide_records, wide_refusal, Record, Records, Symbol};
 pub use refusal::Refusal;
 pub use starts::{check_from, AnswerFrom, Starts};
+#[cfg(feature = "alloc")]
+pub use starts::{check_owned, OwnedAnswer};
 #[cfg(feature = "alloc")]
 pub use wide::{narrow, unfold, unfold_from, widen};
 pub use wide::{narrow_into, unfold_from_into, unfold_into, widen_into};

@@ -2,6 +2,10 @@
 
 use crate::answers::{answer, words};
 use crate::{raw, Answer, Refusal, PROCEDURES};
+#[cfg(feature = "alloc")]
+use crate::{Broken, Verdict, LONGEST_RUN};
+#[cfg(feature = "alloc")]
+use alloc::{vec, vec::Vec};
 use core::fmt;
 
 /// A set of starting procedures, each from 0 to 63.
@@ -136,11 +140,65 @@ pub fn check_from<'b>(
     budget: u64,
     buffer: &'b mut [u8],
 ) -> Result<AnswerFrom<'b>, Refusal> {
-    let mut details = [0; 9];
+    let mut details = raw::DetailsFrom::default();
     let code = raw::check_from(file, starts.bits(), rows, budget, &mut details, buffer);
+    told(code, details, buffer)
+}
+
+/// The answer with a code and details that the library gave, or the refusal.
+fn told(code: u64, details: raw::DetailsFrom, buffer: &[u8]) -> Result<AnswerFrom<'_>, Refusal> {
     let [shared @ .., procedure] = details;
     Ok(AnswerFrom {
         answer: answer(code, shared, buffer)?,
         procedure: (code == raw::BROKEN).then_some(procedure as u8),
     })
+}
+
+/// An answer that borrows nothing: it has the bytes of its run; [`check_owned`] gives one.
+#[cfg(feature = "alloc")]
+#[derive(Clone, Debug, PartialEq, Eq, Hash)]
+pub struct OwnedAnswer {
+    code: u64,
+    details: raw::DetailsFrom,
+    run: Vec<u8>,
+}
+
+#[cfg(feature = "alloc")]
+impl OwnedAnswer {
+    /// The answer, which borrows its run from here.
+    pub fn told(&self) -> AnswerFrom<'_> {
+        told(self.code, self.details, &self.run).expect("a refusal does not come to be an answer")
+    }
+}
+
+/// The lines of the answer, as of [`AnswerFrom`].
+#[cfg(feature = "alloc")]
+impl fmt::Display for OwnedAnswer {
+    fn fmt(&self, f: &mut fmt::Formatter<'_>) -> fmt::Result {
+        self.told().fmt(f)
+    }
+}
+
+/// As [`check_from`], with room for every run that can be written, and an answer that borrows nothing.
+///
+/// ```
+/// use bolfrega::{check_owned, OwnedAnswer, Refusal, Starts, PROGRAM_BUDGET, PROGRAM_ROWS};
+///
+/// fn ask() -> Result<OwnedAnswer, Refusal> {
+///     let file = [1, 0, 1, 5, 0, 0, 0, 0]; // 0 gives 5, and no stage is finishing
+///     check_owned(&file, Starts::INITIAL, PROGRAM_ROWS, PROGRAM_BUDGET)
+/// }
+/// assert_eq!(ask()?.told().procedure, Some(0));
+/// assert_eq!(ask()?.to_string(), "broken 1 1 1\n0 0 1\n5\nprocedure 0");
+/// # Ok::<(), Refusal>(())
+/// ```
+#[cfg(feature = "alloc")]
+pub fn check_owned(file: &[u8], starts: Starts, rows: usize, budget: u64) -> Result<OwnedAnswer, Refusal> {
+    let (mut details, mut buffer) = (raw::DetailsFrom::default(), vec![0; LONGEST_RUN]);
+    let code = raw::check_from(file, starts.bits(), rows, budget, &mut details, &mut buffer);
+    let run = match told(code, details, &buffer)?.answer.verdict {
+        Verdict::Broken(Broken { run: Ok(run), .. }) => run.to_vec(),
+        _ => Vec::new(),
+    };
+    Ok(OwnedAnswer { code, details, run })
 }

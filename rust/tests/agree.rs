@@ -1,25 +1,37 @@
-//! Every call on 10,000 files at random and damaged: the library and the plain implementation agree. C and Python go through the same cases
+//! Every call on the samples and on 10,000 files at random and damaged: the library and the plain implementation agree. C and Python go through the same cases
 //! (tests/agree).
 
 use bolfrega::raw;
-use making::calls::cases;
+use making::calls::{case_of, cases, Call, Case};
 use std::collections::{BTreeMap, BTreeSet};
+use std::fs;
+
+/// Makes the calls of a case on both, which must agree. Returns the name of each call with the number that it gave.
+fn agreed(case: Case) -> Vec<(String, u64)> {
+    let Case { file, run, calls } = case;
+    let agreed = |call: Call| {
+        let expected = call.plainly(&file, &run);
+        assert_eq!(call.proved(&file, &run), expected, "{call} of {run:?} on {file:?}");
+        (call.to_string().split(' ').next().unwrap().to_string(), expected.number)
+    };
+    calls.into_iter().map(agreed).collect()
+}
+
+#[test]
+fn samples() {
+    let folder = concat!(env!("CARGO_MANIFEST_DIR"), "/../samples");
+    let paths = fs::read_dir(folder).unwrap().map(|entry| entry.unwrap().path());
+    let files = paths.filter(|path| path.extension().is_some_and(|end| end == "plan" || end == "wide"));
+    let calls: usize = files.map(|path| agreed(case_of(fs::read(path).unwrap())).len()).sum();
+    assert!(calls >= 20 * 11, "{calls}");
+}
 
 #[test]
 fn every_call() {
     let mut seen: BTreeMap<String, BTreeSet<u64>> = BTreeMap::new();
     for case in cases(10_000) {
-        for call in case.calls {
-            let expected = call.plainly(&case.file, &case.run);
-            assert_eq!(
-                call.proved(&case.file, &case.run),
-                expected,
-                "{call} of {:?} on {:?}",
-                case.run,
-                case.file
-            );
-            let name = call.to_string().split(' ').next().unwrap().to_string();
-            seen.entry(name).or_default().insert(expected.number);
+        for (name, number) in agreed(case) {
+            seen.entry(name).or_default().insert(number);
         }
     }
     // Each call comes to every number that it can give.

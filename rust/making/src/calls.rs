@@ -14,7 +14,9 @@
 //! cell of a table is `CELL`.
 
 use crate::{damage, valid_file, valid_wide_file, Numbers, Size};
-use bolfrega::{raw, CELLS, FILE_BYTES, FIRST_REMARK, LIST_BYTES, MOST_RECORDS, WIDE_BYTES};
+use bolfrega::{
+    raw, CELLS, FILE_BYTES, FIRST_REMARK, LIST_BYTES, MOST_RECORDS, PROGRAM_BUDGET, PROGRAM_ROOM, PROGRAM_ROWS, WIDE_BYTES,
+};
 use std::fmt;
 
 /// A cell of a table before a call.
@@ -306,6 +308,26 @@ pub fn cases(count: usize) -> impl Iterator<Item = Case> {
     let mut numbers = Numbers::new(24);
     (0..count).map(move |at| case(&mut numbers, at))
 }
+
+/// The case of a file that is given, with the check program's parameters beside those at random.
+pub fn case_of(file: Vec<u8>) -> Case {
+    let mut numbers = Numbers::new(25);
+    let run = run(&mut numbers, SMALL);
+    let mut calls = calls(&mut numbers, &file, SMALL);
+    calls.push(Call::Check {
+        rows: PROGRAM_ROWS,
+        budget: PROGRAM_BUDGET,
+        room: PROGRAM_ROOM,
+    });
+    Case { file, run, calls }
+}
+
+const SMALL: Size = Size {
+    procedures: 4,
+    rules: 10,
+    codes: 4,
+    moves: 16,
+};
 
 /// The case of a number. Half of the files are damaged, a quarter have sixteen-byte records, and one in 101 is large.
 fn case(numbers: &mut Numbers, at: usize) -> Case {

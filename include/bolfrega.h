@@ -377,8 +377,8 @@ uint64_t bolfrega_check(const uint8_t *file, size_t file_length, size_t rows, ui
  * Every byte of the buffer keeps its value but those of a run that is written. Once it returns BOLFREGA_HOLDS, BOLFREGA_BROKEN or
  * BOLFREGA_EMPTY, more rows (up to 4,096) or a larger budget change nothing that it returns, sets or writes.
  */
-uint64_t bolfrega_check_from(const uint8_t *file, size_t file_length, uint64_t starts, size_t rows, uint64_t budget, uint64_t details[BOLFREGA_DETAILS_FROM],
-                             uint8_t *buffer, size_t buffer_length);
+uint64_t bolfrega_check_from(const uint8_t *file, size_t file_length, uint64_t starts, size_t rows, uint64_t budget,
+                             uint64_t details[BOLFREGA_DETAILS_FROM], uint8_t *buffer, size_t buffer_length);
 
 #ifdef __cplusplus
 }

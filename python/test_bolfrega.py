@@ -309,13 +309,11 @@ class Program(unittest.TestCase):
         status, out, errors = program(SAMPLES / "plan-a.plan", env={**os.environ, "BOLFREGA_LIB": "/nonexistent/libbolfrega.so"})
         self.assertEqual((status, out), (2, ""))
         self.assertIn("/nonexistent/libbolfrega.so", errors)
-        made = subprocess.run(
-            [sys.executable, "-c", "import bolfrega"], cwd=HERE, env={**os.environ, "BOLFREGA_LIB": "/nonexistent"}, capture_output=True
-        )
-        self.assertIn(b"ImportError", made.stderr)
-        # A library that is another one.
-        other = subprocess.run([sys.executable, "-c", "import bolfrega"], cwd=HERE, env={**os.environ, "BOLFREGA_LIB": "libc.so.6"}, capture_output=True)
-        self.assertIn(b"ImportError", other.stderr)
+        # None, and one that is another library.
+        for library in ("/nonexistent", "libc.so.6"):
+            words = [sys.executable, "-c", "import bolfrega"]
+            made = subprocess.run(words, cwd=HERE, env={**os.environ, "BOLFREGA_LIB": library}, capture_output=True)
+            self.assertIn(b"ImportError", made.stderr)
 
 
 if __name__ == "__main__":

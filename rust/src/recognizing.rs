@@ -64,8 +64,8 @@ impl fmt::Debug for Derivations {
 /// Says which procedures of a file's plan derive each stretch of a recorded run of at most [`MOST_STEPS`] steps. Every step code counts as a
 /// step here, whatever the sheet says of it.
 ///
-/// It refuses a file with 1 to 7 or 12, then a run with 11, and then with 13 a run that is longer. It keeps about 36 KiB on the stack, and the table of the
-/// result is 17 KiB by value.
+/// It refuses a file with 1 to 7 or 12, then a run with 11, and then with 13 a run that is longer. It keeps about 36 KiB on the stack, beside
+/// the table of the result, 17 KiB by value.
 ///
 /// ```
 /// use bolfrega::{recognize, Refusal};

@@ -1,5 +1,5 @@
-//! Every call on the samples and on 10,000 files at random and damaged: the library and the plain implementation agree. C and Python go through the same cases
-//! (tests/agree).
+//! Every call on the samples and on 10,000 files at random and damaged: the library and the plain implementation agree. C, C++ and
+//! Python go through the same cases (tests/agree).
 
 use bolfrega::raw;
 use making::calls::{case_of, cases, Call, Case};

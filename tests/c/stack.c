@@ -1,8 +1,8 @@
 /*
  * How much stack each function takes: it is called on a thread whose stack is painted before, and the lowest byte that has changed says how deep
  * it went. The file has as many rules and moves as there may be. It prints a line for each function, and ends with status 1 where one took more
- * than the header says, and with 2 where there is no thread. What writing a run takes is not measured: no file that we know has rows that hang
- * more than some hundred deep.
+ * than the header says, and with 2 where there is no thread. What writing a run takes is not measured: this file's
+ * rows do not hang deep.
  */
 #define _GNU_SOURCE
 #include "bolfrega.h"

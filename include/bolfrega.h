@@ -2,8 +2,7 @@
  * Bolfrega: checks measurement plans against order sheets.
  *
  * The functions of libbolfrega.a, which `rt staticlib bolfrega` proves and writes to target/staticlib. Each is proved to give the answer
- * that documents 01 and 02 settle, for every input. They keep no state, allocate nothing and call nothing but memset, so threads may call
- * them at once.
+ * that documents 01 and 02 settle, for every input. They keep no state, allocate nothing and call nothing but memset.
  * The archive is for x86-64 Linux; link it alone: cc program.c -Iinclude target/staticlib/libbolfrega.a
  *
  * A file is a sequence of 8-byte records: a plan's rules, then the moves and finishing stages of its order sheet. A run is a sequence of
@@ -19,37 +18,24 @@
  * as their one member: they say what those two say for the word 1.
  *
  * A check keeps a journal, a row for each effect that it keeps. bolfrega_check and bolfrega_check_from have one of their own; a host that wants to
- * see the rows, or to write the run behind any of them, lends its own to bolfrega_check_rows and bolfrega_write.
+ * see the rows, or to write the run behind any of them, or to check many files in less time, lends its own to bolfrega_check_rows and bolfrega_write.
  *
  * What every call asks of its caller:
  * - A pointer and the length after it are those of one area of memory. With length 0 the pointer may be null.
- * - `record`, `entries`, `length`, `details`, `values`, `next`, `offset`, `cells` and `near` are not null.
- * - `record`, `entries`, `length`, `details`, `values`, `next`, `offset`, `buffer`, `table`, `list`, `out`, `journal`, `cells` and `near` overlap neither each other nor the file
- *   or the run, and are aligned as their types ask. What they hold before the call is of no account.
+ * - `record`, `entries`, `length`, `offset`, `details`, `values`, `next`, `cells` and `near` are not null.
+ * - These, and `buffer`, `table`, `list`, `out` and `journal`, overlap neither each other nor the file or the run, and are aligned as their types
+ *   ask. What they hold before the call is of no account, but for the journal of bolfrega_write.
  *
- * Numbers that a call refuses with:
- *    1  The length of a file of 8-byte records is no multiple of 8.
- *    2  The file has more than 1,296 records.
- *    3  A record's kind is not 1, 2 or 3.
- *    4  A used byte is above its range.
- *    5  An unused byte is not 0.
- *    6  A record does not exceed the one before it.
- *    7  A record is the 257th rule or the 1,025th move.
- *    8  The journal has no row or more than 4,096 rows.
- *    9  The row whose run is to be written is none of the used ones, or more rows are said to be used than there are, or a row up to it does not
- *       fit: it is none that a check of the file could have stored.
- *   10  The run to be written has 65,535 or more steps, or more than the buffer has bytes; or the output of a move or an unfolding is shorter
- *       than its result.
- *   11  A run given to be judged or recognized has more than 65,534 steps or a code above 127.
- *   12  A move is on a remark: its code is 120 or above.
- *   13  A run given to be recognized has more than 64 steps.
- *   14  The table for a run to be recognized does not have 2,145 cells.
- *   15  The buffer for the list of gaps and doubles has fewer than 5,760 bytes.
- *   16  The length of a file of 16-byte records is no multiple of 16.
- *   17  A file to be moved back has a body of more than two symbols.
- *   18  An unfolding needs procedure 64 or a 257th rule.
+ * What a call returns is a number: from 1 to 99 it refuses, from 100 on it answers; bolfrega_refusal also returns 0. Each has a constant
+ * below, and bolfrega_message says it in words. A later version may return numbers that this header does not have. A host that meets a number
+ * which it does not know has no answer: it never takes it for BOLFREGA_HOLDS, BOLFREGA_ACCEPTED or BOLFREGA_DERIVED. So compare with the
+ * constant that you ask for, and let the default case of a switch be the failure.
+ *
  * 1 and 2 are tested first, or 16 and 2, then 3, 4, 5, 12, 6, 7 record by record: the earliest record wins, and within it the earliest of
  * these.
+ *
+ * Every function may be called from any number of threads at once, also on the same file and run, and bolfrega_write on the same journal; all else
+ * that is lent is lent to one call at a time. It takes less than 1 KiB of stack, unless its text says more.
  */
 #ifndef BOLFREGA_H
 #define BOLFREGA_H
@@ -60,6 +46,62 @@
 #ifdef __cplusplus
 extern "C" {
 #endif
+
+/* The version of the interface that this header describes. A library whose bolfrega_version is this or above has all that stands here. */
+#define BOLFREGA_VERSION 3
+
+/* The numbers that a call refuses with, as documents 01 and 02 have them. */
+#define BOLFREGA_REFUSAL_LENGTH 1
+#define BOLFREGA_REFUSAL_RECORDS 2
+#define BOLFREGA_REFUSAL_KIND 3
+#define BOLFREGA_REFUSAL_ABOVE_RANGE 4
+#define BOLFREGA_REFUSAL_UNUSED 5
+#define BOLFREGA_REFUSAL_ORDER 6
+#define BOLFREGA_REFUSAL_COUNT 7
+#define BOLFREGA_REFUSAL_JOURNAL 8
+#define BOLFREGA_REFUSAL_ROW 9
+#define BOLFREGA_REFUSAL_ROOM 10
+#define BOLFREGA_REFUSAL_RUN 11
+#define BOLFREGA_REFUSAL_REMARK 12
+#define BOLFREGA_REFUSAL_LONG_RUN 13
+#define BOLFREGA_REFUSAL_TABLE 14
+#define BOLFREGA_REFUSAL_LIST 15
+#define BOLFREGA_REFUSAL_WIDE_LENGTH 16
+#define BOLFREGA_REFUSAL_LONG_BODY 17
+#define BOLFREGA_REFUSAL_CHAINS 18
+
+/* Records: byte 0 is the kind. A symbol below 128 is a step code, and BOLFREGA_SYMBOL(p) is procedure p. */
+#define BOLFREGA_RULE 1      /* byte 1 the procedure, byte 2 the body's length, its symbols from byte 3 on */
+#define BOLFREGA_MOVE 2      /* byte 1 from this stage, byte 2 on this step code, byte 3 to this stage */
+#define BOLFREGA_FINISHING 3 /* byte 1 the stage */
+#define BOLFREGA_SYMBOL(p) ((uint8_t)(128 + (p)))
+#define BOLFREGA_RECORD_BYTES 8
+#define BOLFREGA_WIDE_RECORD_BYTES 16
+
+/* How many there are: procedures, stages and step codes count from 0. The codes from BOLFREGA_FIRST_REMARK on are remarks. */
+#define BOLFREGA_PROCEDURES 64
+#define BOLFREGA_STAGES 16
+#define BOLFREGA_CODES 128
+#define BOLFREGA_FIRST_REMARK 120
+
+/* The most of each. */
+#define BOLFREGA_MOST_RECORDS 1296
+#define BOLFREGA_MOST_RULES 256
+#define BOLFREGA_MOST_MOVES 1024
+#define BOLFREGA_MOST_SYMBOLS 2       /* in the body of an 8-byte rule */
+#define BOLFREGA_MOST_WIDE_SYMBOLS 12 /* in the body of a 16-byte rule */
+#define BOLFREGA_MOST_ROWS 4096       /* of a journal */
+#define BOLFREGA_LONGEST_RUN 65534    /* steps of a run to be judged or written */
+#define BOLFREGA_MOST_STEPS 64        /* of a run to be recognized */
+
+/* How much room bolfrega_check_rows works in: cells of 32 bits, and words of 64. */
+#define BOLFREGA_TABLE_CELLS 45952
+#define BOLFREGA_NEAR_WORDS 28676
+
+/* What the check program of document 01 works with: rows, joins, and bytes for a run. */
+#define BOLFREGA_PROGRAM_ROWS 1024
+#define BOLFREGA_PROGRAM_BUDGET 1000000
+#define BOLFREGA_PROGRAM_ROOM 4096
 
 /* What bolfrega_check, bolfrega_check_from and bolfrega_check_rows return, unless they refuse. */
 #define BOLFREGA_HOLDS 100  /* each member has a run, and the sheet accepts every run of every member */
@@ -98,30 +140,12 @@ extern "C" {
 /* What bolfrega_write returns, unless it refuses. */
 #define BOLFREGA_WRITTEN 116
 
-/* What bolfrega_step returns, unless it refuses, and what the four values are then: those that are not named are 0. */
-#define BOLFREGA_RULE 117      /* procedure, number of symbols (0 to 2), first symbol, second symbol: 128 + p is procedure p */
-#define BOLFREGA_MOVE 118      /* from-stage, step code, to-stage */
-#define BOLFREGA_FINISHING 119 /* stage */
-#define BOLFREGA_ENDED 120     /* past the last record */
-
-/* A row of a journal, which a host lends: eleven words. */
-struct bolfrega_row {
-    uint64_t procedure; /* the procedure whose run it is */
-    uint64_t rule;      /* the number of the rule, among the file's rules, that it was made by */
-    uint64_t effect[4]; /* the pairs of stages that the run leads from and to: (a, b) is bit 16 * (a % 4) + b of word a / 4 */
-    uint64_t left;      /* the row of the rule's first symbol, if that is a procedure, and else 65,535 */
-    uint64_t right;     /* the row of its second symbol, likewise */
-    uint64_t length;    /* the length of the run; 65,535 means that or more */
-    uint64_t birth;     /* the pass in which it was stored, from 1 */
-    uint64_t retired;   /* the pass in which a smaller one took its place, or 0 */
-};
-
-/* The most rows of a journal. */
-#define BOLFREGA_ROWS 4096
-
-/* How much room bolfrega_check_rows works in: cells of 32 bits, and words of 64. */
-#define BOLFREGA_TABLE_CELLS 45952
-#define BOLFREGA_NEAR_WORDS 28676
+/* What bolfrega_step returns, unless it refuses, and what the values are then: those that are not named are 0. */
+#define BOLFREGA_STEP_RULE 117      /* procedure, the body's length, its first symbol, its second symbol */
+#define BOLFREGA_STEP_MOVE 118      /* from this stage, on this step code, to this stage */
+#define BOLFREGA_STEP_FINISHING 119 /* the stage */
+#define BOLFREGA_STEP_ENDED 120     /* past the last record */
+#define BOLFREGA_STEP_VALUES 4      /* how many values there are */
 
 /* The places of the details: bolfrega_check has the first eight, bolfrega_check_from and bolfrega_check_rows all nine. */
 #define BOLFREGA_RECORD 0    /* the record that is refused */
@@ -134,11 +158,113 @@ struct bolfrega_row {
 #define BOLFREGA_REFUSED 7   /* 0 if that run is in the buffer, else 10 */
 #define BOLFREGA_PROCEDURE 8 /* the procedure of that row, whose run it is: one of the members */
 
+/* How many details there are, of bolfrega_check and of the two others. */
+#define BOLFREGA_DETAILS 8
+#define BOLFREGA_DETAILS_FROM 9
+
+/* In the place BOLFREGA_ROW: there is no such row. In the place BOLFREGA_LENGTH: the run has that many steps or more. */
+#define BOLFREGA_NO_ROW 65535
+#define BOLFREGA_LENGTH_CAP 65535
+
+/* A row of a journal: eleven words. */
+struct bolfrega_row {
+    uint64_t procedure; /* the procedure whose run it is */
+    uint64_t rule;      /* the number of the rule, among the file's rules, that it was made by */
+    uint64_t effect[4]; /* the pairs of stages that the run leads from and to: (a, b) is bit 16 * (a % 4) + b of word a / 4 */
+    uint64_t left;      /* the row of the rule's first symbol, if that is a procedure, and else BOLFREGA_NO_ROW */
+    uint64_t right;     /* the row of its second symbol, likewise */
+    uint64_t length;    /* the length of the run, up to BOLFREGA_LENGTH_CAP */
+    uint64_t birth;     /* the pass in which it was stored, from 1 */
+    uint64_t retired;   /* the pass in which a smaller one took its place, or 0 */
+};
+
 /*
- * The version of this interface: 3.
+ * What a number says that a function returned, in words; of 3 to 7 and 12 they are about the record at fault. Of a number that is none of these
+ * constants it says that it is unknown.
+ */
+static inline const char *bolfrega_message(uint64_t number)
+{
+    switch (number) {
+    case 0:
+        return "nothing refuses the file";
+    case BOLFREGA_REFUSAL_LENGTH:
+        return "the file's length is no multiple of 8";
+    case BOLFREGA_REFUSAL_RECORDS:
+        return "the file has more than 1,296 records";
+    case BOLFREGA_REFUSAL_KIND:
+        return "the kind is not 1, 2 or 3";
+    case BOLFREGA_REFUSAL_ABOVE_RANGE:
+        return "a used byte is above its range";
+    case BOLFREGA_REFUSAL_UNUSED:
+        return "an unused byte is not 0";
+    case BOLFREGA_REFUSAL_ORDER:
+        return "it does not exceed the record before it";
+    case BOLFREGA_REFUSAL_COUNT:
+        return "it is the 257th rule or the 1,025th move";
+    case BOLFREGA_REFUSAL_JOURNAL:
+        return "the journal has no row or more than 4,096 rows";
+    case BOLFREGA_REFUSAL_ROW:
+        return "the row is not used, or more rows are used than there are, or a row up to it is none of a check of this file";
+    case BOLFREGA_REFUSAL_ROOM:
+        return "the run has 65,535 or more steps or more than the buffer has bytes, or the output is shorter than the result";
+    case BOLFREGA_REFUSAL_RUN:
+        return "the run has more than 65,534 steps or a code above 127";
+    case BOLFREGA_REFUSAL_REMARK:
+        return "it is a move on a remark, a code of 120 or above";
+    case BOLFREGA_REFUSAL_LONG_RUN:
+        return "the run has more than 64 steps";
+    case BOLFREGA_REFUSAL_TABLE:
+        return "the table does not have 2,145 cells";
+    case BOLFREGA_REFUSAL_LIST:
+        return "the buffer for the list has fewer than 5,760 bytes";
+    case BOLFREGA_REFUSAL_WIDE_LENGTH:
+        return "the file's length is no multiple of 16";
+    case BOLFREGA_REFUSAL_LONG_BODY:
+        return "a body has more than two symbols";
+    case BOLFREGA_REFUSAL_CHAINS:
+        return "the unfolding needs procedure 64 or a 257th rule";
+    case BOLFREGA_HOLDS:
+        return "holds: the sheet accepts every run";
+    case BOLFREGA_BROKEN:
+        return "broken: a run is turned away";
+    case BOLFREGA_FULL:
+        return "full: the journal had no row left";
+    case BOLFREGA_SPENT:
+        return "spent: the joins reached the budget";
+    case BOLFREGA_EMPTY:
+        return "empty: a starting procedure has no run";
+    case BOLFREGA_ACCEPTED:
+        return "accepted: the sheet accepts the run";
+    case BOLFREGA_TURNED_AWAY:
+        return "turned away: the sheet does not accept the run";
+    case BOLFREGA_DERIVED:
+        return "derived: the run is one of the plan's";
+    case BOLFREGA_NOT_DERIVED:
+        return "not derived: the run is none of the plan's";
+    case BOLFREGA_LISTED:
+        return "listed: the gaps and doubles are in the list";
+    case BOLFREGA_CONVERTED:
+        return "converted: the result is in the output";
+    case BOLFREGA_WRITTEN:
+        return "written: the run is in the buffer";
+    case BOLFREGA_STEP_RULE:
+        return "rule: the record is a rule";
+    case BOLFREGA_STEP_MOVE:
+        return "move: the record is a move";
+    case BOLFREGA_STEP_FINISHING:
+        return "finishing: the record is a finishing stage";
+    case BOLFREGA_STEP_ENDED:
+        return "ended: there is no further record";
+    default:
+        return "an unknown number: no answer";
+    }
+}
+
+/*
+ * The version of the library's interface, BOLFREGA_VERSION or above.
  *
  * Version 2 adds bolfrega_check_from, bolfrega_unfold_from and BOLFREGA_PROCEDURE. Version 3 adds bolfrega_check_rows, bolfrega_write, bolfrega_step
- * and bolfrega_moves. What the versions before had is unchanged.
+ * and bolfrega_moves, with number 9. What the versions before had is unchanged.
  */
 uint64_t bolfrega_version(void);
 
@@ -151,18 +277,19 @@ uint64_t bolfrega_version(void);
 uint64_t bolfrega_refusal(const uint8_t *file, size_t file_length, uint64_t *record);
 
 /*
- * Reads the record at place `from` of a file, from 0. To read a whole file, begin at 0 and go on at *next until BOLFREGA_ENDED.
+ * Reads the record at place `from` of a file, from 0. To read a whole file, begin at 0 and go on at *next until BOLFREGA_STEP_ENDED.
  *
- * Returns 1 or 2 by the file's length; else BOLFREGA_ENDED if there is no record at `from`; else 3 to 7 or 12 if that record is refused: 6 and 7 look
- * at the records before it, which are not checked again; else BOLFREGA_RULE, BOLFREGA_MOVE or BOLFREGA_FINISHING.
- * Sets all four values to what the record says, and to 0 if none came. Sets *next to `from` + 1 if a record came, and else to `from`. Sets *record
- * to `from` if it returns 3 to 7 or 12, and else to 0.
+ * Returns 1 or 2 by the file's length; else BOLFREGA_STEP_ENDED if there is no record at `from`; else 3 to 7 or 12 if that record is refused: 6 and 7
+ * look at the records before it, which are not checked again; else BOLFREGA_STEP_RULE, BOLFREGA_STEP_MOVE or BOLFREGA_STEP_FINISHING.
+ * Sets all values to what the record says, and to 0 if none came. Sets *next to `from` + 1 if a record came, and else to `from`. Sets *record to
+ * `from` if it returns 3 to 7 or 12, and else to 0.
  */
-uint64_t bolfrega_step(const uint8_t *file, size_t file_length, size_t from, uint64_t *record, uint64_t values[4], uint64_t *next);
+uint64_t bolfrega_step(const uint8_t *file, size_t file_length, size_t from, uint64_t *record, uint64_t values[BOLFREGA_STEP_VALUES],
+                       uint64_t *next);
 
 /*
- * Says where the moves of a file stand in it: they are the *length bytes from file + *offset on. There are none if *length is 0, and both are 0 if the
- * file is refused: this call gives no number.
+ * Says where the moves of a file stand in it: they are the *length bytes from file + *offset on. There are none if *length is 0, and both are 0 if
+ * the file is refused: this call gives no number.
  */
 void bolfrega_moves(const uint8_t *file, size_t file_length, uint64_t *offset, uint64_t *length);
 
@@ -172,6 +299,8 @@ void bolfrega_moves(const uint8_t *file, size_t file_length, uint64_t *offset, u
  * Returns 1 to 7 or 12 if the file is refused; else 11 if the run is refused; else BOLFREGA_ACCEPTED if the sheet has a path on the run from
  * stage 0 to a finishing stage, and BOLFREGA_TURNED_AWAY if it has none.
  * Sets *record as bolfrega_refusal does: to 0 if it returns anything but 3 to 7 or 12.
+ *
+ * It keeps tables of about 4 KiB on the stack.
  */
 uint64_t bolfrega_judge(const uint8_t *file, size_t file_length, const uint8_t *run, size_t run_length, uint64_t *record);
 
@@ -258,6 +387,8 @@ uint64_t bolfrega_unfold(const uint8_t *file, size_t file_length, uint64_t *reco
  * symbols.
  * Sets *record to the number of the record at fault, from 0, if it returns 3 to 7 or 12, and else to 0. Sets *length, and the output, as
  * bolfrega_widen does.
+ *
+ * It needs the stack of bolfrega_unfold.
  */
 uint64_t bolfrega_unfold_from(const uint8_t *file, size_t file_length, uint64_t starts, uint64_t *record, uint64_t *length, uint8_t *out,
                               size_t out_length);
@@ -265,7 +396,7 @@ uint64_t bolfrega_unfold_from(const uint8_t *file, size_t file_length, uint64_t 
 /*
  * Checks a file's plan, the runs of procedure 0, against its order sheet, with a journal of `rows` rows and a budget of `budget` joins.
  *
- * It keeps its journal (352 KiB) and its tables (about 345 KiB) on the stack, and writing a run takes up to 576 KiB more (144 bytes for
+ * It keeps its journal (352 KiB) and its tables (about 411 KiB) on the stack, and writing a run takes up to 578 KiB more (144 bytes for
  * each row on the way down): a thread that calls it needs a stack of 1.5 MiB to be on the safe side. (The main thread of a Linux program
  * has 8 MiB.)
  *
@@ -286,7 +417,7 @@ uint64_t bolfrega_unfold_from(const uint8_t *file, size_t file_length, uint64_t 
  * Every byte of the buffer keeps its value but those of a run that is written. Once it returns BOLFREGA_HOLDS, BOLFREGA_BROKEN or
  * BOLFREGA_EMPTY, more rows (up to 4,096) or a larger budget change nothing that it returns, sets or writes.
  */
-uint64_t bolfrega_check(const uint8_t *file, size_t file_length, size_t rows, uint64_t budget, uint64_t details[8], uint8_t *buffer,
+uint64_t bolfrega_check(const uint8_t *file, size_t file_length, size_t rows, uint64_t budget, uint64_t details[BOLFREGA_DETAILS], uint8_t *buffer,
                         size_t buffer_length);
 
 /*
@@ -307,8 +438,8 @@ uint64_t bolfrega_check(const uint8_t *file, size_t file_length, size_t rows, ui
  * Every byte of the buffer keeps its value but those of a run that is written. Once it returns BOLFREGA_HOLDS, BOLFREGA_BROKEN or
  * BOLFREGA_EMPTY, more rows (up to 4,096) or a larger budget change nothing that it returns, sets or writes.
  */
-uint64_t bolfrega_check_from(const uint8_t *file, size_t file_length, uint64_t starts, size_t rows, uint64_t budget, uint64_t details[9],
-                             uint8_t *buffer, size_t buffer_length);
+uint64_t bolfrega_check_from(const uint8_t *file, size_t file_length, uint64_t starts, size_t rows, uint64_t budget,
+                             uint64_t details[BOLFREGA_DETAILS_FROM], uint8_t *buffer, size_t buffer_length);
 
 /*
  * Checks a file's plan as bolfrega_check_from does, over `rows` rows of the host's own, and writes no run: bolfrega_write does that, of any row.
@@ -316,13 +447,14 @@ uint64_t bolfrega_check_from(const uint8_t *file, size_t file_length, uint64_t s
  * It works in the lent `cells` and `near`. These and the rows may hold anything: nothing is cleared but what is read, so that a check of a tiny
  * file takes about a microsecond, and a host that checks many files lends the same areas again. It keeps about 7 KiB on the stack.
  *
- * Returns, and sets all nine details, as bolfrega_check_from does, but for REFUSED, which is 0.
+ * Returns, and sets all nine details, as bolfrega_check_from does, but for BOLFREGA_REFUSED, which is 0.
  *
  * The first `used` rows become those of the check. All other rows keep their contents, and so do all of them if the call is refused. What `cells`
  * and `near` hold after the call is of no use.
  */
 uint64_t bolfrega_check_rows(const uint8_t *file, size_t file_length, uint64_t starts, uint64_t budget, struct bolfrega_row *journal,
-                             size_t rows, uint32_t cells[BOLFREGA_TABLE_CELLS], uint64_t near[BOLFREGA_NEAR_WORDS], uint64_t details[9]);
+                             size_t rows, uint32_t cells[BOLFREGA_TABLE_CELLS], uint64_t near[BOLFREGA_NEAR_WORDS],
+                             uint64_t details[BOLFREGA_DETAILS_FROM]);
 
 /*
  * Writes the run behind row `row` of a journal of `rows` rows, of which `used` are used: that of a broken check, or any other that it stored.
@@ -334,7 +466,7 @@ uint64_t bolfrega_check_rows(const uint8_t *file, size_t file_length, uint64_t s
  * refuses.
  *
  * The first *length bytes of the buffer become the run. All other bytes of the buffer keep their values, and so do all of them if the call is
- * refused. It takes up to 576 KiB of stack (144 bytes for each row on the way down).
+ * refused. It takes up to 578 KiB of stack (144 bytes for each row on the way down).
  */
 uint64_t bolfrega_write(const uint8_t *file, size_t file_length, const struct bolfrega_row *journal, size_t rows, size_t used, size_t row,
                         uint64_t *record, uint64_t *length, uint8_t *buffer, size_t buffer_length);

@@ -3,7 +3,8 @@
 //! Many rest on groups of mappings of the stages: no mapping contains another, so that a group of n gives n live rows, and the number of
 //! joins can be told beforehand. Most use eight stages, as every file did before C-14; those whose names begin with `sixteen` use all.
 
-use plain::making::{plan_a, plan_b, procedure, Making, Numbers};
+use bolfrega::{procedure, FileBuilder};
+use making::{plan_a, plan_b, Numbers};
 use plain::FIRST_REMARK;
 
 /// A file and what it is checked with.
@@ -17,7 +18,7 @@ pub struct Case {
 }
 
 impl Case {
-    fn new(name: &str, making: &Making) -> Case {
+    fn new(name: &str, making: &FileBuilder) -> Case {
         Case {
             name: name.to_string(),
             file: making.bytes(),
@@ -139,7 +140,7 @@ pub fn by_moves() -> Growth {
 
 /// 128 codes, remarks among them, each in two rules of its own: two passes, and two or three live rows for each of 64 procedures.
 fn nothing_but_codes() -> Case {
-    let mut making = Making::new();
+    let mut making = FileBuilder::new();
     full_sheet(&mut making, || RING[0]);
     for code in 0..128 {
         making.rule(code % 64, &[code, code]).rule(code % 64, &[code]);
@@ -150,7 +151,7 @@ fn nothing_but_codes() -> Case {
 
 /// A long chain: 64 procedures with one live row each, which come one to a pass.
 fn chain() -> Case {
-    let mut making = Making::new();
+    let mut making = FileBuilder::new();
     full_sheet(&mut making, || RING[0]);
     for code in 0..FIRST_DOUBLE {
         making.rule(63, &[code]);
@@ -165,8 +166,8 @@ fn chain() -> Case {
 }
 
 /// 64 procedures with up to eight live rows each: pairs of procedures at random, over the turns of a ring.
-fn ring(rules: usize) -> Making {
-    let mut making = Making::new();
+fn ring(rules: usize) -> FileBuilder {
+    let mut making = FileBuilder::new();
     making.mapping(0, RING[0]);
     pairs_at_random(&mut making, 7, rules, |_| 0);
     finish_everywhere(&mut making, 8);
@@ -174,8 +175,8 @@ fn ring(rules: usize) -> Making {
 }
 
 /// The same over the turns of a ring of all sixteen stages.
-fn ring_of_sixteen() -> Making {
-    let mut making = Making::new();
+fn ring_of_sixteen() -> FileBuilder {
+    let mut making = FileBuilder::new();
     making.mapping(0, RING_OF_16);
     pairs_at_random(&mut making, 7, 256, |_| 0);
     finish_everywhere(&mut making, 16);
@@ -194,10 +195,10 @@ fn two_cubes() -> Vec<Mapping16> {
 
 /// The largest file that holds: 256 rules, 64 procedures, 1,024 moves, 48 live rows for each procedure. Its rules use no code that leads
 /// to two stages.
-fn cube_largest() -> Making {
+fn cube_largest() -> FileBuilder {
     let symmetries = generated(&CUBE);
     let mut numbers = Numbers::new(8);
-    let mut making = Making::new();
+    let mut making = FileBuilder::new();
     full_sheet(&mut making, || numbers.pick(&symmetries));
     pairs_at_random(&mut making, 9, 256, |numbers| numbers.byte(FIRST_DOUBLE.into()));
     finish_everywhere(&mut making, 8);
@@ -205,10 +206,10 @@ fn cube_largest() -> Making {
 }
 
 /// Rules that add a code on the right, 120 of them, over 720 live rows.
-fn left_linear() -> Making {
+fn left_linear() -> FileBuilder {
     let orders = generated(&ORDERS_OF_SIX);
     let mut numbers = Numbers::new(10);
-    let mut making = Making::new();
+    let mut making = FileBuilder::new();
     making.rule(1, &[]);
     for code in 0..FIRST_REMARK {
         making.mapping(code, numbers.pick(&orders)).rule(1, &[procedure(1), code]);
@@ -217,8 +218,8 @@ fn left_linear() -> Making {
 }
 
 /// One procedure that gives each product of the mappings, as one live row each.
-fn closed<const STAGES: usize>(mappings: &[[u8; STAGES]]) -> Making {
-    let mut making = Making::new();
+fn closed<const STAGES: usize>(mappings: &[[u8; STAGES]]) -> FileBuilder {
+    let mut making = FileBuilder::new();
     for (code, &mapping) in (0..).zip(mappings) {
         making.mapping(code, mapping).rule(1, &[code]);
     }
@@ -227,7 +228,7 @@ fn closed<const STAGES: usize>(mappings: &[[u8; STAGES]]) -> Making {
 }
 
 /// A check that is broken late: procedure 0 takes the products only after some passes.
-fn broken_late() -> Making {
+fn broken_late() -> FileBuilder {
     let mut making = closed(&PROJECTIVE);
     delay(&mut making, 9);
     making.rule(0, &[procedure(20), procedure(1)]);
@@ -239,8 +240,8 @@ fn broken_late() -> Making {
 
 /// Many rows that retire: at first each code has some moves too many, and the codes without them come some passes later. In the end
 /// the 24 turns of a cube are live.
-fn retired(passes: u8, too_many: u8) -> Making {
-    let mut making = Making::new();
+fn retired(passes: u8, too_many: u8) -> FileBuilder {
+    let mut making = FileBuilder::new();
     for (code, &turn) in (0..).zip(&TURNS) {
         making.mapping(code, turn).rule(1, &[procedure(20), code]);
         making.mapping(64 + code, turn).rule(1, &[64 + code]);
@@ -254,7 +255,7 @@ fn retired(passes: u8, too_many: u8) -> Making {
 }
 
 /// More than a thousand rows retire, and then come many passes over few live rows.
-fn retired_and_chain() -> Making {
+fn retired_and_chain() -> FileBuilder {
     let mut making = retired(1, 1);
     for head in 30..63 {
         making.rule(head, &[procedure(head + 1)]);
@@ -285,7 +286,7 @@ fn many_passes() -> Case {
 /// takes these rows by `DONE`, which leads from the last stage of each ring to its first, and from the others to stage 15. So a product
 /// leads from some ring's first stage to stage 15, and an effect of `FIRSTS` covers it, unless all three rings have come to their last
 /// stage together: then it is the effect of `START` again.
-fn counters(making: &mut Making, count: u8) {
+fn counters(making: &mut FileBuilder, count: u8) {
     const RINGS: [std::ops::Range<u8>; 3] = [0..3, 3..8, 8..15];
     const TURN: u8 = 110;
     const DONE: u8 = 111;
@@ -312,8 +313,8 @@ fn counters(making: &mut Making, count: u8) {
 
 /// Candidates that each look through thousands of rows: procedure 1 has 3,600 rows that cover none of them, and after those two, of which
 /// now the one covers the next candidate and now the other. Few candidates are alike, so that no hint helps.
-fn holes() -> Making {
-    let mut making = Making::new();
+fn holes() -> FileBuilder {
+    let mut making = FileBuilder::new();
     // The orders of stages 0 to 4, 120 of them, times the turns of rings of 2, 3 and 5 stages, 30 of them.
     let still: Mapping16 = std::array::from_fn(|stage| stage as u8);
     let ring = |mut to: Mapping16, ring: std::ops::Range<u8>| {
@@ -335,7 +336,7 @@ fn holes() -> Making {
 
 /// The two rows that cover, which come late, and the candidates, which come later: the orders of stages 0 to 4, each with a move from stage
 /// 15 to itself and with one to stage 14, and then one of 60 codes.
-fn hole_candidates(making: &mut Making) {
+fn hole_candidates(making: &mut FileBuilder) {
     delay(making, 12);
     let mut numbers = Numbers::new(12);
     for (code, to) in [(3, 15), (4, 14)] {
@@ -356,7 +357,7 @@ fn hole_candidates(making: &mut Making) {
 }
 
 /// Lets procedure 20 give nothing, from a pass on.
-fn delay(making: &mut Making, passes: u8) {
+fn delay(making: &mut FileBuilder, passes: u8) {
     for head in 20..20 + passes {
         making.rule(head, &[procedure(head + 1)]);
     }
@@ -364,9 +365,9 @@ fn delay(making: &mut Making, passes: u8) {
 }
 
 /// A few procedures over codes whose moves are drawn at random: rows that cover and retire each other, until an empty effect covers all.
-fn random_relations(stages: usize, seed: u64, procedures: usize, codes: u8, moves: usize) -> Making {
+fn random_relations(stages: usize, seed: u64, procedures: usize, codes: u8, moves: usize) -> FileBuilder {
     let mut numbers = Numbers::new(seed);
-    let mut making = Making::new();
+    let mut making = FileBuilder::new();
     for _ in 0..moves {
         making.step(numbers.byte(stages), numbers.byte(codes.into()), numbers.byte(stages));
     }
@@ -381,9 +382,9 @@ fn random_relations(stages: usize, seed: u64, procedures: usize, codes: u8, move
 }
 
 /// 256 rules, in which any code stands, 64 procedures and 1,024 moves at random.
-fn random_largest() -> Making {
+fn random_largest() -> FileBuilder {
     let mut numbers = Numbers::new(3);
-    let mut making = Making::new();
+    let mut making = FileBuilder::new();
     full_sheet(&mut making, || std::array::from_fn(|_| numbers.byte(8)));
     pairs_at_random(&mut making, 11, 256, |numbers| numbers.byte(128));
     finish_everywhere(&mut making, 8);
@@ -391,7 +392,7 @@ fn random_largest() -> Making {
 }
 
 /// Rules over 64 procedures: a code for procedure 63, and pairs of procedures or a procedure and a code.
-fn pairs_at_random(making: &mut Making, seed: u64, rules: usize, code: impl Fn(&mut Numbers) -> u8) {
+fn pairs_at_random(making: &mut FileBuilder, seed: u64, rules: usize, code: impl Fn(&mut Numbers) -> u8) {
     let mut numbers = Numbers::new(seed);
     making.rule(63, &[code(&mut numbers)]);
     for head in 0..63 {
@@ -410,7 +411,7 @@ fn pairs_at_random(making: &mut Making, seed: u64, rules: usize, code: impl Fn(&
 }
 
 /// Adds 1,024 moves: a mapping for each code that is no remark, and for the last eight of them the next stages besides.
-fn full_sheet(making: &mut Making, mut mapping: impl FnMut() -> Mapping) {
+fn full_sheet(making: &mut FileBuilder, mut mapping: impl FnMut() -> Mapping) {
     for code in 0..FIRST_REMARK {
         let to = mapping();
         making.mapping(code, to);
@@ -421,7 +422,7 @@ fn full_sheet(making: &mut Making, mut mapping: impl FnMut() -> Mapping) {
 }
 
 /// Makes every stage below `stages` finishing, so that no mapping of these is rejecting.
-fn finish_everywhere(making: &mut Making, stages: u8) {
+fn finish_everywhere(making: &mut FileBuilder, stages: u8) {
     (0..stages).for_each(|stage| {
         making.finishing(stage);
     });

@@ -1,6 +1,6 @@
 //! Moving the largest files over and back, and unfolding the largest sixteen-byte files.
 
-use plain::making::{procedure, Making};
+use bolfrega::{procedure, FileBuilder};
 use std::hint::black_box;
 use std::time::{Duration, Instant};
 
@@ -26,16 +26,21 @@ fn all() -> Vec<Case> {
         plain,
     };
     vec![
-        case("widen", old_rules(Making::new()).bytes(), bolfrega::raw::widen, plain::widen),
+        case(
+            "widen",
+            old_rules(FileBuilder::new()).bytes(),
+            bolfrega::raw::widen,
+            plain::widen,
+        ),
         case(
             "narrow",
-            old_rules(Making::wide()).bytes(),
+            old_rules(FileBuilder::wide()).bytes(),
             bolfrega::raw::narrow,
             plain::narrow,
         ),
         case(
             "unfold-short",
-            old_rules(Making::wide()).bytes(),
+            old_rules(FileBuilder::wide()).bytes(),
             bolfrega::raw::unfold,
             plain::unfold,
         ),
@@ -44,7 +49,7 @@ fn all() -> Vec<Case> {
 }
 
 /// 1,024 moves and 16 finishing stages.
-fn sheet<const WIDTH: usize>(mut making: Making<WIDTH>) -> Making<WIDTH> {
+fn sheet<const WIDTH: usize>(mut making: FileBuilder<WIDTH>) -> FileBuilder<WIDTH> {
     for code in 0..64 {
         for from in 0..16 {
             making.step(from, code, (from + code) % 16);
@@ -57,7 +62,7 @@ fn sheet<const WIDTH: usize>(mut making: Making<WIDTH>) -> Making<WIDTH> {
 }
 
 /// The largest file: 256 rules of two symbols, with the sheet.
-fn old_rules<const WIDTH: usize>(making: Making<WIDTH>) -> Making<WIDTH> {
+fn old_rules<const WIDTH: usize>(making: FileBuilder<WIDTH>) -> FileBuilder<WIDTH> {
     let mut making = sheet(making);
     for rule in 0..=255 {
         making.rule(rule / 4, &[procedure(63 - rule / 4), rule % 128]);
@@ -67,8 +72,8 @@ fn old_rules<const WIDTH: usize>(making: Making<WIDTH>) -> Making<WIDTH> {
 
 /// 256 rules after unfolding, with the sheet: the seven rules of procedure 0 take all 62 chain procedures that are left, and the 187 rules of
 /// procedure 1 come after them and stand before the rules of the chain procedures in the result.
-fn long_rules() -> Making<16> {
-    let mut making = sheet(Making::wide());
+fn long_rules() -> FileBuilder<16> {
+    let mut making = sheet(FileBuilder::wide());
     (0..6).for_each(|code| {
         making.rule(0, &[code; 12]);
     });

@@ -1,6 +1,6 @@
 //! Listing a sheet's gaps and doubles, on the largest sheets.
 
-use plain::making::Making;
+use bolfrega::FileBuilder;
 use std::hint::black_box;
 use std::time::{Duration, Instant};
 
@@ -15,7 +15,7 @@ struct Case {
 }
 
 fn all() -> Vec<Case> {
-    let case = |name, making: Making| Case {
+    let case = |name, making: FileBuilder| Case {
         name,
         file: making.bytes(),
     };
@@ -27,8 +27,8 @@ fn all() -> Vec<Case> {
 }
 
 /// 1,024 moves: one for each of 16 stages and 64 codes.
-fn no_gap() -> Making {
-    let mut making = Making::new();
+fn no_gap() -> FileBuilder {
+    let mut making = FileBuilder::new();
     for code in 0..64 {
         for from in 0..16 {
             making.step(from, code, (from + code) % 16);
@@ -38,8 +38,8 @@ fn no_gap() -> Making {
 }
 
 /// 1,024 moves, of which no pair of a stage and a code has one alone; every stage and every code is used.
-fn every_pair() -> Making {
-    let mut making = Making::new();
+fn every_pair() -> FileBuilder {
+    let mut making = FileBuilder::new();
     for code in 0..120 {
         for from in 0..4 {
             making.step(from, code, 0).step(from, code, 15);
@@ -55,7 +55,7 @@ fn every_pair() -> Making {
 }
 
 /// The same with 256 rules.
-fn largest_file() -> Making {
+fn largest_file() -> FileBuilder {
     let mut making = every_pair();
     for rule in 0..=255 {
         making.rule(rule / 4, &[rule % 128]);

@@ -17,10 +17,13 @@ use std::path::Path;
 use std::process::ExitCode;
 use std::time::Duration;
 use std::{env, fs, io};
-use timing::{agree, measure, measure_proved, Outcome, Times};
+use timing::{agree, measure, measure_alone, measure_lent, Outcome, Times};
 
 /// Files with fewer joins say more about reading a file than about the search, and stay out of the summary.
 const MANY_JOINS: u64 = 10_000;
+
+/// The file that is hardly more than a call.
+const TINY: &str = "plan-a";
 
 fn main() -> ExitCode {
     let words: Vec<String> = env::args().skip(1).collect();
@@ -63,14 +66,17 @@ fn named(names: &[&str]) -> Result<Vec<Case>, String> {
     names.iter().map(|name| find(name).ok_or_else(|| unknown(name))).collect()
 }
 
-/// Checks every file with all three checks, and measures nothing. The plain ones must agree in each row of the journal, too.
+/// Checks every file with each check, and measures nothing. The plain ones must agree in each row of the journal, too.
 fn all_agree() -> Result<(), String> {
     let cases = files::all();
     for case in &cases {
         agree(case)?;
         same_journals(case)?;
     }
-    println!("bench: the three checks agree on {} files", cases.len());
+    println!(
+        "bench: the proved check, by both calls, and the plain ones agree on {} files",
+        cases.len()
+    );
     println!("bench: both agree on the runs of {} files", runs::agree()?);
     println!("bench: both agree on the lists of {} files", lists::agree()?);
     println!("bench: both agree on moving and unfolding {} files", forms::agree()?);
@@ -99,7 +105,7 @@ fn write_files(folder: &Path) -> io::Result<()> {
 
 /// A line for each file, and the summary.
 fn table(cases: &[Case]) -> Result<(), String> {
-    println!("Times are for one join. \"every\" is plain Rust that forms every candidate, \"semi-naive\" plain Rust that is semi-naive.");
+    println!("Times are for one join. \"proved\" is the proved check over lent rows, \"every\" plain Rust that forms every candidate, \"semi-naive\" plain Rust that is semi-naive.");
     println!();
     println!(
         "| {:<14} | {:<7} | {:>11} | {:>5} | {:>11} | {:>11} | {:>11} | {:>12} | {:>17} |",
@@ -118,6 +124,7 @@ fn table(cases: &[Case]) -> Result<(), String> {
         }
     }
     summary(&measured);
+    cases.iter().filter(|case| case.name == TINY).for_each(both_calls);
     Ok(())
 }
 
@@ -160,6 +167,15 @@ fn summary(measured: &[(&Case, Times)]) {
     }
 }
 
+/// The whole time of a tiny file by both calls of the library.
+fn both_calls(case: &Case) {
+    let [lent, alone] = [measure_lent(case), measure_alone(case)].map(|time| time.as_secs_f64() * 1e9);
+    println!(
+        "{}: {lent:.0} ns over lent rows (the aim: below 2000 ns), {alone:.0} ns by a check with rows of its own.",
+        case.name
+    );
+}
+
 fn summary_of(what: &str, ratios: &[f64], aim: &str) {
     if ratios.is_empty() {
         return;
@@ -172,10 +188,11 @@ fn summary_of(what: &str, ratios: &[f64], aim: &str) {
     );
 }
 
-/// The file that the check program takes longest for, by its proved check alone: with its journal and budget, without starting a process.
+/// The file that the check program takes longest for, by its proved check alone, with rows of its own: with its journal and budget, without starting
+/// a process.
 fn worst_of_program() -> Result<(), String> {
     let cases = files::all().into_iter().map(Case::of_check_program);
-    let timed = cases.map(|case| (measure_proved(&case), case));
+    let timed = cases.map(|case| (measure_alone(&case), case));
     let (time, worst) = timed.max_by_key(|(time, _)| *time).ok_or("there is no file")?;
     let outcome = agree(&worst)?;
     println!();

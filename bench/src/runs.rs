@@ -1,6 +1,7 @@
 //! Recognizing a recorded run of 64 steps, on files that cost most.
 
-use plain::making::{procedure, Making, Numbers};
+use bolfrega::{procedure, FileBuilder};
+use making::Numbers;
 use std::hint::black_box;
 use std::time::{Duration, Instant};
 
@@ -14,7 +15,7 @@ struct Case {
 }
 
 fn all() -> Vec<Case> {
-    let case = |name, making: Making| Case {
+    let case = |name, making: FileBuilder| Case {
         name,
         file: making.bytes(),
         run: vec![1; STEPS],
@@ -29,8 +30,8 @@ fn all() -> Vec<Case> {
 }
 
 /// Each procedure gives only the next, alone or beside one that gives nothing; the last gives the code, or two of itself.
-fn chain(beside: bool) -> Making {
-    let mut making = Making::new();
+fn chain(beside: bool) -> FileBuilder {
+    let mut making = FileBuilder::new();
     making.rule(62, &[1]).rule(62, &[procedure(62), procedure(62)]).rule(63, &[]);
     for p in 0..62 {
         if beside {
@@ -47,8 +48,8 @@ fn chain(beside: bool) -> Making {
 }
 
 /// Every procedure derives every stretch.
-fn all_pairs() -> Making {
-    let mut making = Making::new();
+fn all_pairs() -> FileBuilder {
+    let mut making = FileBuilder::new();
     for p in 0..64 {
         making.rule(p, &[1]);
         for other in [p, (p + 1) % 64, (p + 7) % 64] {
@@ -58,9 +59,9 @@ fn all_pairs() -> Making {
     making
 }
 
-fn random_rules() -> Making {
+fn random_rules() -> FileBuilder {
     let mut numbers = Numbers::new(41);
-    let mut making = Making::new();
+    let mut making = FileBuilder::new();
     while making.count(1) < 256 {
         let head = numbers.byte(64);
         let mut symbol = || if numbers.once_in(4) { 1 } else { procedure(numbers.byte(64)) };
@@ -71,8 +72,8 @@ fn random_rules() -> Making {
 }
 
 /// Every procedure gives nothing, and each gives the next two.
-fn all_empty() -> Making {
-    let mut making = Making::new();
+fn all_empty() -> FileBuilder {
+    let mut making = FileBuilder::new();
     for p in 0..64 {
         making
             .rule(p, &[])

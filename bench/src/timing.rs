@@ -1,7 +1,10 @@
-//! The three checks on one file: that they agree, and how long each takes.
+//! The checks on one file: that they agree, and how long each takes. The proved one is there over lent rows, and with rows of its own.
 
 use crate::files::Case;
+use bolfrega::raw::{Cells, Near};
+use bolfrega::{Row, Starts, VerdictRows, MOST_ROWS, NEAR_WORDS, TABLE_CELLS};
 use plain::{Checked, Refusal};
+use std::cell::RefCell;
 use std::hint::black_box;
 use std::time::{Duration, Instant};
 
@@ -14,7 +17,7 @@ pub struct Outcome {
     pub pass: u64,
 }
 
-/// The least times of one check: by the proved library, by plain Rust that forms every candidate, and by semi-naive plain Rust.
+/// The least times of one check: by the proved library over lent rows, by plain Rust that forms every candidate, and by semi-naive plain Rust.
 #[derive(Clone, Copy)]
 pub struct Times {
     pub proved: Duration,
@@ -43,13 +46,13 @@ const LEAST_ROUNDS: usize = 7;
 /// A check that takes longer than this is measured by one call.
 const SLOW: Duration = Duration::from_secs(5);
 
-/// Checks the case with all three. An error says how they differ.
+/// Checks the case with each. An error says how they differ.
 pub fn agree(case: &Case) -> Result<Outcome, String> {
-    let outcomes = Which::of(case).map(|which| (which.check(case), which));
+    let outcomes = Which::of(case).chain([Which::Alone]).map(|which| (which.check(case), which));
     same(case, &outcomes.collect::<Vec<_>>())
 }
 
-/// Checks the case with all three, which must agree, and measures them in turn. Returns the least time of each.
+/// Checks the case with the three of a table, which must agree, and measures them in turn. Returns the least time of each.
 pub fn measure(case: &Case) -> Result<(Outcome, Times), String> {
     let began = Instant::now();
     let mut clocks: Vec<Clock> = Which::of(case).map(|which| Clock::new(case, which)).collect();
@@ -65,16 +68,25 @@ pub fn measure(case: &Case) -> Result<(Outcome, Times), String> {
     let least = |which| clocks.iter().find(|clock| clock.which == which).map(|clock| clock.least);
     let always = "each case is checked with it";
     let times = Times {
-        proved: least(Which::Proved).expect(always),
+        proved: least(Which::Lent).expect(always),
         every: least(Which::Every),
         semi_naive: least(Which::SemiNaive).expect(always),
     };
     Ok((outcome, times))
 }
 
-/// The least time of one proved check.
-pub fn measure_proved(case: &Case) -> Duration {
-    let mut clock = Clock::new(case, Which::Proved);
+/// The least time of one proved check that has rows of its own.
+pub fn measure_alone(case: &Case) -> Duration {
+    least(case, Which::Alone)
+}
+
+/// The least time of one proved check over lent rows.
+pub fn measure_lent(case: &Case) -> Duration {
+    least(case, Which::Lent)
+}
+
+fn least(case: &Case, which: Which) -> Duration {
+    let mut clock = Clock::new(case, which);
     (0..LEAST_ROUNDS).for_each(|_| clock.measure(case));
     clock.least
 }
@@ -87,18 +99,21 @@ fn same(case: &Case, outcomes: &[(Option<Outcome>, Which)]) -> Result<Outcome, S
     }
 }
 
-/// One of the three checks.
+/// One of the checks.
 #[derive(Clone, Copy, Debug, PartialEq, Eq)]
 enum Which {
-    Proved,
+    /// The proved one, over lent rows.
+    Lent,
+    /// The proved one, with rows of its own.
+    Alone,
     Every,
     SemiNaive,
 }
 
 impl Which {
-    /// Those that the case is checked with.
+    /// Those of a table that the case is checked with.
     fn of(case: &Case) -> impl Iterator<Item = Which> + '_ {
-        [Which::Proved, Which::Every, Which::SemiNaive]
+        [Which::Lent, Which::Every, Which::SemiNaive]
             .into_iter()
             .filter(|&which| which != Which::Every || case.by_every)
     }
@@ -106,7 +121,8 @@ impl Which {
     /// Checks the case; `None` is a refusal.
     fn check(self, case: &Case) -> Option<Outcome> {
         match self {
-            Which::Proved => proved(case),
+            Which::Lent => lent(case),
+            Which::Alone => alone(case),
             Which::Every => plainly(case, plain::check),
             Which::SemiNaive => plainly(case, plain::check_semi_naive),
         }
@@ -162,8 +178,50 @@ fn average(case: &Case, count: u32, which: Which) -> Duration {
     began.elapsed() / count
 }
 
-/// The proved check, through the library.
-fn proved(case: &Case) -> Option<Outcome> {
+/// What the check over lent rows works in: made once, and lent for each check with what the one before has left there.
+struct Lent {
+    rows: Vec<Row>,
+    cells: Box<Cells>,
+    near: Box<Near>,
+}
+
+thread_local! {
+    static LENT: RefCell<Lent> = RefCell::new(Lent {
+        rows: vec![Row::default(); MOST_ROWS],
+        cells: vec![0; TABLE_CELLS].try_into().expect("as many"),
+        near: vec![0; NEAR_WORDS].try_into().expect("as many"),
+    });
+}
+
+/// The proved check over lent rows, and the run of a broken one.
+fn lent(case: &Case) -> Option<Outcome> {
+    let mut buffer = [0; ROOM];
+    LENT.with_borrow_mut(|Lent { rows, cells, near }| {
+        let rows = &mut rows[..case.rows];
+        let answer = bolfrega::check_rows(&case.file, Starts::INITIAL, case.budget, rows, cells, near).ok()?;
+        let verdict = match answer.verdict {
+            VerdictRows::Holds => "holds",
+            VerdictRows::Broken(broken) => {
+                // A run that is too long for the buffer is refused here as in the other checks.
+                let _ = black_box(bolfrega::write(&case.file, rows, answer.used, broken.row, &mut buffer));
+                "broken"
+            }
+            VerdictRows::Full => "full",
+            VerdictRows::Spent => "spent",
+            VerdictRows::Empty => "empty",
+            other => panic!("{other:?}"),
+        };
+        Some(Outcome {
+            verdict,
+            joins: answer.joins,
+            used: answer.used as u64,
+            pass: answer.pass,
+        })
+    })
+}
+
+/// The proved check with rows of its own.
+fn alone(case: &Case) -> Option<Outcome> {
     let mut buffer = [0; ROOM];
     let answer = bolfrega::check(&case.file, case.rows, case.budget, &mut buffer).ok()?;
     let verdict = match answer.verdict {

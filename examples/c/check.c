@@ -22,12 +22,10 @@ int main(int argc, char **argv)
     if (file == NULL)
         return 2;
 
-    uint64_t details[8];
-    uint8_t run[ROOM];
-    uint64_t code = bolfrega_check(file, length, ROWS, BUDGET, details, run, sizeof run);
+    uint64_t details[BOLFREGA_DETAILS];
+    uint8_t run[BOLFREGA_PROGRAM_ROOM];
+    uint64_t code = bolfrega_check(file, length, BOLFREGA_PROGRAM_ROWS, BOLFREGA_PROGRAM_BUDGET, details, run, sizeof run);
     free(file);
-    print_answer(code, details, run);
-    if (!written())
-        return 2;
-    return status_of(code);
+    int status = print_answer(code, details, run);
+    return written() ? status : 2;
 }

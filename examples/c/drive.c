@@ -9,10 +9,8 @@
 #include "bolfrega.h"
 #include "io.h"
 
-#include <inttypes.h>
-
 /* Prints the answer, and returns the exit status that goes with it. */
-static int print_answer(uint64_t code)
+static int print_answer(uint64_t code, uint64_t record)
 {
     switch (code) {
     case BOLFREGA_DERIVED:
@@ -22,8 +20,7 @@ static int print_answer(uint64_t code)
         printf("not derived\n");
         return 1;
     default:
-        printf("refused %" PRIu64 "\n", code);
-        return 3;
+        return print_refusal(code, record);
     }
 }
 
@@ -57,7 +54,8 @@ int main(int argc, char **argv)
     int status = 2;
     if (run != NULL && file != NULL) {
         uint64_t record, table[BOLFREGA_CELLS];
-        status = print_answer(bolfrega_recognize(file, length, run, steps, &record, table, BOLFREGA_CELLS));
+        uint64_t code = bolfrega_recognize(file, length, run, steps, &record, table, BOLFREGA_CELLS);
+        status = print_answer(code, record);
     }
     free(file);
     free(run);

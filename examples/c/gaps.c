@@ -10,15 +10,11 @@
 #include "bolfrega.h"
 #include "io.h"
 
-#include <inttypes.h>
-
 /* Prints the answer, and returns the exit status that goes with it. */
-static int print_answer(uint64_t code, uint64_t entries, const uint8_t *list)
+static int print_answer(uint64_t code, uint64_t record, uint64_t entries, const uint8_t *list)
 {
-    if (code != BOLFREGA_LISTED) {
-        printf("refused %" PRIu64 "\n", code);
-        return 3;
-    }
+    if (code != BOLFREGA_LISTED)
+        return print_refusal(code, record);
     for (uint64_t i = 0; i < entries; i++) {
         const uint8_t *entry = list + i * BOLFREGA_ENTRY_BYTES;
         printf("%d %d %d\n", entry[0], entry[1], entry[2]);
@@ -39,7 +35,7 @@ int main(int argc, char **argv)
     uint64_t record, entries;
     uint8_t list[BOLFREGA_LIST_BYTES];
     uint64_t code = bolfrega_list(file, length, &record, &entries, list, sizeof list);
-    int status = print_answer(code, entries, list);
+    int status = print_answer(code, record, entries, list);
     free(file);
     return written() ? status : 2;
 }

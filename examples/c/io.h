@@ -1,7 +1,10 @@
-/* What the examples share: a file read whole, a number among the words, and an answer that was written. */
+/* What the examples share: a file read whole, a number among the words, a refusal, and an answer that was written. */
 #ifndef EXAMPLES_IO_H
 #define EXAMPLES_IO_H
 
+#include "bolfrega.h"
+
+#include <inttypes.h>
 #include <stdint.h>
 #include <stdio.h>
 #include <stdlib.h>
@@ -53,6 +56,19 @@ static inline int read_number(const char *text, unsigned long most, uint8_t *num
         return 0;
     *number = (uint8_t)value;
     return 1;
+}
+
+/* Prints a number that is no answer of the call that gave it, and says on standard error what it means, with the record where it names one. Returns
+ * the exit status: 3 for a refusal, and 2 for a number that is none, which is not printed. */
+static inline int print_refusal(uint64_t number, uint64_t record)
+{
+    if ((number >= BOLFREGA_REFUSAL_KIND && number <= BOLFREGA_REFUSAL_COUNT) || number == BOLFREGA_REFUSAL_REMARK)
+        fprintf(stderr, "record %" PRIu64 ": ", record);
+    fprintf(stderr, "%s (%" PRIu64 ")\n", bolfrega_message(number), number);
+    if (number < 1 || number > 99)
+        return 2;
+    printf("refused %" PRIu64 "\n", number);
+    return 3;
 }
 
 /* Whether all that was printed was written. An answer that was not is none. */

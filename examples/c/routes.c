@@ -18,7 +18,7 @@ static int read_starts(char **words, int count, uint64_t *starts)
     *starts = 0;
     for (int i = 0; i < count; i++) {
         uint8_t procedure;
-        if (!read_number(words[i], 63, &procedure)) {
+        if (!read_number(words[i], BOLFREGA_PROCEDURES - 1, &procedure)) {
             fprintf(stderr, "routes: %s is no procedure\n", words[i]);
             return 0;
         }
@@ -42,12 +42,12 @@ int main(int argc, char **argv)
     if (file == NULL)
         return 2;
 
-    uint64_t details[9];
-    uint8_t run[ROOM];
-    uint64_t code = bolfrega_check_from(file, length, starts, ROWS, BUDGET, details, run, sizeof run);
+    uint64_t details[BOLFREGA_DETAILS_FROM];
+    uint8_t run[BOLFREGA_PROGRAM_ROOM];
+    uint64_t code = bolfrega_check_from(file, length, starts, BOLFREGA_PROGRAM_ROWS, BOLFREGA_PROGRAM_BUDGET, details, run, sizeof run);
     free(file);
-    print_answer(code, details, run);
+    int status = print_answer(code, details, run);
     if (code == BOLFREGA_BROKEN)
         printf("procedure %" PRIu64 "\n", details[BOLFREGA_PROCEDURE]);
-    return written() ? status_of(code) : 2;
+    return written() ? status : 2;
 }

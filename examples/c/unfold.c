@@ -36,15 +36,16 @@ int main(int argc, char **argv)
         return 2;
 
     static uint8_t file[BOLFREGA_FILE_BYTES];
-    uint64_t record, length, details[8];
-    uint8_t run[ROOM];
+    uint64_t record, length, details[BOLFREGA_DETAILS];
+    uint8_t run[BOLFREGA_PROGRAM_ROOM];
     uint64_t code = bolfrega_unfold(wide, wide_length, &record, &length, file, sizeof file);
+    details[BOLFREGA_RECORD] = record;
     free(wide);
     if (code == BOLFREGA_CONVERTED) {
         if (argc == 3 && !write_file(argv[2], file, (size_t)length))
             return 2;
-        code = bolfrega_check(file, (size_t)length, ROWS, BUDGET, details, run, sizeof run);
+        code = bolfrega_check(file, (size_t)length, BOLFREGA_PROGRAM_ROWS, BOLFREGA_PROGRAM_BUDGET, details, run, sizeof run);
     }
-    print_answer(code, details, run);
-    return written() ? status_of(code) : 2;
+    int status = print_answer(code, details, run);
+    return written() ? status : 2;
 }

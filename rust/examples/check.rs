@@ -8,6 +8,7 @@
 mod answer;
 
 use answer::{status, text};
+use bolfrega::{PROGRAM_BUDGET, PROGRAM_ROOM, PROGRAM_ROWS};
 use std::io::Write;
 use std::process::ExitCode;
 use std::{env, fs, io};
@@ -24,8 +25,8 @@ fn main() -> ExitCode {
             return ExitCode::from(2);
         }
     };
-    let mut buffer = [0; 4_096];
-    let reply = bolfrega::check(&file, 1_024, 1_000_000, &mut buffer);
+    let mut buffer = [0; PROGRAM_ROOM];
+    let reply = bolfrega::check(&file, PROGRAM_ROWS, PROGRAM_BUDGET, &mut buffer);
     if let Err(refusal) = &reply {
         eprintln!("check: {refusal}");
     }

@@ -4,6 +4,7 @@
 //!
 //! Exit status: 0 derived, 1 not derived, 2 no answer (the file cannot be read, a step is no code, or the answer not written), 3 refused.
 
+use bolfrega::Refusal;
 use std::io::Write;
 use std::process::ExitCode;
 use std::{env, fs, io};
@@ -26,8 +27,8 @@ fn drive() -> Result<u8, String> {
     let run = words.map(step).collect::<Result<Vec<u8>, String>>()?;
     let file = fs::read(&path).map_err(|error| format!("{path}: {error}"))?;
     let (text, status) = match bolfrega::recognize(&file, &run) {
-        Ok(found) if found.derived() => ("derived\n".to_string(), 0),
-        Ok(_) => ("not derived\n".to_string(), 1),
+        Ok(found) => (format!("{found}\n"), u8::from(!found.derived())),
+        Err(Refusal::Unknown { number }) => return Err(format!("the library gave {number}, an unknown number")),
         Err(refusal) => (format!("refused {}\n", refusal.number()), 3),
     };
     let mut output = io::stdout().lock();

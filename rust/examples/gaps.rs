@@ -5,6 +5,7 @@
 //!
 //! Exit status: 0 no entry, 1 some entries, 2 no answer (the file cannot be read, or the answer not written), 3 refused.
 
+use bolfrega::Refusal;
 use std::io::Write;
 use std::process::ExitCode;
 use std::{env, fs, io};
@@ -26,9 +27,10 @@ fn list() -> Result<u8, String> {
     let (text, status) = match bolfrega::gaps(&file) {
         Ok(gaps) => {
             let status = u8::from(gaps.len() > 0);
-            let lines = gaps.map(|gap| format!("{} {} {}\n", gap.stage, gap.code, gap.moves));
+            let lines = gaps.map(|gap| format!("{gap}\n"));
             (lines.collect::<String>(), status)
         }
+        Err(Refusal::Unknown { number }) => return Err(format!("the library gave {number}, an unknown number")),
         Err(refusal) => (format!("refused {}\n", refusal.number()), 3),
     };
     let mut output = io::stdout().lock();

@@ -9,7 +9,7 @@
 mod answer;
 
 use answer::{status, text};
-use bolfrega::Starts;
+use bolfrega::{Starts, PROGRAM_BUDGET, PROGRAM_ROOM, PROGRAM_ROWS};
 use std::io::Write;
 use std::process::ExitCode;
 use std::{env, fs, io};
@@ -38,8 +38,8 @@ fn routes() -> Result<u8, String> {
     };
     let starts = procedures.iter().try_fold(Starts::NONE, member)?;
     let file = fs::read(path).map_err(|error| format!("{path}: {error}"))?;
-    let mut buffer = [0; 4_096];
-    let told = bolfrega::check_from(&file, starts, 1_024, 1_000_000, &mut buffer);
+    let mut buffer = [0; PROGRAM_ROOM];
+    let told = bolfrega::check_from(&file, starts, PROGRAM_ROWS, PROGRAM_BUDGET, &mut buffer);
     if let Err(refusal) = &told {
         eprintln!("routes: {refusal}");
     }

@@ -9,6 +9,7 @@
 mod answer;
 
 use answer::{status, text};
+use bolfrega::{PROGRAM_BUDGET, PROGRAM_ROOM, PROGRAM_ROWS};
 use std::io::Write;
 use std::process::ExitCode;
 use std::{env, fs, io};
@@ -32,8 +33,8 @@ fn unfold() -> Result<u8, String> {
     if let (Ok(file), Some(path)) = (&unfolded, words.next()) {
         fs::write(&path, file).map_err(|error| format!("{path}: {error}"))?;
     }
-    let mut buffer = [0; 4_096];
-    let reply = unfolded.and_then(|file| bolfrega::check(&file, 1_024, 1_000_000, &mut buffer));
+    let mut buffer = [0; PROGRAM_ROOM];
+    let reply = unfolded.and_then(|file| bolfrega::check(&file, PROGRAM_ROWS, PROGRAM_BUDGET, &mut buffer));
     if let Err(refusal) = &reply {
         eprintln!("unfold: {refusal}");
     }

@@ -1,10 +1,8 @@
 //! Gaps and doubles of an order sheet: what was forgotten in it, and what stands there more than once.
 
-use crate::{raw, refused, Refusal};
-use std::fmt;
-
-/// The bytes of a list buffer: three for each of 16 stages and 120 codes.
-pub const LIST_BYTES: usize = 5_760;
+use crate::{raw, Refusal, LIST_BYTES};
+use core::fmt;
+use core::iter::FusedIterator;
 
 const ENTRY: usize = 3;
 
@@ -19,10 +17,17 @@ pub struct Gap {
     pub moves: u8,
 }
 
+/// Stage, code and number of moves, with a blank between them.
+impl fmt::Display for Gap {
+    fn fmt(&self, f: &mut fmt::Formatter<'_>) -> fmt::Result {
+        write!(f, "{} {} {}", self.stage, self.code, self.moves)
+    }
+}
+
 /// The gaps and doubles of a sheet, stages rising, then codes; [`gaps`] makes one.
 #[derive(Clone)]
 pub struct Gaps {
-    list: Box<[u8; LIST_BYTES]>,
+    list: [u8; LIST_BYTES],
     next: usize,
     end: usize,
 }
@@ -51,6 +56,8 @@ impl Iterator for Gaps {
 
 impl ExactSizeIterator for Gaps {}
 
+impl FusedIterator for Gaps {}
+
 impl fmt::Debug for Gaps {
     fn fmt(&self, f: &mut fmt::Formatter<'_>) -> fmt::Result {
         f.debug_list().entries(self.clone()).finish()
@@ -77,14 +84,17 @@ impl fmt::Debug for Gaps {
 /// # Ok::<(), bolfrega::Refusal>(())
 /// ```
 pub fn gaps(file: &[u8]) -> Result<Gaps, Refusal> {
-    let mut list = Box::new([0; LIST_BYTES]);
+    let mut gaps = Gaps {
+        list: [0; LIST_BYTES],
+        next: 0,
+        end: 0,
+    };
     let (mut record, mut entries) = (0, 0);
-    match raw::list(file, &mut record, &mut entries, &mut list[..]) {
-        raw::LISTED => Ok(Gaps {
-            list,
-            next: 0,
-            end: entries as usize * ENTRY,
-        }),
-        number => Err(refused(number, record)),
+    match raw::list(file, &mut record, &mut entries, &mut gaps.list) {
+        raw::LISTED => {
+            gaps.end = entries as usize * ENTRY;
+            Ok(gaps)
+        }
+        number => Err(Refusal::from_number(number, record)),
     }
 }

@@ -7,7 +7,7 @@
 //! an input, however damaged.
 //!
 //! ```
-//! use bolfrega::{check, Verdict};
+//! use bolfrega::{check, Verdict, PROGRAM_BUDGET, PROGRAM_ROOM, PROGRAM_ROWS};
 //!
 //! // Plan B of document 01 with its sheet S: the plan lets an index row (code 2) be left out.
 //! let file = [
@@ -23,9 +23,10 @@
 //! ]
 //! .concat();
 //!
-//! let mut buffer = [0; 4_096];
-//! let answer = check(&file, 1_024, 1_000_000, &mut buffer)?;
-//! assert_eq!((answer.joins, answer.used, answer.pass), (12, 7, 4));
+//! // As the check program does it: 1,024 rows, 1,000,000 joins, 4,096 bytes for a run.
+//! let mut buffer = [0; PROGRAM_ROOM];
+//! let answer = check(&file, PROGRAM_ROWS, PROGRAM_BUDGET, &mut buffer)?;
+//! assert_eq!(answer.to_string(), "broken 12 7 4\n6 0 2\n1 3");
 //! let Verdict::Broken(broken) = answer.verdict else { panic!("plan B has a run that is turned away") };
 //! assert_eq!(broken.run, Ok(&[1, 3][..]));
 //! # Ok::<(), bolfrega::Refusal>(())
@@ -48,101 +49,87 @@
 //! One file serves many routes, each with its own first procedure. [`check_from`] and [`unfold_from`] take the set of these, [`Starts`];
 //! [`check`] and [`unfold`] are for procedure 0 alone.
 //!
+//! # Lent rows
+//!
+//! A check keeps a journal, a row for each effect that it keeps. [`check_rows`] works over rows of the caller's own, and [`Journal`] has some: the
+//! rows can be seen, [`write()`] writes the run behind any of them, and a host that checks many files pays for no clearing.
+//!
 //! # Linking
 //!
-//! The build links `libbolfrega.a` from the folder in `BOLFREGA_LIB_DIR`, or from `../target/staticlib`, where
-//! `rt staticlib bolfrega` leaves it. The archive is for x86-64 Linux.
+//! The build links `libbolfrega.a` from the folder in `BOLFREGA_LIB_DIR`; or from the crate's own folder `lib`, where a release has it; or from
+//! `../target/staticlib`, where `rt staticlib bolfrega` leaves it. The archive is for x86-64 Linux. Without it `cargo doc` works, and nothing
+//! else does.
+//!
+//! The crate is `no_std`. With the feature `alloc`, which is on by default, there are also [`FileBuilder`], [`Journal`] and the calls whose result
+//! has memory of its own: [`check_owned`], [`widen`], [`narrow`], [`unfold`], [`unfold_from`]. Without it nothing is allocated.
 //!
 //! # Stack
 //!
-//! [`check`], like [`check_from`], keeps its journal (352 KiB) and its tables (about 345 KiB) on the stack, and allocates nothing. Writing a
-//! run takes up to 576 KiB more (144 bytes for each row on the way down). A thread that calls it needs 1.5 MiB of stack to be on the safe
+//! [`check`], like [`check_from`], keeps its journal (352 KiB) and its tables (about 411 KiB) on the stack, and allocates nothing. Writing a
+//! run takes up to 578 KiB more (144 bytes for each row on the way down). A thread that calls it needs 1.5 MiB of stack to be on the safe
 //! side; Rust's threads have 2 MiB unless told otherwise.
 //!
 //! # Time
 //!
 //! As measured on one core of a server at 2.1 GHz, [`check`] takes some 25 microseconds for any file, then 5 to 50 nanoseconds for each join,
 //! and where hundreds or thousands of rows of one procedure are looked through for most joins, from 100 nanoseconds up to a microsecond. Joins
-//! of rows that were there in the pass before are only counted. A budget of 1,000,000 joins ends a call within about a second.
+//! of rows that were there in the pass before are only counted. A budget of 1,000,000 joins ends a call within about a second. [`check_rows`] takes
+//! about a microsecond for a tiny file.
 
+#![no_std]
 #![deny(unsafe_code)]
 #![warn(missing_docs)]
 
+#[cfg(feature = "alloc")]
+extern crate alloc;
+
+#[cfg(all(without_archive, not(doc)))]
+compile_error!(concat!(
+    env!("BOLFREGA_MISSING"),
+    " is not there: run `rt staticlib bolfrega` first, or set BOLFREGA_LIB_DIR to the folder that has libbolfrega.a"
+));
+
+mod answers;
+#[cfg(feature = "alloc")]
+mod builder;
 mod gaps;
+mod limits;
 pub mod raw;
 mod recognizing;
+mod records;
 mod refusal;
+mod rows;
 mod starts;
 mod wide;
 
-pub use gaps::{gaps, Gap, Gaps, LIST_BYTES};
-pub use recognizing::{recognize, Derivations, CELLS, MOST_STEPS};
+use answers::answer;
+
+pub use answers::{Answer, Broken, Judgement, Verdict};
+#[cfg(feature = "alloc")]
+pub use builder::FileBuilder;
+pub use gaps::{gaps, Gap, Gaps};
+pub use limits::*;
+pub use recognizing::{recognize, Derivations};
+pub use records::{moves, procedure, records, step, wide_records, wide_refusal, Record, Records, Symbol};
 pub use refusal::Refusal;
+#[cfg(feature = "alloc")]
+pub use rows::Journal;
+pub use rows::{check_rows, write, AnswerRows, BrokenRow, Row, VerdictRows};
 pub use starts::{check_from, AnswerFrom, Starts};
-pub use wide::{
-    narrow, narrow_into, unfold, unfold_from, unfold_from_into, unfold_into, widen, widen_into, FILE_BYTES, WIDE_BYTES,
-};
+#[cfg(feature = "alloc")]
+pub use starts::{check_owned, OwnedAnswer};
+#[cfg(feature = "alloc")]
+pub use wide::{narrow, unfold, unfold_from, widen};
+pub use wide::{narrow_into, unfold_from_into, unfold_into, widen_into};
 
-/// The most rows that a check's journal may have.
-pub const MOST_ROWS: usize = 4_096;
+/// The version of the library's interface that this crate is written for. [`version`] is this or above.
+pub const VERSION: u64 = 3;
 
-/// Whether a sheet accepts a run.
-#[derive(Clone, Copy, Debug, PartialEq, Eq, Hash)]
-#[non_exhaustive]
-pub enum Judgement {
-    /// The sheet has a path on the run from stage 0 to a finishing stage.
-    Accepted,
-    /// The sheet has no such path.
-    TurnedAway,
-}
-
-/// What a check says: the verdict, and how far the check went.
-#[derive(Clone, Copy, Debug, PartialEq, Eq, Hash)]
-pub struct Answer<'b> {
-    /// How the check ended.
-    pub verdict: Verdict<'b>,
-    /// The candidates formed.
-    pub joins: u64,
-    /// The journal rows used.
-    pub used: u64,
-    /// The pass in which the check ended, from 1.
-    pub pass: u64,
-}
-
-/// How a check ends. What each verdict means for several procedures is said at [`check_from`].
-#[derive(Clone, Copy, Debug, PartialEq, Eq, Hash)]
-#[non_exhaustive]
-pub enum Verdict<'b> {
-    /// The plan has a run, and the sheet accepts every one.
-    Holds,
-    /// The plan has a run that the sheet turns away, and this one is shown.
-    Broken(Broken<'b>),
-    /// The journal had no row left. With more rows the check may come to a verdict.
-    Full,
-    /// The joins reached the budget. With a larger one the check may come to a verdict.
-    Spent,
-    /// The plan has no run: procedure 0 never ends.
-    Empty,
-}
-
-/// The journal row at which a check was broken, and its run.
-#[derive(Clone, Copy, Debug, PartialEq, Eq, Hash)]
-pub struct Broken<'b> {
-    /// The row's number.
-    pub row: u64,
-    /// The number of stage pairs in the row's effect.
-    pub pairs: u64,
-    /// The run's length; 65,535 means that or more.
-    pub length: u64,
-    /// The run's step codes, at the front of the buffer that was lent; or [`Refusal::Room`], and the buffer is unchanged.
-    pub run: Result<&'b [u8], Refusal>,
-}
-
-/// The version of the library's interface. Since 2 it has [`check_from`] and [`unfold_from`], and since 3 the library has calls over a
-/// host's own rows, which this crate does not offer yet.
+/// The version of the library's interface. Since 2 it has [`check_from`] and [`unfold_from_into`], and since 3 [`check_rows`], [`write()`],
+/// [`step`] and [`moves`].
 ///
 /// ```
-/// assert_eq!(bolfrega::version(), 3);
+/// assert!(bolfrega::version() >= bolfrega::VERSION);
 /// ```
 pub fn version() -> u64 {
     raw::version()
@@ -163,7 +150,7 @@ pub fn refusal(file: &[u8]) -> Result<(), Refusal> {
     let mut record = 0;
     match raw::refusal(file, &mut record) {
         0 => Ok(()),
-        number => Err(refused(number, record)),
+        number => Err(Refusal::from_number(number, record)),
     }
 }
 
@@ -186,7 +173,7 @@ pub fn judge(file: &[u8], run: &[u8]) -> Result<Judgement, Refusal> {
     match raw::judge(file, run, &mut record) {
         raw::ACCEPTED => Ok(Judgement::Accepted),
         raw::TURNED_AWAY => Ok(Judgement::TurnedAway),
-        number => Err(refused(number, record)),
+        number => Err(Refusal::from_number(number, record)),
     }
 }
 
@@ -197,7 +184,7 @@ pub fn judge(file: &[u8], run: &[u8]) -> Result<Judgement, Refusal> {
 /// with any other answer and with a refusal. It refuses a file with 1 to 7 or 12, and then with 8 a number of rows that is 0 or above
 /// [`MOST_ROWS`]. More rows and a larger budget never change an answer that is `Holds`, `Broken` or `Empty`.
 ///
-/// It keeps about 700 KiB on the stack ([see above](crate#stack)).
+/// It keeps about 765 KiB on the stack ([see above](crate#stack)).
 ///
 /// ```
 /// use bolfrega::{check, Refusal, Verdict};
@@ -214,40 +201,7 @@ pub fn judge(file: &[u8], run: &[u8]) -> Result<Judgement, Refusal> {
 /// # Ok::<(), Refusal>(())
 /// ```
 pub fn check<'b>(file: &[u8], rows: usize, budget: u64, buffer: &'b mut [u8]) -> Result<Answer<'b>, Refusal> {
-    let mut details = [0; 8];
+    let mut details = raw::Details::default();
     let code = raw::check(file, rows, budget, &mut details, buffer);
     answer(code, details, buffer)
-}
-
-/// The answer with a code and details that the library gave, or the refusal.
-fn answer(code: u64, details: raw::Details, buffer: &[u8]) -> Result<Answer<'_>, Refusal> {
-    let [record, joins, used, pass, ..] = details;
-    let verdict = match code {
-        raw::HOLDS => Verdict::Holds,
-        raw::BROKEN => Verdict::Broken(broken(details, buffer)),
-        raw::FULL => Verdict::Full,
-        raw::SPENT => Verdict::Spent,
-        raw::EMPTY => Verdict::Empty,
-        number => return Err(refused(number, record)),
-    };
-    Ok(Answer {
-        verdict,
-        joins,
-        used,
-        pass,
-    })
-}
-
-/// What a broken answer shows; its run is at the front of the buffer if it was written.
-fn broken([.., row, pairs, length, number]: raw::Details, buffer: &[u8]) -> Broken<'_> {
-    let run = match number {
-        0 => Ok(&buffer[..length as usize]),
-        _ => Err(refused(number, 0)),
-    };
-    Broken { row, pairs, length, run }
-}
-
-/// The refusal with a number that the library gave.
-fn refused(number: u64, record: u64) -> Refusal {
-    Refusal::from_number(number, record).expect("the library's contract has no other number")
 }

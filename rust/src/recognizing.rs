@@ -1,19 +1,13 @@
 //! Recorded runs: whether the plan derives one, and which procedures derive each stretch of it.
 
-use crate::{raw, refused, Refusal};
-use std::fmt;
-use std::ops::Range;
-
-/// The most steps of a recorded run.
-pub const MOST_STEPS: usize = 64;
-
-/// The cells of the table of a recorded run: one for each stretch from step i up to step j with 0 ≤ i ≤ j ≤ 64.
-pub const CELLS: usize = 2_145;
+use crate::{raw, Refusal, CELLS, MOST_STEPS, PROCEDURES};
+use core::fmt;
+use core::ops::Range;
 
 /// Which procedures derive each stretch of a recorded run; [`recognize`] makes one.
 #[derive(Clone, PartialEq, Eq)]
 pub struct Derivations {
-    table: Box<[u64; CELLS]>,
+    table: [u64; CELLS],
     steps: usize,
 }
 
@@ -27,7 +21,7 @@ impl Derivations {
     ///
     /// No procedure above 63 derives anything, and neither does any a stretch that is not within the run.
     pub fn derives(&self, procedure: u8, stretch: Range<usize>) -> bool {
-        procedure < 64 && self.procedures(stretch) >> procedure & 1 == 1
+        procedure < PROCEDURES && self.procedures(stretch) >> procedure & 1 == 1
     }
 
     /// The procedures that derive a stretch, bit p for procedure p; 0 for a stretch that is not within the run.
@@ -51,6 +45,13 @@ impl Derivations {
     }
 }
 
+/// `derived` or `not derived`: whether procedure 0 derives the whole run.
+impl fmt::Display for Derivations {
+    fn fmt(&self, f: &mut fmt::Formatter<'_>) -> fmt::Result {
+        f.pad(if self.derived() { "derived" } else { "not derived" })
+    }
+}
+
 impl fmt::Debug for Derivations {
     fn fmt(&self, f: &mut fmt::Formatter<'_>) -> fmt::Result {
         f.debug_struct("Derivations")
@@ -63,7 +64,8 @@ impl fmt::Debug for Derivations {
 /// Says which procedures of a file's plan derive each stretch of a recorded run of at most [`MOST_STEPS`] steps. Every step code counts as a
 /// step here, whatever the sheet says of it.
 ///
-/// It refuses a file with 1 to 7 or 12, then a run with 11, and then with 13 a run that is longer. It keeps about 36 KiB on the stack.
+/// It refuses a file with 1 to 7 or 12, then a run with 11, and then with 13 a run that is longer. It keeps about 36 KiB on the stack, beside
+/// the table of the result, 17 KiB by value.
 ///
 /// ```
 /// use bolfrega::{recognize, Refusal};
@@ -84,15 +86,18 @@ impl fmt::Debug for Derivations {
 /// # Ok::<(), Refusal>(())
 /// ```
 pub fn recognize(file: &[u8], run: &[u8]) -> Result<Derivations, Refusal> {
-    let mut table = Box::new([0; CELLS]);
+    let mut found = Derivations {
+        table: [0; CELLS],
+        steps: run.len(),
+    };
     let mut record = 0;
-    match raw::recognize(file, run, &mut record, &mut table[..]) {
-        raw::DERIVED | raw::NOT_DERIVED => Ok(Derivations { table, steps: run.len() }),
-        number => Err(refused(number, record)),
+    match raw::recognize(file, run, &mut record, &mut found.table) {
+        raw::DERIVED | raw::NOT_DERIVED => Ok(found),
+        number => Err(Refusal::from_number(number, record)),
     }
 }
 
 /// The cell of the stretch from step `i` up to step `j`.
 fn cell(i: usize, j: usize) -> usize {
-    i * (131 - i) / 2 + (j - i)
+    i * (2 * MOST_STEPS + 3 - i) / 2 + (j - i)
 }

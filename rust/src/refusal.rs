@@ -1,12 +1,14 @@
 //! The numbers that a call refuses with.
 
-use std::error::Error;
-use std::fmt;
+use crate::raw;
+use core::error::Error;
+use core::fmt;
 
 /// Why a call refused. Each case is one of the numbers of documents 01 and 02; 3 to 7 and 12 name the first record at fault,
 /// counted from 0.
 ///
-/// The numbers 9, 19 and above belong to calls that this library doesn't have.
+/// The numbers 19 and above belong to calls that this library doesn't have. A number that this crate does not know is [`Refusal::Unknown`],
+/// and never an answer.
 ///
 /// ```
 /// use bolfrega::Refusal;
@@ -19,7 +21,7 @@ use std::fmt;
 /// ```
 #[derive(Clone, Copy, Debug, PartialEq, Eq, Hash)]
 #[non_exhaustive]
-#[allow(missing_docs)] // the field `record` is the same in each case, as said above
+#[allow(missing_docs)] // the fields are the same in each case, as said above
 pub enum Refusal {
     /// 1: the length of a file of eight-byte records is no multiple of 8.
     Length,
@@ -37,6 +39,9 @@ pub enum Refusal {
     Count { record: u64 },
     /// 8: the journal has no row or more than 4,096 rows.
     Journal,
+    /// 9: the row whose run is to be written is none of the used ones, or more rows are said to be used than there are, or a row up to it
+    /// does not fit: it is none that a check of the file could have stored.
+    Row,
     /// 10: the run to be written has 65,535 or more steps, or more than the buffer has bytes; or the output of a move or an unfolding is
     /// shorter than its result.
     Room,
@@ -56,29 +61,33 @@ pub enum Refusal {
     LongBody,
     /// 18: an unfolding needs procedure 64 or a 257th rule.
     Chains,
+    /// A number that this crate does not know, as a library of a later version might give it: there is no answer.
+    Unknown { number: u64 },
 }
 
 impl Refusal {
     /// The papers' number.
     pub fn number(self) -> u64 {
         match self {
-            Refusal::Length => 1,
-            Refusal::Records => 2,
-            Refusal::Kind { .. } => 3,
-            Refusal::AboveRange { .. } => 4,
-            Refusal::Unused { .. } => 5,
-            Refusal::Order { .. } => 6,
-            Refusal::Count { .. } => 7,
-            Refusal::Journal => 8,
-            Refusal::Room => 10,
-            Refusal::Run => 11,
-            Refusal::Remark { .. } => 12,
-            Refusal::LongRun => 13,
-            Refusal::Table => 14,
-            Refusal::List => 15,
-            Refusal::WideLength => 16,
-            Refusal::LongBody => 17,
-            Refusal::Chains => 18,
+            Refusal::Length => raw::REFUSAL_LENGTH,
+            Refusal::Records => raw::REFUSAL_RECORDS,
+            Refusal::Kind { .. } => raw::REFUSAL_KIND,
+            Refusal::AboveRange { .. } => raw::REFUSAL_ABOVE_RANGE,
+            Refusal::Unused { .. } => raw::REFUSAL_UNUSED,
+            Refusal::Order { .. } => raw::REFUSAL_ORDER,
+            Refusal::Count { .. } => raw::REFUSAL_COUNT,
+            Refusal::Journal => raw::REFUSAL_JOURNAL,
+            Refusal::Row => raw::REFUSAL_ROW,
+            Refusal::Room => raw::REFUSAL_ROOM,
+            Refusal::Run => raw::REFUSAL_RUN,
+            Refusal::Remark { .. } => raw::REFUSAL_REMARK,
+            Refusal::LongRun => raw::REFUSAL_LONG_RUN,
+            Refusal::Table => raw::REFUSAL_TABLE,
+            Refusal::List => raw::REFUSAL_LIST,
+            Refusal::WideLength => raw::REFUSAL_WIDE_LENGTH,
+            Refusal::LongBody => raw::REFUSAL_LONG_BODY,
+            Refusal::Chains => raw::REFUSAL_CHAINS,
+            Refusal::Unknown { number } => number,
         }
     }
 
@@ -94,6 +103,7 @@ impl Refusal {
             Refusal::Length
             | Refusal::Records
             | Refusal::Journal
+            | Refusal::Row
             | Refusal::Room
             | Refusal::Run
             | Refusal::LongRun
@@ -101,36 +111,38 @@ impl Refusal {
             | Refusal::List
             | Refusal::WideLength
             | Refusal::LongBody
-            | Refusal::Chains => None,
+            | Refusal::Chains
+            | Refusal::Unknown { .. } => None,
         }
     }
 
-    /// The refusal with a number, if it is one that the library gives.
-    pub(crate) fn from_number(number: u64, record: u64) -> Option<Refusal> {
-        Some(match number {
-            1 => Refusal::Length,
-            2 => Refusal::Records,
-            3 => Refusal::Kind { record },
-            4 => Refusal::AboveRange { record },
-            5 => Refusal::Unused { record },
-            6 => Refusal::Order { record },
-            7 => Refusal::Count { record },
-            8 => Refusal::Journal,
-            10 => Refusal::Room,
-            11 => Refusal::Run,
-            12 => Refusal::Remark { record },
-            13 => Refusal::LongRun,
-            14 => Refusal::Table,
-            15 => Refusal::List,
-            16 => Refusal::WideLength,
-            17 => Refusal::LongBody,
-            18 => Refusal::Chains,
-            _ => return None,
-        })
+    /// The refusal with a number that the library gave, which is no answer of the call.
+    pub(crate) fn from_number(number: u64, record: u64) -> Refusal {
+        match number {
+            raw::REFUSAL_LENGTH => Refusal::Length,
+            raw::REFUSAL_RECORDS => Refusal::Records,
+            raw::REFUSAL_KIND => Refusal::Kind { record },
+            raw::REFUSAL_ABOVE_RANGE => Refusal::AboveRange { record },
+            raw::REFUSAL_UNUSED => Refusal::Unused { record },
+            raw::REFUSAL_ORDER => Refusal::Order { record },
+            raw::REFUSAL_COUNT => Refusal::Count { record },
+            raw::REFUSAL_JOURNAL => Refusal::Journal,
+            raw::REFUSAL_ROW => Refusal::Row,
+            raw::REFUSAL_ROOM => Refusal::Room,
+            raw::REFUSAL_RUN => Refusal::Run,
+            raw::REFUSAL_REMARK => Refusal::Remark { record },
+            raw::REFUSAL_LONG_RUN => Refusal::LongRun,
+            raw::REFUSAL_TABLE => Refusal::Table,
+            raw::REFUSAL_LIST => Refusal::List,
+            raw::REFUSAL_WIDE_LENGTH => Refusal::WideLength,
+            raw::REFUSAL_LONG_BODY => Refusal::LongBody,
+            raw::REFUSAL_CHAINS => Refusal::Chains,
+            _ => Refusal::Unknown { number },
+        }
     }
 
-    /// What is wrong, in the paper's words.
-    fn reason(self) -> &'static str {
+    /// What is wrong, in the words of the C header.
+    pub fn message(self) -> &'static str {
         match self {
             Refusal::Length => "the file's length is no multiple of 8",
             Refusal::Records => "the file has more than 1,296 records",
@@ -140,6 +152,9 @@ impl Refusal {
             Refusal::Order { .. } => "it does not exceed the record before it",
             Refusal::Count { .. } => "it is the 257th rule or the 1,025th move",
             Refusal::Journal => "the journal has no row or more than 4,096 rows",
+            Refusal::Row => {
+                "the row is not used, or more rows are used than there are, or a row up to it is none of a check of this file"
+            }
             Refusal::Room => {
                 "the run has 65,535 or more steps or more than the buffer has bytes, or the output is shorter than the result"
             }
@@ -151,6 +166,7 @@ impl Refusal {
             Refusal::WideLength => "the file's length is no multiple of 16",
             Refusal::LongBody => "a body has more than two symbols",
             Refusal::Chains => "the unfolding needs procedure 64 or a 257th rule",
+            Refusal::Unknown { .. } => "an unknown number: no answer",
         }
     }
 }
@@ -160,7 +176,7 @@ impl fmt::Display for Refusal {
         if let Some(record) = self.record() {
             write!(f, "record {record}: ")?;
         }
-        write!(f, "{} ({})", self.reason(), self.number())
+        write!(f, "{} ({})", self.message(), self.number())
     }
 }
 

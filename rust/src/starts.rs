@@ -1,7 +1,12 @@
 //! Several starting procedures: one file serves many routes, each with its own first procedure.
 
-use crate::{answer, raw, Answer, Refusal};
-use std::fmt;
+use crate::answers::{answer, words};
+use crate::{raw, Answer, Refusal, PROCEDURES};
+#[cfg(feature = "alloc")]
+use crate::{Broken, Verdict, LONGEST_RUN};
+#[cfg(feature = "alloc")]
+use alloc::{vec, vec::Vec};
+use core::fmt;
 
 /// A set of starting procedures, each from 0 to 63.
 ///
@@ -44,7 +49,7 @@ impl Starts {
 
     /// The members and this procedure; `None` if it is above 63.
     pub const fn with(self, procedure: u8) -> Option<Starts> {
-        if procedure < 64 {
+        if procedure < PROCEDURES {
             Some(Starts(self.0 | 1 << procedure))
         } else {
             None
@@ -53,12 +58,19 @@ impl Starts {
 
     /// Whether a procedure is a member. None above 63 is.
     pub const fn contains(self, procedure: u8) -> bool {
-        procedure < 64 && self.0 >> procedure & 1 == 1
+        procedure < PROCEDURES && self.0 >> procedure & 1 == 1
     }
 
     /// The members, rising.
     pub fn procedures(self) -> impl Iterator<Item = u8> {
-        (0..64).filter(move |&procedure| self.contains(procedure))
+        (0..PROCEDURES).filter(move |&procedure| self.contains(procedure))
+    }
+}
+
+/// The members, rising, with a blank between them.
+impl fmt::Display for Starts {
+    fn fmt(&self, f: &mut fmt::Formatter<'_>) -> fmt::Result {
+        words(f, self.procedures())
     }
 }
 
@@ -78,13 +90,24 @@ pub struct AnswerFrom<'b> {
     pub procedure: Option<u8>,
 }
 
+/// The lines of the answer, and `procedure` with its number after those of a broken one; the last line without its end.
+impl fmt::Display for AnswerFrom<'_> {
+    fn fmt(&self, f: &mut fmt::Formatter<'_>) -> fmt::Result {
+        write!(f, "{}", self.answer)?;
+        match self.procedure {
+            Some(procedure) => write!(f, "\nprocedure {procedure}"),
+            None => Ok(()),
+        }
+    }
+}
+
 /// As [`check`](crate::check), for the runs of every procedure in `starts`. Of procedure 0 alone ([`Starts::INITIAL`]) it says what `check` says.
 ///
 /// `Broken`: a member has a run that the sheet turns away; the first that comes up is shown, whichever member's it is. `Empty`: some member has
 /// no run; `Holds`: each has one, and the sheet accepts every run of every member. Without a member ([`Starts::NONE`]) no check is broken or
 /// empty: it holds, unless the rows or the joins run out first.
 ///
-/// It refuses what `check` refuses, and keeps about 700 KiB on the stack ([see above](crate#stack)).
+/// It refuses what `check` refuses, and keeps about 765 KiB on the stack ([see above](crate#stack)).
 ///
 /// ```
 /// use bolfrega::{check_from, Starts, Verdict};
@@ -117,11 +140,65 @@ pub fn check_from<'b>(
     budget: u64,
     buffer: &'b mut [u8],
 ) -> Result<AnswerFrom<'b>, Refusal> {
-    let mut details = [0; 9];
+    let mut details = raw::DetailsFrom::default();
     let code = raw::check_from(file, starts.bits(), rows, budget, &mut details, buffer);
+    told(code, details, buffer)
+}
+
+/// The answer with a code and details that the library gave, or the refusal.
+fn told(code: u64, details: raw::DetailsFrom, buffer: &[u8]) -> Result<AnswerFrom<'_>, Refusal> {
     let [shared @ .., procedure] = details;
     Ok(AnswerFrom {
         answer: answer(code, shared, buffer)?,
         procedure: (code == raw::BROKEN).then_some(procedure as u8),
     })
+}
+
+/// An answer that borrows nothing: it has the bytes of its run; [`check_owned`] gives one.
+#[cfg(feature = "alloc")]
+#[derive(Clone, Debug, PartialEq, Eq, Hash)]
+pub struct OwnedAnswer {
+    code: u64,
+    details: raw::DetailsFrom,
+    run: Vec<u8>,
+}
+
+#[cfg(feature = "alloc")]
+impl OwnedAnswer {
+    /// The answer, which borrows its run from here.
+    pub fn told(&self) -> AnswerFrom<'_> {
+        told(self.code, self.details, &self.run).expect("a refusal does not come to be an answer")
+    }
+}
+
+/// The lines of the answer, as of [`AnswerFrom`].
+#[cfg(feature = "alloc")]
+impl fmt::Display for OwnedAnswer {
+    fn fmt(&self, f: &mut fmt::Formatter<'_>) -> fmt::Result {
+        self.told().fmt(f)
+    }
+}
+
+/// As [`check_from`], with room for every run that can be written, and an answer that borrows nothing.
+///
+/// ```
+/// use bolfrega::{check_owned, OwnedAnswer, Refusal, Starts, PROGRAM_BUDGET, PROGRAM_ROWS};
+///
+/// fn ask() -> Result<OwnedAnswer, Refusal> {
+///     let file = [1, 0, 1, 5, 0, 0, 0, 0]; // 0 gives 5, and no stage is finishing
+///     check_owned(&file, Starts::INITIAL, PROGRAM_ROWS, PROGRAM_BUDGET)
+/// }
+/// assert_eq!(ask()?.told().procedure, Some(0));
+/// assert_eq!(ask()?.to_string(), "broken 1 1 1\n0 0 1\n5\nprocedure 0");
+/// # Ok::<(), Refusal>(())
+/// ```
+#[cfg(feature = "alloc")]
+pub fn check_owned(file: &[u8], starts: Starts, rows: usize, budget: u64) -> Result<OwnedAnswer, Refusal> {
+    let (mut details, mut buffer) = (raw::DetailsFrom::default(), vec![0; LONGEST_RUN]);
+    let code = raw::check_from(file, starts.bits(), rows, budget, &mut details, &mut buffer);
+    let run = match told(code, details, &buffer)?.answer.verdict {
+        Verdict::Broken(Broken { run: Ok(run), .. }) => run.to_vec(),
+        _ => Vec::new(),
+    };
+    Ok(OwnedAnswer { code, details, run })
 }

@@ -1,13 +1,10 @@
 //! The two forms of plan records: moving a file from one to the other, and unfolding longer bodies for a check.
 
-use crate::{raw, refused, Refusal, Starts};
-
-/// The most bytes of a file of sixteen-byte records: 1,296 of them. An output of this length suffices for [`widen_into`].
-pub const WIDE_BYTES: usize = 20_736;
-
-/// The most bytes of a file of eight-byte records: 1,296 of them. An output of this length suffices for [`narrow_into`], [`unfold_into`] and
-/// [`unfold_from_into`].
-pub const FILE_BYTES: usize = 10_368;
+use crate::{raw, Refusal, Starts};
+#[cfg(feature = "alloc")]
+use crate::{FILE_BYTES, WIDE_BYTES};
+#[cfg(feature = "alloc")]
+use alloc::{vec, vec::Vec};
 
 /// Moves a file of eight-byte records over to [sixteen bytes](crate#sixteen-byte-records): every record gets eight zeros behind it.
 ///
@@ -23,6 +20,7 @@ pub const FILE_BYTES: usize = 10_368;
 /// assert_eq!(unfold(&wide)?, file);
 /// # Ok::<(), bolfrega::Refusal>(())
 /// ```
+#[cfg(feature = "alloc")]
 pub fn widen(file: &[u8]) -> Result<Vec<u8>, Refusal> {
     whole(raw::widen, file, WIDE_BYTES)
 }
@@ -60,6 +58,7 @@ pub fn widen_into(file: &[u8], out: &mut [u8]) -> Result<usize, Refusal> {
 /// assert_eq!(narrow(&long[..8]), Err(Refusal::WideLength));
 /// # Ok::<(), Refusal>(())
 /// ```
+#[cfg(feature = "alloc")]
 pub fn narrow(file: &[u8]) -> Result<Vec<u8>, Refusal> {
     whole(raw::narrow, file, FILE_BYTES)
 }
@@ -116,6 +115,7 @@ pub fn narrow_into(file: &[u8], out: &mut [u8]) -> Result<usize, Refusal> {
 /// assert_eq!(broken.run, Ok(&[1, 2, 3][..]));
 /// # Ok::<(), bolfrega::Refusal>(())
 /// ```
+#[cfg(feature = "alloc")]
 pub fn unfold(file: &[u8]) -> Result<Vec<u8>, Refusal> {
     whole(raw::unfold, file, FILE_BYTES)
 }
@@ -158,6 +158,7 @@ pub fn unfold_into(file: &[u8], out: &mut [u8]) -> Result<usize, Refusal> {
 /// assert_eq!(unfold_from(&wide, Starts::of([63]).unwrap()), Err(Refusal::Chains));
 /// # Ok::<(), Refusal>(())
 /// ```
+#[cfg(feature = "alloc")]
 pub fn unfold_from(file: &[u8], starts: Starts) -> Result<Vec<u8>, Refusal> {
     whole(from(starts), file, FILE_BYTES)
 }
@@ -196,11 +197,12 @@ fn into(call: impl Call, file: &[u8], out: &mut [u8]) -> Result<usize, Refusal> 
     let (mut record, mut length) = (0, 0);
     match call(file, &mut record, &mut length, out) {
         raw::CONVERTED => Ok(length as usize),
-        number => Err(refused(number, record)),
+        number => Err(Refusal::from_number(number, record)),
     }
 }
 
 /// The whole result, for which `most` bytes always suffice.
+#[cfg(feature = "alloc")]
 fn whole(call: impl Call, file: &[u8], most: usize) -> Result<Vec<u8>, Refusal> {
     let mut out = vec![0; most];
     let length = into(call, file, &mut out)?;

@@ -2,9 +2,9 @@
 
 mod common;
 
-use bolfrega::LIST_BYTES;
-use common::{listing, valid_file, Size};
-use plain::making::{sheet_s, Making, Numbers};
+use bolfrega::{raw, FileBuilder, LIST_BYTES};
+use common::listing;
+use making::{sheet_s, valid_file, Numbers, Size};
 
 const SMALL: Size = Size {
     procedures: 2,
@@ -32,7 +32,7 @@ fn many(seed: u64, size: Size, rounds: usize) -> [usize; 2] {
     for _ in 0..rounds {
         let file = valid_file(&mut numbers, size);
         let (code, _, entries, _) = listing(&file, LIST_BYTES + numbers.below(4));
-        assert_eq!(code, 114);
+        assert_eq!(code, raw::LISTED);
         if entries == 0 {
             one_path(&mut numbers, &file);
         }
@@ -83,7 +83,7 @@ fn large_sheets() {
 /// Two moves from stage 0 on each code, and all stages are finishing: every pair is listed.
 #[test]
 fn the_longest_list() {
-    let mut making = Making::new();
+    let mut making = FileBuilder::new();
     for code in 0..120 {
         making.step(0, code, 0).step(0, code, 15);
     }
@@ -91,13 +91,13 @@ fn the_longest_list() {
         making.finishing(stage);
     });
     let (code, _, entries, list) = listing(&making.bytes(), LIST_BYTES);
-    assert_eq!((code, entries, &list[5_757..]), (114, 1_920, &[15, 119, 0][..]));
+    assert_eq!((code, entries, &list[5_757..]), (raw::LISTED, 1_920, &[15, 119, 0][..]));
 }
 
 /// All sixteen moves of a stage on one code are counted.
 #[test]
 fn sixteen_moves() {
-    let mut making = Making::new();
+    let mut making = FileBuilder::new();
     (0..16).for_each(|to| {
         making.step(3, 119, to);
     });

@@ -2,9 +2,9 @@
 
 mod common;
 
-use bolfrega::{check, judge, refusal, Judgement, Refusal, Verdict};
+use bolfrega::{check, judge, procedure, raw, refusal, FileBuilder, Judgement, Refusal, Verdict};
 use common::{checking, judging, reading};
-use plain::making::{plan_a, plan_b, procedure, sheet_s, Making};
+use making::{plan_a, plan_b, sheet_s};
 use plain::FIRST_REMARK;
 
 const PLAN_A: &[u8] = include_bytes!("../../samples/plan-a.plan");
@@ -13,7 +13,7 @@ const REMARKS: &[u8] = include_bytes!("../../samples/remarks.plan");
 const ENDLESS: &[u8] = include_bytes!("../../samples/endless.plan");
 
 /// Plan A with sheet S, and a remark before each index row: 2 gives a remark and 3, and 3 gives what 2 gave.
-fn plan_a_with_a_remark() -> Making {
+fn plan_a_with_a_remark() -> FileBuilder {
     let mut making = sheet_s();
     making
         .rule(0, &[procedure(1), 3])
@@ -26,7 +26,7 @@ fn plan_a_with_a_remark() -> Making {
 
 /// A plan without its ending rule, with sheet S: 0 gives a tile row, an index row, and itself. "0 gives the close" was dropped, and only
 /// procedure 3 gives the close.
-fn endless() -> Making {
+fn endless() -> FileBuilder {
     let mut making = sheet_s();
     making
         .rule(0, &[procedure(1), procedure(0)])
@@ -120,7 +120,10 @@ fn plans_without_runs() {
     // Without the rule that ends procedure 0, and with it.
     assert_eq!(line(ENDLESS, 1_024, 1_000_000), ("empty", 8, 3, 3));
     assert_eq!(line(&endless().rule(0, &[3]).bytes(), 1_024, 1_000_000), ("holds", 12, 4, 3));
-    assert_eq!(line(&Making::new().rule(0, &[191]).bytes(), 1_024, 0), ("empty", 0, 0, 1));
+    assert_eq!(
+        line(&FileBuilder::new().rule(0, &[191]).bytes(), 1_024, 0),
+        ("empty", 0, 0, 1)
+    );
     // Full and spent come first, and the answer stays with more rows and joins.
     let headless = &PLAN_A[8..];
     assert_eq!(line(headless, 3, 9), ("empty", 9, 3, 4));
@@ -131,7 +134,7 @@ fn plans_without_runs() {
 
 #[test]
 fn only_nothing() {
-    let mut making = Making::new();
+    let mut making = FileBuilder::new();
     let file = making.rule(0, &[]).bytes();
     assert_eq!(line(&file, 1_024, 1_000_000), ("broken", 1, 1, 1));
     let mut buffer = [];
@@ -161,7 +164,7 @@ fn a_with_a_remark_holds() {
 #[test]
 fn remarks_alone() {
     // The run is written out with its remarks, and its effect has all sixteen pairs.
-    let mut making = Making::new();
+    let mut making = FileBuilder::new();
     let file = making.rule(0, &[FIRST_REMARK, 127]).bytes();
     assert_eq!(line(&file, 1_024, 1_000_000), ("broken", 1, 1, 1));
     let (_, details, buffer) = checking(&file, 1_024, 1_000_000, 3);
@@ -169,19 +172,19 @@ fn remarks_alone() {
         (&details[4..], &buffer[..]),
         (&[0, 16, 2, 0][..], &[FIRST_REMARK, 127, 202][..])
     );
-    assert_eq!(judging(&file, &[FIRST_REMARK, 127]), (111, 0));
+    assert_eq!(judging(&file, &[FIRST_REMARK, 127]), (raw::TURNED_AWAY, 0));
 
     let file = making.finishing(0).bytes();
     assert_eq!(line(&file, 1_024, 1_000_000), ("holds", 2, 1, 2));
-    assert_eq!(judging(&file, &[FIRST_REMARK, 127]), (110, 0));
+    assert_eq!(judging(&file, &[FIRST_REMARK, 127]), (raw::ACCEPTED, 0));
 }
 
 #[test]
 fn runs_with_remarks_on_s() {
     let file = sheet_s().bytes();
-    assert_eq!(judging(&file, &[1, FIRST_REMARK, 2, 127, 3]), (110, 0));
-    assert_eq!(judging(&file, &[1, FIRST_REMARK - 1, 2, 3]), (111, 0));
-    assert_eq!(judging(&file, &[1, FIRST_REMARK, 3]), (111, 0));
+    assert_eq!(judging(&file, &[1, FIRST_REMARK, 2, 127, 3]), (raw::ACCEPTED, 0));
+    assert_eq!(judging(&file, &[1, FIRST_REMARK - 1, 2, 3]), (raw::TURNED_AWAY, 0));
+    assert_eq!(judging(&file, &[1, FIRST_REMARK, 3]), (raw::TURNED_AWAY, 0));
 }
 
 #[test]
@@ -200,8 +203,8 @@ fn a_move_on_a_remark() {
 #[test]
 fn the_last_case() {
     assert_eq!(reading(&[0; 8 * 1_297]), (2, 0));
-    assert_eq!(reading(&Making::new().rule(0, &[191]).bytes()), (0, 0));
-    assert_eq!(reading(&Making::new().rule(0, &[192]).bytes()), (4, 0));
+    assert_eq!(reading(&FileBuilder::new().rule(0, &[191]).bytes()), (0, 0));
+    assert_eq!(reading(&FileBuilder::new().rule(0, &[192]).bytes()), (4, 0));
     assert_eq!(reading(&[3, 1, 0, 0, 0, 0, 0, 0].repeat(2)), (6, 1));
 }
 
@@ -226,5 +229,5 @@ fn words_of_a_refusal() {
 fn the_running_example_of_document_000() {
     let file = include_bytes!("../../samples/running-example.plan");
     let (code, details, buffer) = checking(file, 1_024, 1_000_000, 16);
-    assert_eq!((code, &buffer[..details[6] as usize]), (101, &[1, 4][..]));
+    assert_eq!((code, &buffer[..details[6] as usize]), (raw::BROKEN, &[1, 4][..]));
 }

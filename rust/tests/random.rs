@@ -2,8 +2,9 @@
 
 mod common;
 
-use common::{checking, judging, ordinary, valid_file, Size};
-use plain::making::Numbers;
+use bolfrega::raw;
+use common::{checking, judging, ordinary};
+use making::{valid_file, Numbers, Size};
 use plain::FIRST_REMARK;
 
 const TINY: Size = Size {
@@ -47,7 +48,7 @@ fn many(seed: u64, size: Size, rounds: usize) -> [usize; 5] {
         let budget = numbers.pick(&[0, 1, 2, 10, 100, 1_000, 5_000, 20_000]);
         let room = numbers.pick(&[0, 1, 2, 5, 40, 4_096]);
         let (code, ..) = checking(&file, rows, budget, room);
-        seen[code as usize - 100] += 1;
+        seen[code as usize - raw::HOLDS as usize] += 1;
     }
     seen
 }
@@ -92,7 +93,7 @@ fn around_the_answer() {
         let [_, joins, used, ..] = details;
         for budget in [0, 1, joins.saturating_sub(1), joins, joins + 1, u64::MAX] {
             // A larger budget is for answers that are firm: another check might never end in time.
-            if budget <= joins || [100, 101, 104].contains(&code) {
+            if budget <= joins || [raw::HOLDS, raw::BROKEN, raw::EMPTY].contains(&code) {
                 checking(&file, 1_024, budget, 300);
             }
         }
@@ -131,10 +132,10 @@ fn shown_runs() {
     for _ in 0..1_500 {
         let file = valid_file(&mut numbers, SMALL);
         let (code, details, buffer) = checking(&file, 1_024, 30_000, 300);
-        if code == 101 {
+        if code == raw::BROKEN {
             let length = details[6] as usize;
             let run = &buffer[..length];
-            assert_eq!(judging(&file, run), (111, 0));
+            assert_eq!(judging(&file, run), (raw::TURNED_AWAY, 0));
             checking(&file, 1_024, 30_000, length);
             checking(&file, 1_024, 30_000, length.saturating_sub(1));
             longest = longest.max(length);
@@ -159,7 +160,7 @@ fn runs_at_random() {
     for round in 0..3_000 {
         let file = valid_file(&mut numbers, SMALL);
         let run: Vec<u8> = (0..round % 12).map(|_| step_or_remark(&mut numbers)).collect();
-        seen[judging(&file, &run).0 as usize - 110] += 1;
+        seen[judging(&file, &run).0 as usize - raw::ACCEPTED as usize] += 1;
     }
     assert!(seen.iter().all(|&times| times > 200), "{seen:?}");
 }

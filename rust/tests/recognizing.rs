@@ -2,9 +2,9 @@
 
 mod common;
 
-use bolfrega::{recognize, CELLS};
-use common::{checking, judging, recognizing, valid_file, Size};
-use plain::making::{procedure, Making, Numbers};
+use bolfrega::{procedure, raw, recognize, FileBuilder, CELLS};
+use common::{checking, judging, recognizing};
+use making::{valid_file, Numbers, Size};
 
 const TINY: Size = Size {
     procedures: 2,
@@ -40,7 +40,7 @@ fn many(seed: u64, size: Size, rounds: usize, longest: usize) -> [usize; 2] {
         let steps = numbers.below(longest + 1);
         let run: Vec<u8> = (0..steps).map(|_| numbers.byte(size.codes)).collect();
         let (code, ..) = recognizing(&file, &run, CELLS);
-        seen[usize::from(code == 112)] += 1;
+        seen[usize::from(code == raw::DERIVED)] += 1;
     }
     seen
 }
@@ -79,12 +79,12 @@ fn beside_the_other_calls() {
         let (code, details, buffer) = checking(&file, 1_024, 30_000, 64);
         let run: Vec<u8> = (0..numbers.below(6)).map(|_| numbers.byte(SMALL.codes)).collect();
         match code {
-            101 if details[7] == 0 => {
-                assert_eq!(recognizing(&file, &buffer[..details[6] as usize], CELLS).0, 112);
+            raw::BROKEN if details[7] == 0 => {
+                assert_eq!(recognizing(&file, &buffer[..details[6] as usize], CELLS).0, raw::DERIVED);
                 shown += 1;
             }
-            100 if recognizing(&file, &run, CELLS).0 == 112 => {
-                assert_eq!(judging(&file, &run), (110, 0));
+            raw::HOLDS if recognizing(&file, &run, CELLS).0 == raw::DERIVED => {
+                assert_eq!(judging(&file, &run), (raw::ACCEPTED, 0));
                 accepted += 1;
             }
             _ => {}
@@ -96,7 +96,7 @@ fn beside_the_other_calls() {
 /// The numbers in their order: the file, 11, 13, 14; and a table that is left as it was.
 #[test]
 fn refusals() {
-    let mut making = Making::new();
+    let mut making = FileBuilder::new();
     let file = making.rule(0, &[5]).bytes();
     let long = [5; 65];
     let strange = [[5; 64].as_slice(), &[128]].concat();
@@ -110,15 +110,15 @@ fn refusals() {
     for cells in [0, 1, CELLS - 1, CELLS + 1, 4_290] {
         assert_eq!(recognizing(&file, &[5; 64], cells).0, 14);
     }
-    assert_eq!(recognizing(&file, &[5; 64], CELLS).0, 113);
-    assert_eq!(recognizing(&file, &[5], CELLS).0, 112);
-    assert_eq!(recognizing(&[], &[], CELLS).0, 113);
+    assert_eq!(recognizing(&file, &[5; 64], CELLS).0, raw::NOT_DERIVED);
+    assert_eq!(recognizing(&file, &[5], CELLS).0, raw::DERIVED);
+    assert_eq!(recognizing(&[], &[], CELLS).0, raw::NOT_DERIVED);
 }
 
 /// Chains of procedures that give only the next, cycles, empty bodies on both sides; the longest run.
 #[test]
 fn at_the_limits() {
-    let mut chain = Making::new();
+    let mut chain = FileBuilder::new();
     for p in 0..63 {
         chain
             .rule(p, &[procedure(p + 1)])
@@ -127,17 +127,17 @@ fn at_the_limits() {
     }
     chain.rule(63, &[]).rule(63, &[127]);
     let file = chain.bytes();
-    assert_eq!(recognizing(&file, &[127; 64], CELLS).0, 112);
-    assert_eq!(recognizing(&file, &[], CELLS).0, 112);
+    assert_eq!(recognizing(&file, &[127; 64], CELLS).0, raw::DERIVED);
+    assert_eq!(recognizing(&file, &[], CELLS).0, raw::DERIVED);
 
-    let mut ring = Making::new();
+    let mut ring = FileBuilder::new();
     for p in 0..64 {
         ring.rule(p, &[procedure((p + 1) % 64)]);
     }
-    assert_eq!(recognizing(&ring.bytes(), &[1], CELLS).0, 113);
+    assert_eq!(recognizing(&ring.bytes(), &[1], CELLS).0, raw::NOT_DERIVED);
     ring.rule(40, &[1]).rule(40, &[procedure(7), procedure(9)]);
     let file = ring.bytes();
-    assert_eq!(recognizing(&file, &[1; 64], CELLS).0, 112);
+    assert_eq!(recognizing(&file, &[1; 64], CELLS).0, raw::DERIVED);
 
     let found = recognize(&file, &[1, 1, 2]).unwrap();
     assert!(found.derives(63, 0..2) && !found.derived() && !found.derives(64, 0..2) && !found.derives(0, 0..4));

@@ -2,8 +2,8 @@
 
 mod common;
 
-use common::{checking, damage, judging, reading, valid_file, Size};
-use plain::making::Numbers;
+use common::{checking, judging, reading};
+use making::{damage, valid_file, Numbers, Size};
 use plain::FIRST_REMARK;
 
 const RULE: [u8; 8] = [1, 5, 2, 7, 130, 0, 0, 0];

@@ -3,11 +3,11 @@
 
 mod common;
 
-use bolfrega::{raw, Starts};
+use bolfrega::{procedure, raw, FileBuilder, Starts};
 use common::rules::Rules;
 use common::Conversion::UnfoldFrom;
-use common::{checking_from, damage, judging, reading, valid_file, valid_wide_file, with_every_room, Size};
-use plain::making::{procedure, sheet_s, Making, Numbers};
+use common::{checking_from, judging, reading, with_every_room};
+use making::{damage, sheet_s, valid_file, valid_wide_file, Numbers, Size};
 use plain::FIRST_REMARK;
 use std::collections::BTreeSet;
 
@@ -75,7 +75,7 @@ fn many(seed: u64, size: Size, rounds: usize) -> [usize; 5] {
         let budget = numbers.pick(&[0, 1, 2, 10, 100, 1_000, 5_000, 20_000]);
         let room = numbers.pick(&[0, 1, 2, 5, 40, 4_096]);
         let (code, details, _) = checking_from(&file, starts, rows, budget, room);
-        seen[code as usize - 100] += 1;
+        seen[code as usize - raw::HOLDS as usize] += 1;
         if code == BROKEN {
             assert!(starts.contains(details[8] as u8), "{starts:?}: {file:?}");
             told.insert(details[8]);
@@ -83,7 +83,7 @@ fn many(seed: u64, size: Size, rounds: usize) -> [usize; 5] {
             assert_eq!(details[8], 0);
         }
         if starts == Starts::NONE {
-            without_member[code as usize - 100] += 1;
+            without_member[code as usize - raw::HOLDS as usize] += 1;
         }
     }
     let [_, broken, _, _, empty] = without_member;
@@ -144,10 +144,23 @@ fn damaged_files() {
         damage(&mut numbers, &mut file, 16);
         unfolded.insert(with_every_room(UnfoldFrom(starts), &file).0);
     }
-    for number in [1, 3, 4, 5, 6, 8, 12, 100, 101, 102, 103, 104] {
+    for number in [
+        1,
+        3,
+        4,
+        5,
+        6,
+        8,
+        12,
+        raw::HOLDS,
+        raw::BROKEN,
+        raw::FULL,
+        raw::SPENT,
+        raw::EMPTY,
+    ] {
         assert!(checked.contains(&number), "{number} did not come: {checked:?}");
     }
-    for number in [16, 3, 4, 5, 6, 12, 18, 115] {
+    for number in [16, 3, 4, 5, 6, 12, 18, raw::CONVERTED] {
         assert!(unfolded.contains(&number), "{number} did not come: {unfolded:?}");
     }
 }
@@ -185,8 +198,12 @@ fn procedure_0_alone() {
         assert!(one == other, "{wide:?}");
         seen[1].insert(code);
     }
-    assert!((100..=104).all(|code| seen[0].contains(&code)), "{:?}", seen[0]);
-    assert!([10, 18, 115].iter().all(|code| seen[1].contains(code)), "{:?}", seen[1]);
+    assert!((raw::HOLDS..=raw::EMPTY).all(|code| seen[0].contains(&code)), "{:?}", seen[0]);
+    assert!(
+        [10, 18, raw::CONVERTED].iter().all(|code| seen[1].contains(code)),
+        "{:?}",
+        seen[1]
+    );
 }
 
 /// Every run of at most this many steps over some codes and a remark.
@@ -232,7 +249,7 @@ impl Truth {
                 if details[7] == 0 && length <= 64 {
                     let run = &buffer[..length];
                     assert!(rules.derives(told, run), "{told} and {run:?}, {}", what());
-                    assert_eq!(judging(file, run), (111, 0), "{run:?}, {}", what());
+                    assert_eq!(judging(file, run), (raw::TURNED_AWAY, 0), "{run:?}, {}", what());
                     self.of_others += usize::from(told != 0);
                 }
                 return;
@@ -248,7 +265,7 @@ impl Truth {
         let drawn: Vec<Vec<u8>> = four_times.filter_map(|member| rules.draw(numbers, member)).collect();
         let members = |run: &[u8]| rules.derived(run)[0][run.len()] & starts.bits();
         for run in short.iter().filter(|run| members(run) != 0).chain(&drawn) {
-            assert_eq!(judging(file, run), (110, 0), "{run:?}, {}", what());
+            assert_eq!(judging(file, run), (raw::ACCEPTED, 0), "{run:?}, {}", what());
             self.judged += 1;
         }
     }
@@ -304,8 +321,9 @@ fn beside_each_member_alone() {
                 HOLDS
             };
             assert_eq!(code, expected, "{starts:?}: {file:?}");
-            seen[code as usize - 100] += 1;
-            several[code as usize - 100] += usize::from(alone.len() > 1 && alone.iter().any(|&other| other != code));
+            seen[code as usize - raw::HOLDS as usize] += 1;
+            several[code as usize - raw::HOLDS as usize] +=
+                usize::from(alone.len() > 1 && alone.iter().any(|&other| other != code));
         }
     }
     let [holds, broken, _, _, empty] = seen;
@@ -339,7 +357,7 @@ fn around_the_answer() {
 }
 
 /// Procedures 0 to 2 are plan A with sheet S; route 3 may leave an index row out, and route 4 never ends.
-fn routes() -> Making {
+fn routes() -> FileBuilder {
     let mut making = sheet_s();
     making
         .rule(0, &[procedure(1), 3])
@@ -377,7 +395,7 @@ fn the_sample() {
 #[test]
 fn every_procedure() {
     for head in 0..64 {
-        let file = Making::new().rule(head, &[5]).bytes();
+        let file = FileBuilder::new().rule(head, &[5]).bytes();
         for member in 0..64 {
             let (code, details, _) = checking_from(&file, set(&[member]), 4, 10, 4);
             let expected = if member == head {
@@ -397,7 +415,7 @@ fn every_procedure() {
 /// All 64 procedures have a run, and none is turned away; without the rule of one the check is empty.
 #[test]
 fn all_of_them() {
-    let mut making = Making::new();
+    let mut making = FileBuilder::new();
     (0..64).for_each(|head| {
         making.rule(head, &[]);
     });
@@ -435,7 +453,7 @@ fn unfolding_with_members() {
         let first = rules.free().max(above);
         let (code, _, unfolded) = with_every_room(UnfoldFrom(starts), &file);
         let fits = usize::from(first) + needed <= 64;
-        assert_eq!(code, if fits { 115 } else { 18 }, "{starts:?}: {file:?}");
+        assert_eq!(code, if fits { raw::CONVERTED } else { 18 }, "{starts:?}: {file:?}");
         if !fits {
             refused += 1;
             continue;
@@ -456,7 +474,7 @@ fn unfolding_with_members() {
 /// A member without rules is no chain procedure, and so it has no run.
 #[test]
 fn members_without_rules() {
-    let mut making = Making::wide();
+    let mut making = FileBuilder::wide();
     let wide = making.rule(0, &[5, 6, 7]).bytes();
     for (members, chain) in [
         (&[][..], 1),
@@ -466,10 +484,13 @@ fn members_without_rules() {
         (&[0, 40], 41),
         (&[3, 62], 63),
     ] {
-        let expected = Making::new().rule(0, &[5, procedure(chain)]).rule(chain, &[6, 7]).bytes();
+        let expected = FileBuilder::new()
+            .rule(0, &[5, procedure(chain)])
+            .rule(chain, &[6, 7])
+            .bytes();
         assert_eq!(
             with_every_room(UnfoldFrom(set(members)), &wide),
-            (115, 0, expected.clone()),
+            (raw::CONVERTED, 0, expected.clone()),
             "{members:?}"
         );
         let (code, details, _) = checking_from(&expected, set(members), 16, 100, 16);
@@ -483,12 +504,12 @@ fn members_without_rules() {
     assert_eq!(with_every_room(UnfoldFrom(set(&[63])), &wide).0, 18);
     assert_eq!(with_every_room(UnfoldFrom(ALL), &wide).0, 18);
     // Where no chain procedure is needed, any set will do.
-    let short = Making::wide().rule(0, &[5, 6]).bytes();
+    let short = FileBuilder::wide().rule(0, &[5, 6]).bytes();
     assert_eq!(
         with_every_room(UnfoldFrom(ALL), &short),
-        (115, 0, vec![1, 0, 2, 5, 6, 0, 0, 0])
+        (raw::CONVERTED, 0, vec![1, 0, 2, 5, 6, 0, 0, 0])
     );
-    assert_eq!(with_every_room(UnfoldFrom(ALL), &[]), (115, 0, vec![]));
+    assert_eq!(with_every_room(UnfoldFrom(ALL), &[]), (raw::CONVERTED, 0, vec![]));
 }
 
 /// Each highest member with a body of each length.
@@ -496,8 +517,12 @@ fn members_without_rules() {
 fn the_last_chain_procedure() {
     for highest in 0..64 {
         for length in 2..=12 {
-            let file = Making::wide().rule(0, &vec![7; length]).bytes();
-            let expected = if usize::from(highest) + length - 2 > 63 { 18 } else { 115 };
+            let file = FileBuilder::wide().rule(0, &vec![7; length]).bytes();
+            let expected = if usize::from(highest) + length - 2 > 63 {
+                18
+            } else {
+                raw::CONVERTED
+            };
             let whole = Starts::from_bits(u64::MAX >> (63 - highest));
             for starts in [set(&[highest]), set(&[0, highest]), whole] {
                 assert_eq!(with_every_room(UnfoldFrom(starts), &file).0, expected, "{highest} {length}");

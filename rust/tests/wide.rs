@@ -3,11 +3,13 @@
 
 mod common;
 
-use bolfrega::{narrow, narrow_into, recognize, unfold, widen, Refusal, CELLS, FILE_BYTES, WIDE_BYTES};
+use bolfrega::{
+    narrow, narrow_into, procedure, raw, recognize, unfold, widen, FileBuilder, Refusal, CELLS, FILE_BYTES, WIDE_BYTES,
+};
 use common::rules::Rules;
 use common::Conversion::{Narrow, Unfold, Widen};
-use common::{checking, converting, damage, judging, reading, recognizing, valid_file, valid_wide_file, with_every_room, Size};
-use plain::making::{procedure, sheet_s, Making, Numbers};
+use common::{checking, converting, judging, reading, recognizing, with_every_room};
+use making::{damage, sheet_s, valid_file, valid_wide_file, Numbers, Size};
 use plain::FIRST_REMARK;
 use std::collections::BTreeSet;
 
@@ -60,9 +62,9 @@ impl Seen {
 /// Moves a valid file over: back gives the same bytes, and so does unfolding.
 fn over_and_back(file: &[u8]) {
     let (code, _, wide) = with_every_room(Widen, file);
-    assert_eq!((code, wide.len()), (115, 2 * file.len()));
+    assert_eq!((code, wide.len()), (raw::CONVERTED, 2 * file.len()));
     for call in [Narrow, Unfold] {
-        assert_eq!(with_every_room(call, &wide), (115, 0, file.to_vec()));
+        assert_eq!(with_every_room(call, &wide), (raw::CONVERTED, 0, file.to_vec()));
     }
 }
 
@@ -86,16 +88,16 @@ fn wide_files() {
         let lengths: &[usize] = [&OLD[..], &SOME_LONG, &ALL][round / 3 % 3];
         let file = valid_wide_file(&mut numbers, size, lengths);
         let (code, _, moved) = with_every_room(Narrow, &file);
-        if code == 115 {
-            assert_eq!(with_every_room(Widen, &moved), (115, 0, file.clone()));
+        if code == raw::CONVERTED {
+            assert_eq!(with_every_room(Widen, &moved), (raw::CONVERTED, 0, file.clone()));
         }
         back.add(code);
         let (code, _, result) = with_every_room(Unfold, &file);
-        assert!(code != 115 || reading(&result) == (0, 0), "{file:?}");
+        assert!(code != raw::CONVERTED || reading(&result) == (0, 0), "{file:?}");
         unfolded.add(code);
     }
-    back.insist(&[17, 115]);
-    unfolded.insist(&[18, 115]);
+    back.insist(&[17, raw::CONVERTED]);
+    unfolded.insist(&[18, raw::CONVERTED]);
 }
 
 #[test]
@@ -120,8 +122,8 @@ fn damaged_files() {
         wide.add(with_every_room(Narrow, &file).0);
         wide.add(with_every_room(Unfold, &file).0);
     }
-    old.insist(&[1, 3, 4, 5, 6, 12, 115]);
-    wide.insist(&[3, 4, 5, 6, 12, 16, 17, 18, 115]);
+    old.insist(&[1, 3, 4, 5, 6, 12, raw::CONVERTED]);
+    wide.insist(&[3, 4, 5, 6, 12, 16, 17, 18, raw::CONVERTED]);
 }
 
 /// A file of one form, handed to the calls on the other.
@@ -148,7 +150,7 @@ fn record(first: &[u8]) -> [u8; 16] {
 fn refused(file: &[u8]) -> (u64, u64) {
     let (number, record, _) = with_every_room(Narrow, file);
     let (other, other_record, _) = with_every_room(Unfold, file);
-    if number != 17 && number != 115 {
+    if number != 17 && number != raw::CONVERTED {
         assert_eq!((other, other_record), (number, record));
     }
     (number, record)
@@ -171,12 +173,16 @@ fn every_value_of_every_byte() {
             let (number, _, _) = converting(Unfold, &changed, FILE_BYTES);
             assert_eq!(
                 converting(Narrow, &changed, 0).0,
-                if number == 115 || number == 18 { 17 } else { number }
+                if number == raw::CONVERTED || number == 18 {
+                    17
+                } else {
+                    number
+                }
             );
             seen.add(number);
         }
     }
-    seen.insist(&[3, 4, 5, 6, 12, 18, 115]);
+    seen.insist(&[3, 4, 5, 6, 12, 18, raw::CONVERTED]);
 }
 
 #[test]
@@ -241,7 +247,7 @@ fn words_of_the_refusals() {
 fn lengths_that_are_no_multiple_of_sixteen() {
     let file = [record(&[1, 5, 2, 7, 130]), record(&[2, 3, 90, 4]), record(&[3, 6])].concat();
     for length in 0..=file.len() {
-        let expected = if length % 16 == 0 { (115, 0) } else { (16, 0) };
+        let expected = if length % 16 == 0 { (raw::CONVERTED, 0) } else { (16, 0) };
         assert_eq!(refused(&file[..length]), expected);
         let (code, ..) = converting(Widen, &file[..length], WIDE_BYTES);
         assert_eq!(code == 1, length % 8 != 0);
@@ -249,8 +255,8 @@ fn lengths_that_are_no_multiple_of_sixteen() {
 }
 
 /// The largest file: 256 rules, 1,024 moves and 16 finishing stages.
-fn largest() -> Making<16> {
-    let mut making = Making::wide();
+fn largest() -> FileBuilder<16> {
+    let mut making = FileBuilder::wide();
     for rule in 0..=255 {
         making.rule(rule / 4, &[procedure(63 - rule / 4), rule % 128]);
     }
@@ -270,9 +276,9 @@ fn records() {
     let mut file = largest().bytes();
     assert_eq!(file.len(), WIDE_BYTES);
     let (code, _, old) = with_every_room(Narrow, &file);
-    assert_eq!((code, old.len()), (115, FILE_BYTES));
-    assert_eq!(with_every_room(Unfold, &file), (115, 0, old.clone()));
-    assert_eq!(with_every_room(Widen, &old), (115, 0, file.clone()));
+    assert_eq!((code, old.len()), (raw::CONVERTED, FILE_BYTES));
+    assert_eq!(with_every_room(Unfold, &file), (raw::CONVERTED, 0, old.clone()));
+    assert_eq!(with_every_room(Widen, &old), (raw::CONVERTED, 0, file.clone()));
     file.extend(record(&[3, 15, 1]));
     assert_eq!(refused(&file), (2, 0));
     file.push(0);
@@ -286,18 +292,18 @@ fn records() {
 
 #[test]
 fn a_rule_or_a_move_too_many() {
-    let mut rules = Making::wide();
+    let mut rules = FileBuilder::wide();
     (0..=255).for_each(|rule| {
         rules.rule(rule / 4, &[rule % 128]);
     });
-    assert_eq!(refused(&rules.bytes()), (115, 0));
+    assert_eq!(refused(&rules.bytes()), (raw::CONVERTED, 0));
     rules.step(0, 0, 0).rule(63, &[191; 12]);
     assert_eq!(refused(&rules.bytes()), (7, 256));
-    let mut moves = Making::wide();
+    let mut moves = FileBuilder::wide();
     (0..1_024u16).for_each(|number| {
         moves.step((number % 16) as u8, (number / 16) as u8, 3);
     });
-    assert_eq!(refused(&moves.bytes()), (115, 0));
+    assert_eq!(refused(&moves.bytes()), (raw::CONVERTED, 0));
     assert_eq!(refused(&moves.step(15, 119, 3).bytes()), (7, 1_024));
 }
 
@@ -307,15 +313,15 @@ fn the_last_chain_procedure() {
     for highest in 0..64 {
         for length in 2..=12 {
             let needed = length as u8 - 2;
-            let expected = if highest + needed > 63 { 18 } else { 115 };
-            let as_head = Making::wide().rule(0, &vec![7; length]).rule(highest, &[]).bytes();
-            let as_symbol = Making::wide()
+            let expected = if highest + needed > 63 { 18 } else { raw::CONVERTED };
+            let as_head = FileBuilder::wide().rule(0, &vec![7; length]).rule(highest, &[]).bytes();
+            let as_symbol = FileBuilder::wide()
                 .rule(0, &vec![7; length])
                 .rule(0, &[procedure(highest)])
                 .bytes();
             let mut own = vec![7; length];
             own[length - 1] = procedure(highest);
-            let in_itself = Making::wide().rule(0, &own).bytes();
+            let in_itself = FileBuilder::wide().rule(0, &own).bytes();
             for file in [as_head, as_symbol, in_itself] {
                 // A body of two needs no chain procedure, also where procedure 63 is in use.
                 assert_eq!(with_every_room(Unfold, &file).0, expected, "{highest} {length}");
@@ -323,13 +329,13 @@ fn the_last_chain_procedure() {
         }
     }
     // Several bodies together: six of twelve symbols and one of five take all 63 above procedure 0.
-    let mut making = Making::wide();
+    let mut making = FileBuilder::wide();
     (0..6).for_each(|code| {
         making.rule(0, &[code; 12]);
     });
     let file = making.rule(0, &[1; 5]).bytes();
     let (code, _, unfolded) = with_every_room(Unfold, &file);
-    assert_eq!((code, unfolded.len()), (115, 8 * 70));
+    assert_eq!((code, unfolded.len()), (raw::CONVERTED, 8 * 70));
     assert_eq!(unfolded[unfolded.len() - 8..], [1, 63, 2, 5, 5, 0, 0, 0]);
     assert_eq!(with_every_room(Unfold, &making.rule(0, &[2; 3]).bytes()).0, 18);
 }
@@ -339,13 +345,13 @@ fn the_last_chain_procedure() {
 fn the_last_rule() {
     for length in 3..=12 {
         for count in 245..=256 {
-            let mut making = Making::wide();
+            let mut making = FileBuilder::wide();
             (0..count - 1).for_each(|rule| {
                 making.rule(0, &[(rule / 16) as u8, (rule % 16) as u8]);
             });
             let file = making.rule(0, &vec![7; length]).bytes();
             assert_eq!(making.count(1), count);
-            let expected = if count + length - 2 > 256 { 18 } else { 115 };
+            let expected = if count + length - 2 > 256 { 18 } else { raw::CONVERTED };
             assert_eq!(with_every_room(Unfold, &file).0, expected, "{count} {length}");
         }
     }
@@ -381,19 +387,19 @@ fn unfolded_by_hand() {
         [3, 15, 0, 0, 0, 0, 0, 0],
     ]
     .concat();
-    assert_eq!(with_every_room(Unfold, &wide), (115, 0, expected));
+    assert_eq!(with_every_room(Unfold, &wide), (raw::CONVERTED, 0, expected));
 }
 
 /// The samples are the plan in which tile rows and index rows come in turn, five of each first, with a remark in each turn after that.
 #[test]
 fn samples() {
-    let mut making = Making::wide();
+    let mut making = FileBuilder::wide();
     making
         .rule(0, &[1, 2, 1, 2, 1, 2, 1, 2, 1, 2, procedure(1), 3])
         .rule(1, &[])
         .rule(1, &[1, FIRST_REMARK, 2, procedure(1)]);
     let sheet = with_every_room(Widen, &sheet_s().bytes()).2;
-    let file = |making: &Making<16>| [making.bytes(), sheet.clone()].concat();
+    let file = |making: &FileBuilder<16>| [making.bytes(), sheet.clone()].concat();
     let long = file(&making);
     assert_eq!(long, include_bytes!("../../samples/long-bodies.wide"));
     assert_eq!(long[..long.len() - 8], *include_bytes!("../../samples/torn.wide"));
@@ -412,7 +418,7 @@ fn unfolding(seed: u64, rounds: usize, size: Size) -> impl Iterator<Item = (Numb
         let file = valid_wide_file(&mut numbers, size, &[0, 1, 1, 2, 2, 3, 4, 5, 8]);
         let (code, _, unfolded) = converting(Unfold, &file, FILE_BYTES);
         let drawing = Numbers::new(numbers.below(1 << 40) as u64);
-        (code == 115).then(|| (drawing, Rules::of(&file, 16), unfolded))
+        (code == raw::CONVERTED).then(|| (drawing, Rules::of(&file, 16), unfolded))
     })
 }
 
@@ -434,7 +440,7 @@ fn the_same_runs() {
                 }
             }
             looked += 1;
-            derived += usize::from(code == 112);
+            derived += usize::from(code == raw::DERIVED);
         }
     }
     assert!(
@@ -452,22 +458,22 @@ fn verdicts() {
         let (code, details, buffer) = checking(&unfolded, 1_024, 30_000, 300);
         let some_run = plan.heights()[0].is_some();
         match code {
-            100 => {
+            raw::HOLDS => {
                 assert!(some_run, "{:?}", plan.rules);
                 for _ in 0..8 {
                     if let Some(run) = plan.draw(&mut numbers, 0) {
-                        assert_eq!(judging(&unfolded, &run), (110, 0), "{:?}", plan.rules);
+                        assert_eq!(judging(&unfolded, &run), (raw::ACCEPTED, 0), "{:?}", plan.rules);
                         accepted += 1;
                     }
                 }
             }
-            101 if details[7] == 0 && details[6] <= 64 => {
+            raw::BROKEN if details[7] == 0 && details[6] <= 64 => {
                 let run = &buffer[..details[6] as usize];
                 assert!(plan.derives(0, run), "{run:?} by {:?}", plan.rules);
-                assert_eq!(judging(&unfolded, run), (111, 0));
+                assert_eq!(judging(&unfolded, run), (raw::TURNED_AWAY, 0));
                 shown += 1;
             }
-            104 => {
+            raw::EMPTY => {
                 assert!(!some_run, "{:?}", plan.rules);
                 empty += 1;
             }

@@ -119,13 +119,13 @@ static int steps(const uint8_t *file, size_t length, size_t from, uint64_t code,
 
 static void reading(void)
 {
-    EXPECT(steps(plan_b, sizeof plan_b, 0, BOLFREGA_RULE, 0, 0, 2, 129, 3, 1));
-    EXPECT(steps(plan_b, sizeof plan_b, 1, BOLFREGA_RULE, 0, 1, 0, 0, 0, 2));
-    EXPECT(steps(plan_b, sizeof plan_b, 7, BOLFREGA_MOVE, 0, 1, 2, 0, 0, 8));
-    EXPECT(steps(plan_b, sizeof plan_b, 8, BOLFREGA_FINISHING, 0, 2, 0, 0, 0, 9));
-    EXPECT(steps(plan_b, sizeof plan_b, 9, BOLFREGA_ENDED, 0, 0, 0, 0, 0, 9));
-    EXPECT(steps(plan_b, sizeof plan_b, SIZE_MAX, BOLFREGA_ENDED, 0, 0, 0, 0, 0, SIZE_MAX));
-    EXPECT(steps(NULL, 0, 0, BOLFREGA_ENDED, 0, 0, 0, 0, 0, 0));
+    EXPECT(steps(plan_b, sizeof plan_b, 0, BOLFREGA_STEP_RULE, 0, 0, 2, 129, 3, 1));
+    EXPECT(steps(plan_b, sizeof plan_b, 1, BOLFREGA_STEP_RULE, 0, 1, 0, 0, 0, 2));
+    EXPECT(steps(plan_b, sizeof plan_b, 7, BOLFREGA_STEP_MOVE, 0, 1, 2, 0, 0, 8));
+    EXPECT(steps(plan_b, sizeof plan_b, 8, BOLFREGA_STEP_FINISHING, 0, 2, 0, 0, 0, 9));
+    EXPECT(steps(plan_b, sizeof plan_b, 9, BOLFREGA_STEP_ENDED, 0, 0, 0, 0, 0, 9));
+    EXPECT(steps(plan_b, sizeof plan_b, SIZE_MAX, BOLFREGA_STEP_ENDED, 0, 0, 0, 0, 0, SIZE_MAX));
+    EXPECT(steps(NULL, 0, 0, BOLFREGA_STEP_ENDED, 0, 0, 0, 0, 0, 0));
     EXPECT(steps(plan_b, 7, 3, 1, 0, 0, 0, 0, 0, 3));
 
     uint8_t damaged[sizeof plan_b];
@@ -133,7 +133,7 @@ static void reading(void)
     damaged[8 * 6 + 7] = 1;
     EXPECT(steps(damaged, sizeof damaged, 6, 5, 6, 0, 0, 0, 0, 6));
     /* A record before it is not checked again. */
-    EXPECT(steps(damaged, sizeof damaged, 7, BOLFREGA_MOVE, 0, 1, 2, 0, 0, 8));
+    EXPECT(steps(damaged, sizeof damaged, 7, BOLFREGA_STEP_MOVE, 0, 1, 2, 0, 0, 8));
     /* But it is to be exceeded. */
     EXPECT(steps(damaged + 8, sizeof damaged - 8, 5, 5, 5, 0, 0, 0, 0, 5));
     memcpy(damaged + 8 * 7, plan_b, 8);
@@ -453,7 +453,7 @@ static void unfoldings(void)
 
 int main(void)
 {
-    EXPECT(bolfrega_version() == 3);
+    EXPECT(bolfrega_version() == BOLFREGA_VERSION);
     refusals();
     reading();
     judgements();

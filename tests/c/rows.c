@@ -31,29 +31,27 @@ _Static_assert(sizeof(struct bolfrega_row) == 88, "eleven words");
 static int failures = 0;
 static const char *name = "";
 
-#define BUFFER_BYTES 65534
-
 /* All that is lent, each area between two that are to stay as they are. */
 #define GUARD 64
 static struct {
     uint8_t before[GUARD];
-    struct bolfrega_row rows[BOLFREGA_ROWS];
+    struct bolfrega_row rows[BOLFREGA_MOST_ROWS];
     uint8_t after_rows[GUARD];
     uint32_t cells[BOLFREGA_TABLE_CELLS];
     uint8_t after_cells[GUARD];
     uint64_t near[BOLFREGA_NEAR_WORDS];
     uint8_t after_near[GUARD];
-    uint64_t details[9];
+    uint64_t details[BOLFREGA_DETAILS_FROM];
     uint8_t after_details[GUARD];
     uint64_t record, length;
     uint8_t after_numbers[GUARD];
-    uint8_t buffer[BUFFER_BYTES];
+    uint8_t buffer[BOLFREGA_LONGEST_RUN];
     uint8_t after_buffer[GUARD];
 } lent, garbage;
 
 /* The answer of bolfrega_check_from. */
-static uint64_t expected[9];
-static uint8_t shown[BUFFER_BYTES];
+static uint64_t expected[BOLFREGA_DETAILS_FROM];
+static uint8_t shown[BOLFREGA_LONGEST_RUN];
 
 /* Fills all areas with numbers that nothing else has, other ones each time. */
 static void spoil(void)
@@ -78,7 +76,7 @@ static int guards_same(void)
 /* Whether the rows from `from` on hold what they held. */
 static int rows_same(size_t from)
 {
-    return memcmp(lent.rows + from, garbage.rows + from, (BOLFREGA_ROWS - from) * sizeof lent.rows[0]) == 0;
+    return memcmp(lent.rows + from, garbage.rows + from, (BOLFREGA_MOST_ROWS - from) * sizeof lent.rows[0]) == 0;
 }
 
 /* Writes the run behind `row`, and returns what the call does. */
@@ -98,20 +96,20 @@ static int refuses(uint64_t code, uint64_t number)
 static void runs(const uint8_t *file, size_t length, size_t rows, size_t used)
 {
     for (size_t i = 0; i < used; i++) {
-        uint64_t code = write_run(file, length, rows, used, i, BUFFER_BYTES);
+        uint64_t code = write_run(file, length, rows, used, i, BOLFREGA_LONGEST_RUN);
         uint64_t told = lent.rows[i].length;
-        if (told == 65535) {
+        if (told == BOLFREGA_LENGTH_CAP) {
             EXPECT(refuses(code, 10));
             continue;
         }
         EXPECT(code == BOLFREGA_WRITTEN && lent.record == 0 && lent.length == told && guards_same());
-        EXPECT(memcmp(lent.buffer + told, garbage.buffer + told, BUFFER_BYTES - told) == 0);
+        EXPECT(memcmp(lent.buffer + told, garbage.buffer + told, BOLFREGA_LONGEST_RUN - told) == 0);
         if (told > 0)
             EXPECT(refuses(write_run(file, length, rows, used, i, told - 1), 10));
     }
-    EXPECT(refuses(write_run(file, length, rows, used, used, BUFFER_BYTES), 9));
-    EXPECT(refuses(write_run(file, length, rows, rows + 1, 0, BUFFER_BYTES), 9));
-    EXPECT(refuses(write_run(file, length, 0, used, 0, BUFFER_BYTES), 8));
+    EXPECT(refuses(write_run(file, length, rows, used, used, BOLFREGA_LONGEST_RUN), 9));
+    EXPECT(refuses(write_run(file, length, rows, rows + 1, 0, BOLFREGA_LONGEST_RUN), 9));
+    EXPECT(refuses(write_run(file, length, 0, used, 0, BOLFREGA_LONGEST_RUN), 8));
 }
 
 /* One check over `rows` rows of garbage, and what can be written after it. */
@@ -127,7 +125,7 @@ static void check(const uint8_t *file, size_t length, uint64_t starts, size_t ro
     EXPECT(rows_same(expected[BOLFREGA_USED]));
     if (code < 100) {
         EXPECT(rows_same(0));
-        uint64_t written = write_run(file, length, rows, 1, 0, BUFFER_BYTES);
+        uint64_t written = write_run(file, length, rows, 1, 0, BOLFREGA_LONGEST_RUN);
         EXPECT(refuses(written, code) && lent.record == expected[BOLFREGA_RECORD]);
         return;
     }
@@ -135,7 +133,7 @@ static void check(const uint8_t *file, size_t length, uint64_t starts, size_t ro
     if (code == BOLFREGA_BROKEN && refused == 0) {
         const struct bolfrega_row *row = &lent.rows[expected[BOLFREGA_ROW]];
         EXPECT(row->procedure == expected[BOLFREGA_PROCEDURE] && row->length == expected[BOLFREGA_LENGTH] && row->retired == 0);
-        EXPECT(write_run(file, length, rows, used, expected[BOLFREGA_ROW], BUFFER_BYTES) == BOLFREGA_WRITTEN);
+        EXPECT(write_run(file, length, rows, used, expected[BOLFREGA_ROW], BOLFREGA_LONGEST_RUN) == BOLFREGA_WRITTEN);
         EXPECT(memcmp(lent.buffer, shown, expected[BOLFREGA_LENGTH]) == 0);
     }
     if (used <= 64)
@@ -145,7 +143,7 @@ static void check(const uint8_t *file, size_t length, uint64_t starts, size_t ro
 static void check_all(const uint8_t *file, size_t length)
 {
     static const uint64_t starts[] = {1, 0, 2, 9, UINT64_MAX};
-    static const size_t rows[] = {BOLFREGA_ROWS, 1, 7};
+    static const size_t rows[] = {BOLFREGA_MOST_ROWS, 1, 7};
     for (size_t i = 0; i < sizeof starts / sizeof starts[0]; i++)
         for (size_t k = 0; k < sizeof rows / sizeof rows[0]; k++) {
             check(file, length, starts[i], rows[k], 1000000);
@@ -153,13 +151,13 @@ static void check_all(const uint8_t *file, size_t length)
         }
     check(file, length, 1, 0, 1000000);
     /* A row that no check of the file could have stored. */
-    check(file, length, 1, BOLFREGA_ROWS, 1000000);
+    check(file, length, 1, BOLFREGA_MOST_ROWS, 1000000);
     size_t used = expected[BOLFREGA_USED];
     if (used > 0) {
         lent.rows[0].effect[0] ^= 1;
         lent.rows[0].birth = 0;
         lent.rows[0].rule = UINT64_MAX;
-        EXPECT(refuses(write_run(file, length, BOLFREGA_ROWS, used, used - 1, BUFFER_BYTES), 9));
+        EXPECT(refuses(write_run(file, length, BOLFREGA_MOST_ROWS, used, used - 1, BOLFREGA_LONGEST_RUN), 9));
     }
 }
 

@@ -27,7 +27,6 @@ mod gaps;
 mod journal;
 mod judging;
 mod known;
-pub mod making;
 mod order;
 mod semi_naive;
 mod wide;

@@ -1,7 +1,8 @@
 //! Both searches of the plain implementation: the one that forms every candidate and the semi-naive one agree in the answer and in each
 //! row.
 
-use plain::making::{procedure, Making, Numbers};
+use bolfrega::{procedure, FileBuilder};
+use making::Numbers;
 use plain::{read, search, search_semi_naive, Plan, Search, Verdict, INITIAL};
 
 /// Checks a plan with both, and returns what they agree on.
@@ -17,7 +18,7 @@ fn searched(plan: &Plan, starts: u64, rows: usize, budget: u64) -> Search {
 
 /// A plan at random with at most `rules` rules over `procedures` procedures and four codes.
 fn plan_at_random(numbers: &mut Numbers, procedures: usize, rules: usize, moves: usize) -> Plan {
-    let mut making = Making::new();
+    let mut making = FileBuilder::new();
     for _ in 0..rules {
         let body: Vec<u8> = (0..numbers.pick(&[0, 1, 2, 2, 2]))
             .map(|_| symbol(numbers, procedures))

@@ -7,8 +7,9 @@ pub mod rules;
 
 use bolfrega::raw::{self, Details, DetailsFrom};
 use bolfrega::{Answer, AnswerFrom, Judgement, Refusal, Starts, Verdict};
-use plain::making::{Making, Numbers};
-use plain::FIRST_REMARK;
+
+/// The row of an answer that is not broken.
+const NO_ROW: u64 = 65_535;
 
 /// What stands in the places to be filled in before a call.
 const BEFORE: u64 = 0x5555_5555_5555_5555;
@@ -26,14 +27,20 @@ pub fn reading(file: &[u8]) -> (u64, u64) {
 /// Judges a run. Returns the code and the record.
 pub fn judging(file: &[u8], run: &[u8]) -> (u64, u64) {
     let expected = match plain::judge(file, run) {
-        Ok(true) => (110, 0),
-        Ok(false) => (111, 0),
+        Ok(true) => (raw::ACCEPTED, 0),
+        Ok(false) => (raw::TURNED_AWAY, 0),
         Err(refusal) => numbers(refusal),
     };
     let mut record = BEFORE;
     let code = raw::judge(file, run, &mut record);
     assert_eq!((code, record), expected, "judging {run:?} by {file:?}");
-    let judgement = |judged| if judged == Judgement::Accepted { (110, 0) } else { (111, 0) };
+    let judgement = |judged| {
+        if judged == Judgement::Accepted {
+            (raw::ACCEPTED, 0)
+        } else {
+            (raw::TURNED_AWAY, 0)
+        }
+    };
     assert_eq!(bolfrega::judge(file, run).map_or_else(shown, judgement), expected);
     expected
 }
@@ -42,8 +49,8 @@ pub fn judging(file: &[u8], run: &[u8]) -> (u64, u64) {
 pub fn recognizing(file: &[u8], run: &[u8], cells: usize) -> (u64, u64, Vec<u64>) {
     let mut table = vec![BEFORE; cells];
     let (code, record) = match plain::recognize(file, run, &mut table) {
-        Ok(true) => (112, 0),
-        Ok(false) => (113, 0),
+        Ok(true) => (raw::DERIVED, 0),
+        Ok(false) => (raw::NOT_DERIVED, 0),
         Err(refusal) => numbers(refusal),
     };
     let (mut their_record, mut their_table) = (BEFORE, vec![BEFORE; cells]);
@@ -54,7 +61,12 @@ pub fn recognizing(file: &[u8], run: &[u8], cells: usize) -> (u64, u64, Vec<u64>
     if cells == bolfrega::CELLS {
         match bolfrega::recognize(file, run) {
             Ok(found) => {
-                assert_eq!((found.derived(), &found.cells()[..]), (code == 112, &table[..]), "{}", what());
+                assert_eq!(
+                    (found.derived(), &found.cells()[..]),
+                    (code == raw::DERIVED, &table[..]),
+                    "{}",
+                    what()
+                );
             }
             Err(refusal) => assert_eq!(shown(refusal), (code, record), "{}", what()),
         }
@@ -67,7 +79,7 @@ pub fn recognizing(file: &[u8], run: &[u8], cells: usize) -> (u64, u64, Vec<u64>
 pub fn listing(file: &[u8], room: usize) -> (u64, u64, u64, Vec<u8>) {
     let mut list = patterned(room);
     let (code, record, entries) = match plain::list(file, &mut list) {
-        Ok(count) => (114, 0, count as u64),
+        Ok(count) => (raw::LISTED, 0, count as u64),
         Err(refusal) => (refusal.number.into(), refusal.record as u64, 0),
     };
     let (mut their_record, mut their_entries, mut their_list) = (BEFORE, BEFORE, patterned(room));
@@ -155,7 +167,7 @@ pub fn converting(call: Conversion, file: &[u8], room: usize) -> (u64, u64, Vec<
 
     let mut expected = patterned(room + BEHIND);
     let answer = call.plainly(file, &mut expected[..room]).map_err(numbers);
-    let (code, record) = answer.map_or_else(|refused| refused, |_| (115, 0));
+    let (code, record) = answer.map_or_else(|refused| refused, |_| (raw::CONVERTED, 0));
     let length = answer.unwrap_or(0);
     // Whatever the result is, all bytes past it are as they were.
     let before = patterned(room + BEHIND);
@@ -189,11 +201,11 @@ const BEHIND: usize = 40;
 /// enough room, the record and the result.
 pub fn with_every_room(call: Conversion, file: &[u8]) -> (u64, u64, Vec<u8>) {
     let (code, record, result) = converting(call, file, bolfrega::WIDE_BYTES);
-    assert_ne!(code, 10);
+    assert_ne!(code, raw::REFUSAL_ROOM);
     let length = result.len();
     for room in [0, length.saturating_sub(1), length, length + 1] {
-        let expected = if code == 115 && room < length {
-            (10, 0)
+        let expected = if code == raw::CONVERTED && room < length {
+            (raw::REFUSAL_ROOM, 0)
         } else {
             (code, record)
         };
@@ -307,11 +319,11 @@ fn plainly(file: &[u8], starts: Starts, rows: usize, budget: u64, buffer: &mut [
         None => (0, 0, 0, 0),
     };
     let code = match said.verdict {
-        plain::Verdict::Holds => 100,
-        plain::Verdict::Broken => 101,
-        plain::Verdict::Full => 102,
-        plain::Verdict::Spent => 103,
-        plain::Verdict::Empty => 104,
+        plain::Verdict::Holds => raw::HOLDS,
+        plain::Verdict::Broken => raw::BROKEN,
+        plain::Verdict::Full => raw::FULL,
+        plain::Verdict::Spent => raw::SPENT,
+        plain::Verdict::Empty => raw::EMPTY,
     };
     let counts = [0, said.joins, said.used as u64, said.pass.into()];
     let shown = [said.row.into(), pairs.into(), length.into(), refused.into()];
@@ -326,17 +338,17 @@ fn spelled(answer: &Result<Answer, Refusal>) -> (u64, Details) {
         Err(refusal) => return (refusal.number(), [refusal.record().unwrap_or(0), 0, 0, 0, 0, 0, 0, 0]),
     };
     let (code, [row, pairs, length, refused]) = match answer.verdict {
-        Verdict::Holds => (100, [65_535, 0, 0, 0]),
+        Verdict::Holds => (raw::HOLDS, [NO_ROW, 0, 0, 0]),
         Verdict::Broken(broken) => {
             let refused = broken.run.map_or_else(Refusal::number, |run| {
                 assert_eq!(run.len() as u64, broken.length);
                 0
             });
-            (101, [broken.row, broken.pairs, broken.length, refused])
+            (raw::BROKEN, [broken.row, broken.pairs, broken.length, refused])
         }
-        Verdict::Full => (102, [65_535, 0, 0, 0]),
-        Verdict::Spent => (103, [65_535, 0, 0, 0]),
-        Verdict::Empty => (104, [65_535, 0, 0, 0]),
+        Verdict::Full => (raw::FULL, [NO_ROW, 0, 0, 0]),
+        Verdict::Spent => (raw::SPENT, [NO_ROW, 0, 0, 0]),
+        Verdict::Empty => (raw::EMPTY, [NO_ROW, 0, 0, 0]),
         other => panic!("{other:?}"),
     };
     (code, [0, answer.joins, answer.used, answer.pass, row, pairs, length, refused])
@@ -346,7 +358,7 @@ fn spelled(answer: &Result<Answer, Refusal>) -> (u64, Details) {
 fn spelled_from(told: &Result<AnswerFrom, Refusal>) -> (u64, DetailsFrom) {
     let (code, details) = spelled(&told.as_ref().map(|told| told.answer).map_err(|&refusal| refusal));
     let procedure = told.as_ref().ok().and_then(|told| told.procedure);
-    assert_eq!(procedure.is_some(), code == 101);
+    assert_eq!(procedure.is_some(), code == raw::BROKEN);
     let details = [&details[..], &[procedure.unwrap_or(0).into()]].concat();
     (code, details.try_into().unwrap())
 }
@@ -357,99 +369,4 @@ fn numbers(refusal: plain::Refusal) -> (u64, u64) {
 
 fn shown(refusal: Refusal) -> (u64, u64) {
     (refusal.number(), refusal.record().unwrap_or(0))
-}
-
-/// How large a made file is.
-#[derive(Clone, Copy)]
-pub struct Size {
-    pub procedures: usize,
-    pub rules: usize,
-    pub codes: usize,
-    pub moves: usize,
-}
-
-/// A valid file with at most these numbers of rules and moves.
-pub fn valid_file(numbers: &mut Numbers, size: Size) -> Vec<u8> {
-    let mut making = Making::new();
-    rules(numbers, size, &[0, 1, 1, 2, 2, 2, 2], &mut making);
-    sheet(numbers, size, &mut making);
-    making.bytes()
-}
-
-/// A valid file of sixteen-byte records with at most these numbers of rules and moves, and bodies of these lengths.
-pub fn valid_wide_file(numbers: &mut Numbers, size: Size, lengths: &[usize]) -> Vec<u8> {
-    let mut making = Making::wide();
-    rules(numbers, size, lengths, &mut making);
-    sheet(numbers, size, &mut making);
-    making.bytes()
-}
-
-/// Adds rules at random, with bodies of some of these lengths.
-fn rules<const WIDTH: usize>(numbers: &mut Numbers, size: Size, lengths: &[usize], making: &mut Making<WIDTH>) {
-    // Half of the files leave procedure 0 nearly alone, so that not every check is broken at once.
-    let shy = numbers.once_in(2);
-    for _ in 0..size.rules {
-        let head = numbers.byte(size.procedures);
-        let head = if shy && head == 0 && !numbers.once_in(8) { 1 } else { head };
-        let length = numbers.pick(lengths);
-        let body: Vec<u8> = (0..length).map(|_| symbol(numbers, size)).collect();
-        making.rule(head, &body);
-    }
-}
-
-/// Adds moves and finishing stages at random.
-fn sheet<const WIDTH: usize>(numbers: &mut Numbers, size: Size, making: &mut Making<WIDTH>) {
-    // Half of the files use eight stages, as all did before C-14, and half all sixteen.
-    let stages = numbers.pick(&[8, 16]);
-    let mut moves = size.moves;
-    if numbers.once_in(2) {
-        // Each code leads somewhere from each stage, as far as 1,024 moves go: at random, or each the same way round, which makes few effects.
-        let whole = size.codes.min(1_024 / stages);
-        let round = numbers.once_in(2);
-        for code in 0..whole {
-            for from in 0..stages {
-                let to = if round {
-                    (from + code) % stages
-                } else {
-                    numbers.below(stages)
-                };
-                making.step(from as u8, code as u8, to as u8);
-            }
-        }
-        // There is room for what is left of the moves.
-        moves = if round { 0 } else { moves.min(1_024 - stages * whole) };
-    }
-    for _ in 0..moves {
-        making.step(numbers.byte(stages), numbers.byte(size.codes), numbers.byte(stages));
-    }
-    // Of many draws no stage is left out: with the sheet above every run is accepted.
-    let finishing = numbers.pick(&[0, 1, 3, 30, 200, 200]);
-    (0..finishing).for_each(|_| {
-        making.finishing(numbers.byte(stages));
-    });
-}
-
-fn symbol(numbers: &mut Numbers, size: Size) -> u8 {
-    if numbers.once_in(16) {
-        FIRST_REMARK + numbers.byte(8)
-    } else if numbers.once_in(2) {
-        numbers.byte(size.codes)
-    } else {
-        plain::making::procedure(numbers.byte(size.procedures))
-    }
-}
-
-/// Damages a file of records of a width in one of the ways in which copies go wrong.
-pub fn damage(numbers: &mut Numbers, file: &mut Vec<u8>, width: usize) {
-    let at = numbers.below(file.len());
-    let whole = |number: usize| width * number..width * number + width;
-    let (one, other) = (numbers.below(file.len() / width), numbers.below(file.len() / width));
-    match numbers.below(6) {
-        0 => file[at] = numbers.byte(256),
-        1 => file[at] ^= 1 << numbers.below(8),
-        2 => file.truncate(at),
-        3 => drop(file.splice(at..at, [0])),
-        4 => drop(file.splice(width * one..width * one, file[whole(one)].to_vec())),
-        _ => whole(one).zip(whole(other)).for_each(|(x, y)| file.swap(x, y)),
-    }
 }

@@ -1,6 +1,6 @@
 //! The rules of a plan as they stand, in either form: what each procedure derives, said without unfolding and without effects.
 
-use plain::making::Numbers;
+use making::Numbers;
 use std::collections::BTreeSet;
 
 /// A plan's rules: the procedure of each, and the symbols of its body.

@@ -1,0 +1,127 @@
+//! `bolfrega explain`: why a file has the verdict that it has.
+
+use crate::arguments::Arguments;
+use crate::asked::Asked;
+use crate::endless::endless;
+use crate::names::Names;
+use crate::sheet::{members, Sheet, Stages};
+use crate::show::content;
+use crate::status::{Status, Trouble};
+use crate::streams::Streams;
+use crate::tree::tree;
+use crate::words::{joined, shown};
+use bolfrega::{records, BrokenRow, Journal, Record, Refusal, VerdictRows, RECORD_BYTES};
+
+pub fn run(arguments: &Arguments, streams: &mut Streams) -> Result<Status, Trouble> {
+    let path = arguments.one_file()?;
+    let names = match &arguments.names {
+        Some(path) => Names::read(&shown(path), &streams.text(path)?)?,
+        None => Names::default(),
+    };
+    let file = streams.file(path)?;
+    let mut journal = Journal::new(arguments.rows);
+    let asked = Asked::of(&mut journal, &file, arguments);
+    let first = format!("{}: {}\n", shown(path), asked.verdict(arguments));
+    if asked.status() == Status::NoAnswer {
+        return Err(Trouble::new(first.trim_end()));
+    }
+    let text = match &asked.reply {
+        Err(refusal) => at_fault(&file, *refusal),
+        Ok(answer) => {
+            let records: Vec<Record> = records(&file).map_err(|refusal| Trouble::new(refusal.to_string()))?.collect();
+            match answer.verdict {
+                VerdictRows::Broken(broken) => turned_away(&journal, &records, &names, &asked, broken),
+                VerdictRows::Empty => format!("\n{}", endless(journal.rows(), &records, arguments.starts(), &names)),
+                _ => String::new(),
+            }
+        }
+    };
+    let advice = match asked.status() {
+        Status::Broken => "change one of these rules, or the sheet, and check again".to_string(),
+        _ => asked.advice(path, arguments),
+    };
+    streams.write(format!("{first}{text}\nTo do: {advice}.\n").as_bytes())?;
+    Ok(asked.status())
+}
+
+/// The record that is refused, with the one before it.
+fn at_fault(file: &[u8], refusal: Refusal) -> String {
+    let Some(record) = refusal.record() else {
+        return String::new();
+    };
+    let records = file.chunks_exact(RECORD_BYTES).enumerate();
+    let near = records
+        .skip((record as usize).saturating_sub(1))
+        .take(1 + usize::from(record > 0));
+    let lines = near.map(|(place, bytes)| format!("  record {place}: {}\n", content(bytes)));
+    format!("\n{}", joined(lines, ""))
+}
+
+/// The run step by step, and how the plan gives it.
+fn turned_away(journal: &Journal, records: &[Record], names: &Names, asked: &Asked, broken: BrokenRow) -> String {
+    let steps = match &asked.run {
+        Some(Ok(run)) => along(&Sheet::of(records.iter().copied()), run, names),
+        _ => "The run has 65,535 or more steps, and is not written.\n".to_string(),
+    };
+    let rules = tree(journal.rows(), records, names, broken.row);
+    format!("\n{steps}\nHow the plan gives it, each rule above those of its procedures:\n{rules}")
+}
+
+/// The run step by step, with the stages after each, and the place where it is lost.
+fn along(sheet: &Sheet, run: &[u8], names: &Names) -> String {
+    let sets = sheet.along(run);
+    let lost = sheet.lost(&sets);
+    let labels: Vec<String> = run.iter().map(|&code| names.step(code)).collect();
+    let width = labels
+        .iter()
+        .map(|label| label.chars().count())
+        .max()
+        .unwrap_or(0)
+        .max("start".len());
+    let mut text = "The run, and the stages that the sheet can be in:\n".to_string();
+    for (place, set) in sets.iter().enumerate() {
+        let label = if place == 0 { "start" } else { &labels[place - 1] };
+        let mark = if lost == Some(place) {
+            format!("   <- {}", why_lost(&sets, run, place, names))
+        } else {
+            String::new()
+        };
+        text += &format!("  {label:width$}  {}{mark}\n", stages(*set, names));
+        let left = run.len() - place;
+        if *set == 0 && left > 0 {
+            text += &format!(
+                "  and {left} more step{}: {}\n",
+                if left == 1 { "" } else { "s" },
+                crate::words::steps(&run[place..])
+            );
+            break;
+        }
+    }
+    if lost.is_none() {
+        text += "The run ends too soon: none of its last stages is finishing, but a finishing stage could still be reached.\n";
+    }
+    text
+}
+
+/// Why no finishing stage can be reached from a place on.
+fn why_lost(sets: &[Stages], run: &[u8], place: usize, names: &Names) -> String {
+    let nothing = "no finishing stage can be reached any more";
+    match place.checked_sub(1) {
+        Some(before) if sets[place] == 0 => {
+            format!(
+                "no move on {} from {}: {nothing}",
+                names.step(run[before]),
+                stages(sets[before], names)
+            )
+        }
+        Some(_) => nothing.to_string(),
+        None => "no finishing stage can be reached at all".to_string(),
+    }
+}
+
+fn stages(set: Stages, names: &Names) -> String {
+    match set {
+        0 => "no stage".to_string(),
+        set => joined(members(set).map(|stage| names.stage(stage)), ", "),
+    }
+}

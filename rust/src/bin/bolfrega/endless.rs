@@ -29,7 +29,7 @@ fn why(procedure: u8, rules: &[Record], finishing: &BTreeSet<u8>, names: &Names)
     let mut lines: String = rules_of(rules, procedure)
         .map(|(number, body)| {
             let waits = waits(body, finishing).into_iter().map(|inner| names.procedure(inner));
-            let rule = names.record(&rules[number]);
+            let rule = names.rule(&rules[number]);
             format!("    record {number}: {rule}   (waits for {})\n", joined(waits, " and "))
         })
         .collect();

@@ -11,6 +11,7 @@ use crate::streams::Streams;
 use crate::tree::tree;
 use crate::words::{joined, shown};
 use bolfrega::{records, BrokenRow, Journal, Record, Refusal, VerdictRows, RECORD_BYTES};
+use std::ffi::OsStr;
 
 pub fn run(arguments: &Arguments, streams: &mut Streams) -> Result<Status, Trouble> {
     let path = arguments.one_file()?;
@@ -36,12 +37,23 @@ pub fn run(arguments: &Arguments, streams: &mut Streams) -> Result<Status, Troub
             }
         }
     };
-    let advice = match asked.status() {
-        Status::Broken => "change one of these rules, or the sheet, and check again".to_string(),
+    let to_do = match to_do(&asked, path, arguments) {
+        Some(advice) => format!("\nTo do: {advice}.\n"),
+        None => String::new(),
+    };
+    streams.write(format!("{first}{text}{to_do}").as_bytes())?;
+    Ok(asked.status())
+}
+
+/// What to do, once all of this is seen.
+fn to_do(asked: &Asked, path: &OsStr, arguments: &Arguments) -> Option<String> {
+    let advice = match asked.reply.as_ref().map(|answer| answer.verdict) {
+        Ok(VerdictRows::Holds) => return None,
+        Ok(VerdictRows::Broken(_)) => "change one of these rules, or the sheet, and check again".to_string(),
+        Ok(VerdictRows::Empty) => "give these procedures rules that wait for none of them, and check again".to_string(),
         _ => asked.advice(path, arguments),
     };
-    streams.write(format!("{first}{text}\nTo do: {advice}.\n").as_bytes())?;
-    Ok(asked.status())
+    Some(advice)
 }
 
 /// The record that is refused, with the one before it.

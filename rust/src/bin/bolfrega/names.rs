@@ -42,7 +42,7 @@ impl Names {
     }
 
     /// A procedure at the head of a rule.
-    pub fn head(&self, number: u8) -> String {
+    fn head(&self, number: u8) -> String {
         self.name(Kind::Procedure, number).unwrap_or_else(|| number.to_string())
     }
 
@@ -56,11 +56,6 @@ impl Names {
         self.name(Kind::Step, code).unwrap_or_else(|| code.to_string())
     }
 
-    /// The code of a move.
-    pub fn code(&self, code: u8) -> String {
-        self.name(Kind::Step, code).unwrap_or_else(|| format!("code {code}"))
-    }
-
     pub fn stage(&self, number: u8) -> String {
         self.name(Kind::Stage, number).unwrap_or_else(|| format!("stage {number}"))
     }
@@ -72,18 +67,14 @@ impl Names {
         }
     }
 
-    /// A record in the library's words, with the names.
-    pub fn record(&self, record: &Record) -> String {
+    /// A rule in the library's words, with the names.
+    pub fn rule(&self, record: &Record) -> String {
         match *record {
             Record::Rule { procedure, body: [] } => format!("{} gives nothing", self.head(procedure)),
             Record::Rule { procedure, body } => {
                 let body = body.iter().map(|&byte| self.symbol(byte));
                 format!("{} gives {}", self.head(procedure), joined(body, " "))
             }
-            Record::Move { from, code, to } => {
-                format!("from {} on {} to {}", self.stage(from), self.code(code), self.stage(to))
-            }
-            Record::Finishing { stage } => format!("{} is finishing", self.stage(stage)),
             ref other => other.to_string(),
         }
     }

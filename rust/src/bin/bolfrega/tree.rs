@@ -35,7 +35,7 @@ impl Tree<'_> {
     fn tell(&mut self, number: usize, before: usize, depth: usize) {
         let Some(row) = self.rows.get(number).copied() else { return };
         let rule = row.rule as usize;
-        let text = self.rules.get(rule).map_or(String::new(), |record| self.names.record(record));
+        let text = self.rules.get(rule).map_or(String::new(), |record| self.names.rule(record));
         let again = !self.told.insert(number);
         let symbols = self.symbols(&row, before);
         let as_above = if again && !symbols.is_empty() { ", as above" } else { "" };

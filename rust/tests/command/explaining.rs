@@ -1,6 +1,6 @@
 //! `bolfrega explain`.
 
-use crate::calling::{answer, call, feed, made, samples, status_of};
+use crate::calling::{answer, call, feed, made, read, samples, status_of};
 use bolfrega::{check_owned, Starts, Verdict};
 use making::{valid_file, Numbers, Size};
 
@@ -38,6 +38,21 @@ To do: change one of these rules, or the sheet, and check again.
 ";
     let said = call(&["explain", "samples/plan-b.plan"]);
     assert_eq!((said.status, said.out.as_str(), said.err.as_str()), (1, expected, ""));
+}
+
+#[test]
+fn the_readme_has_what_is_printed() {
+    let readme = String::from_utf8(read("README.md")).unwrap();
+    let said = call(&["explain", "samples/plan-b.plan"]).out;
+    let indent = |line: &str| {
+        if line.is_empty() {
+            "\n".to_string()
+        } else {
+            format!("    {line}\n")
+        }
+    };
+    let (shown, _) = said.split_once("\nTo do: ").unwrap();
+    assert!(readme.contains(&shown.lines().map(indent).collect::<String>()), "{shown}");
 }
 
 #[test]

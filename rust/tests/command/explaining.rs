@@ -145,6 +145,21 @@ fn where_a_run_is_lost() {
 }
 
 #[test]
+fn a_remark_leaves_the_stage() {
+    for code in 118..=127 {
+        // 0 gives the code; stage 1 is finishing, and reached on code 5.
+        let file = [
+            [1, 0, 1, code, 0, 0, 0, 0],
+            [2, 0, 5, 1, 0, 0, 0, 0],
+            [3, 1, 0, 0, 0, 0, 0, 0],
+        ];
+        let said = feed(&["explain", "-"], &file.concat());
+        let stages = if code < 120 { "no stage   <- " } else { "stage 0\n" };
+        assert!(said.out.contains(&format!("\n  {code}    {stages}")), "{}", said.out);
+    }
+}
+
+#[test]
 fn every_sample_is_explained() {
     for sample in samples(".plan") {
         let word = answer(&sample)[0].split(' ').next().unwrap().to_string();

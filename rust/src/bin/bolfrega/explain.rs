@@ -9,7 +9,7 @@ use crate::show::content;
 use crate::status::{Status, Trouble};
 use crate::streams::Streams;
 use crate::tree::tree;
-use crate::words::{joined, shown};
+use crate::words::{joined, shown, steps};
 use bolfrega::{records, BrokenRow, Journal, Record, Refusal, VerdictRows, RECORD_BYTES};
 use std::ffi::OsStr;
 
@@ -71,43 +71,32 @@ fn at_fault(file: &[u8], refusal: Refusal) -> String {
 
 /// The run step by step, and how the plan gives it.
 fn turned_away(journal: &Journal, records: &[Record], names: &Names, asked: &Asked, broken: BrokenRow) -> String {
-    let steps = match &asked.run {
+    let along = match &asked.run {
         Some(Ok(run)) => along(&Sheet::of(records.iter().copied()), run, names),
         _ => "The run has 65,535 or more steps, and is not written.\n".to_string(),
     };
     let rules = tree(journal.rows(), records, names, broken.row);
-    format!("\n{steps}\nHow the plan gives it, each rule above those of its procedures:\n{rules}")
+    format!("\n{along}\nHow the plan gives it, each rule above those of its procedures:\n{rules}")
 }
 
-/// The run step by step, with the stages after each, and the place where it is lost.
+/// The run step by step, with the stages after each, and the place where it is lost. Where no stage is left, the other steps are in one line.
 fn along(sheet: &Sheet, run: &[u8], names: &Names) -> String {
     let sets = sheet.along(run);
     let lost = sheet.lost(&sets);
     let labels: Vec<String> = run.iter().map(|&code| names.step(code)).collect();
-    let width = labels
-        .iter()
-        .map(|label| label.chars().count())
-        .max()
-        .unwrap_or(0)
-        .max("start".len());
+    let labels: Vec<&str> = ["start"].into_iter().chain(labels.iter().map(String::as_str)).collect();
+    let width = labels.iter().map(|label| label.chars().count()).max().unwrap_or(0);
+    let end = sets.iter().position(|&set| set == 0).unwrap_or(run.len());
     let mut text = "The run, and the stages that the sheet can be in:\n".to_string();
-    for (place, set) in sets.iter().enumerate() {
-        let label = if place == 0 { "start" } else { &labels[place - 1] };
-        let mark = if lost == Some(place) {
-            format!("   <- {}", why_lost(&sets, run, place, names))
-        } else {
-            String::new()
-        };
-        text += &format!("  {label:width$}  {}{mark}\n", stages(*set, names));
-        let left = run.len() - place;
-        if *set == 0 && left > 0 {
-            text += &format!(
-                "  and {left} more step{}: {}\n",
-                if left == 1 { "" } else { "s" },
-                crate::words::steps(&run[place..])
-            );
-            break;
+    for (place, (label, &set)) in labels.iter().zip(&sets).enumerate().take(end + 1) {
+        text += &format!("  {label:width$}  {}", stages(set, names));
+        if lost == Some(place) {
+            text += &format!("   <- {}", why_lost(&sets, run, place, names));
         }
+        text += "\n";
+    }
+    if end < run.len() {
+        text += &format!("  and then {}\n", steps(&run[end..]));
     }
     if lost.is_none() {
         text += "The run ends too soon: none of its last stages is finishing, but a finishing stage could still be reached.\n";

@@ -3,12 +3,16 @@
 use crate::arguments::Arguments;
 use crate::status::{Status, Trouble};
 use crate::streams::Streams;
-use crate::words::joined;
+use crate::words::{joined, shown};
 use bolfrega::{records, refusal, step, wide_records, wide_refusal, Refusal, MOST_RECORDS, RECORD_BYTES, WIDE_RECORD_BYTES};
 
 pub fn run(arguments: &Arguments, streams: &mut Streams) -> Result<Status, Trouble> {
-    let file = streams.file(arguments.one_file()?)?;
+    let path = arguments.one_file()?;
+    let file = streams.file(path)?;
     let (text, refused) = if arguments.wide { show_wide(&file) } else { show(&file) };
+    if let Some(refusal @ Refusal::Unknown { .. }) = refused {
+        return Err(Trouble::with(&shown(path), refusal));
+    }
     streams.write(text.as_bytes())?;
     Ok(refused.map_or(Status::Holds, Status::of_refusal))
 }

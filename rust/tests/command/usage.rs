@@ -64,9 +64,20 @@ fn every_command_has_its_help() {
         assert_eq!(call(&[command, "--help"]), help);
         assert_eq!(help.status, 0);
     }
-    assert!(call(&["help", "make"]).out.contains("Text plans are no part of the product"));
-    // What is not proved is said to be so.
-    assert!(all.out.contains("own and not proved") && call(&["help", "explain"]).out.contains("command's own"));
+    // What is no part of the product, and what is not proved, is said to be so.
+    let says = |command: &[&str], words: &str| {
+        let help = call(&[&["help"], command].concat()).out;
+        assert!(
+            help.split_whitespace().collect::<Vec<_>>().join(" ").contains(words),
+            "{help}"
+        );
+    };
+    says(&["make"], "Text plans are no part of the product");
+    says(&[], "this command's own and not proved");
+    says(
+        &["explain"],
+        "The stages, the place and the lines of the tree are this command's own.",
+    );
     assert_eq!(call(&["--version"]).out, format!("bolfrega {}\n", env!("CARGO_PKG_VERSION")));
 }
 
@@ -97,5 +108,9 @@ fn a_path_of_any_kind_is_one_line() {
         .output()
         .unwrap();
     assert_eq!(output.status.code(), Some(1));
-    assert!(output.stdout.starts_with(b"--json: broken: "));
+    let line = String::from_utf8(output.stdout).unwrap();
+    assert!(
+        line.starts_with("--json: broken: ") && line.contains("`bolfrega explain ./--json` shows"),
+        "{line}"
+    );
 }

@@ -23,9 +23,13 @@ pub fn escaped(text: &str) -> String {
     text.chars().map(escape).collect()
 }
 
-/// A path as a shell takes it.
+/// A path as it stands in a call from a shell.
 pub fn for_shell(path: &OsStr) -> String {
-    let text = shown(path);
+    let text = match shown(path) {
+        // It is no option.
+        text if text.starts_with('-') && text != "-" => format!("./{text}"),
+        text => text,
+    };
     let plain = |c: char| c.is_alphanumeric() || "/._-+:,@%".contains(c);
     if !text.is_empty() && text.chars().all(plain) {
         text

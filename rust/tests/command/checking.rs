@@ -117,6 +117,11 @@ fn a_limit_that_ran_out_and_the_next_one() {
             "spent: undecided, the budget of 1000000 joins ran out; try --budget 10000000",
         ),
         (
+            &["--rows", "1500", "samples/full.plan"],
+            4,
+            "full: undecided, the 1500 rows ran out; try --rows 4096",
+        ),
+        (
             &["--budget=11", "samples/plan-a.plan"],
             4,
             "spent: undecided, the budget of 11 joins ran out; try --budget 110",

@@ -106,7 +106,7 @@ fn a_refused_record_is_marked_and_the_rest_shown() {
 }
 
 #[test]
-fn every_damaged_file_is_shown() {
+fn every_damaged_file_has_its_answer() {
     let mut numbers = Numbers::new(26);
     let size = Size {
         rules: 8,
@@ -125,6 +125,16 @@ fn every_damaged_file_is_shown() {
                 is_marked(&[], &path, &refusal.number().to_string(), "damaged");
                 refused += 1;
             }
+        }
+        // The other commands end with an answer too.
+        for command in ["check", "explain", "gaps", "judge", "member"] {
+            let said = call(&[command, &path]);
+            assert_eq!(said.status == 3, bolfrega::refusal(&file).is_err(), "{command}: {}", said.out);
+            assert!(
+                [0, 1, 3, 4].contains(&said.status) && said.err.is_empty(),
+                "{command}: {}",
+                said.err
+            );
         }
         let lines = call(&["show", &path])
             .out

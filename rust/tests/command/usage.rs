@@ -96,6 +96,10 @@ fn a_path_of_any_kind_is_one_line() {
         json.out
     );
 
+    let quoted = made("a \"quoted\" \\ name.plan", &plan);
+    let json = call(&["check", "--json", &quoted]);
+    assert!(json.out.contains(r#"/a \"quoted\" \\ name.plan","verdict""#), "{}", json.out);
+
     let path = [env!("CARGO_TARGET_TMPDIR").as_bytes(), b"/\xff.plan"].concat();
     let path = OsStr::from_bytes(&path);
     std::fs::write(path, &plan).unwrap();

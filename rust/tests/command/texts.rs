@@ -99,13 +99,13 @@ fn a_refused_record_is_marked_and_the_rest_shown() {
 ";
     let said = feed(&["show", "-"], &file.concat());
     assert_eq!((said.status, said.out.as_str()), (3, text));
-    // In 16-byte records, those that do not rise are marked once.
+    // The same in 16-byte records.
     let wide: Vec<u8> = file.iter().flat_map(|record| [&record[..], &[0; 8]].concat()).collect();
     let text = "\
 0: 0 gives 5
 1: refused, the kind is not 1, 2 or 3 (3): bytes 9 0 0 0 0 0 0 1 0 0 0 0 0 0 0 0
-2: from stage 0 on code 5 to stage 1
-3: from stage 0 on code 5 to stage 1
+2: refused, it does not exceed the record before it (6): from stage 0 on code 5 to stage 1
+3: refused, it does not exceed the record before it (6): from stage 0 on code 5 to stage 1
 4: refused, a used byte is above its range (4): bytes 3 16 0 0 0 0 0 0 0 0 0 0 0 0 0 0
 ";
     let said = feed(&["show", "--wide", "-"], &wide);

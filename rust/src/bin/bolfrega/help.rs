@@ -91,8 +91,7 @@ Prints the records of a file, a line for each, with its number in front:
 A record that is refused has its reason in front, and the others are printed all the
 same. Of one that says nothing the bytes are printed.
 
-  --wide   the file has 16-byte records; of those that do not rise or are too many, the
-           first is marked
+  --wide   the file has 16-byte records; of those that are too many, the first is marked
 
 Exit status: 0 shown, 2 the file cannot be read, 3 shown and refused.
 ";

@@ -25,13 +25,18 @@ fn show(file: &[u8]) -> (String, Option<Refusal>) {
     (text, refused)
 }
 
-/// The same of sixteen-byte records. Of those that do not rise or are too many, the first is marked.
+/// The same of sixteen-byte records, for which the library has no reader of single records: it is asked of each by itself and of the file, and
+/// whether a record exceeds the one before it is seen here. Of those that are too many, the first is marked.
 fn show_wide(file: &[u8]) -> (String, Option<Refusal>) {
     let front = front(file, WIDE_RECORD_BYTES);
     let (refused, first) = (wide_refusal(file).err(), wide_refusal(front).err());
     let text = lines(file, WIDE_RECORD_BYTES, refused, |place| {
-        let this = first.filter(|refusal| refusal.record() == Some(place as u64));
-        this.or(wide_refusal(record_at(front, WIDE_RECORD_BYTES, place)).err())
+        let at = |place| record_at(front, WIDE_RECORD_BYTES, place);
+        let rises = place == 0 || at(place - 1) < at(place);
+        let record = place as u64;
+        let order = (!rises).then_some(Refusal::Order { record });
+        let count = first.filter(|refusal| refusal.record() == Some(record));
+        wide_refusal(at(place)).err().or(order).or(count)
     });
     (text, refused)
 }

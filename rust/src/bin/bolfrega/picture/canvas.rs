@@ -10,12 +10,12 @@ pub const SIZE: f64 = 14.0;
 const STYLE: &str = "\
 text{font-family:'DejaVu Sans',Verdana,sans-serif;font-size:14px;fill:#1f2933}
 .middle{text-anchor:middle}.end{text-anchor:end}.grey{fill:#66727f}.bold{font-weight:bold}.head{font-size:16px;font-weight:bold}
-.first{fill:#c2410c;font-weight:bold}.second{fill:#1d4ed8}.third{fill:#66727f}
+.first{fill:#c2410c;font-weight:bold}
 .line,.path,.fine,.stuck{fill:none;stroke:#52606d;stroke-width:1.4}.fine{stroke:#cbd2d9;stroke-width:1}
 .path{stroke:#c2410c;stroke-width:3}.stuck{stroke:#b91c1c;stroke-width:3;stroke-dasharray:5 4}.cross{stroke:#b91c1c;stroke-width:3.4}
 .far{opacity:.4}.stage,.box{fill:#eef2f6;stroke:#334e68;stroke-width:1.8}.seen{fill:#ffedd5;stroke:#c2410c}.lost{fill:#fee2e2;stroke:#b91c1c;stroke-width:3}
 .ring{fill:none;stroke:#334e68;stroke-width:1.8}.back{fill:#fff;opacity:.88}.page{fill:#fff}
-.dot1{fill:#c2410c}.dot2{fill:#1d4ed8}.dot3{fill:#9aa5b1}
+.dot1{fill:#c2410c}.dot2{fill:#1d4ed8}.dot3{fill:#fff;stroke:#66727f;stroke-width:1.6}
 ";
 
 const HEADS: [(&str, &str); 3] = [("line", "#52606d"), ("path", "#c2410c"), ("stuck", "#b91c1c")];
@@ -61,9 +61,13 @@ impl Canvas {
         Canvas { text, width, height }
     }
 
-    pub fn circle(&mut self, at: Point, radius: f64, class: &str) {
+    /// A circle, and what is shown where the mouse rests on it.
+    pub fn circle(&mut self, at: Point, radius: f64, class: &str, title: &str) {
         let (x, y, r) = (short(at.x), short(at.y), short(radius));
-        self.push(&format!("<circle class=\"{class}\" cx=\"{x}\" cy=\"{y}\" r=\"{r}\"/>"));
+        let title = escaped(title);
+        self.push(&format!(
+            "<circle class=\"{class}\" cx=\"{x}\" cy=\"{y}\" r=\"{r}\"><title>{title}</title></circle>"
+        ));
     }
 
     /// A box with round corners.

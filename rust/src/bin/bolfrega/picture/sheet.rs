@@ -235,14 +235,14 @@ fn joined(codes: &[u8], names: &BTreeMap<u8, String>, most: usize) -> String {
 fn draw_stage(canvas: &mut Canvas, circle: &Circle, stage: &Stage, run: Option<&Run>) {
     let at = circle.at(stage.number);
     if stage.finishing {
-        canvas.circle(at, RING, "ring");
+        canvas.circle(at, RING, "ring", "finishing");
     }
     let class = match run {
         Some(run) if has(lost(run), stage.number) => "stage lost",
         Some(run) if has(seen(run), stage.number) => "stage seen",
         _ => "stage",
     };
-    canvas.circle(at, STAGE, class);
+    canvas.circle(at, STAGE, class, &format!("stage {}", stage.number));
     canvas.text(Point::new(at.x, at.y + 5.0), "middle bold", &stage.number.to_string());
 }
 

@@ -56,7 +56,7 @@ fn draw_node(canvas: &mut Canvas, at: Point, node: &Node) -> f64 {
         Kind::Step => "box seen",
     };
     if node.kind == Kind::Step && wide == BOX {
-        canvas.circle(at, BOX / 2.0, class);
+        canvas.circle(at, BOX / 2.0, class, &node.note);
     } else {
         canvas.rect(Point::new(left, top), wide, BOX, class);
     }

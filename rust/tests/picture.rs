@@ -47,7 +47,7 @@ fn run(sheet: &Sheet, codes: &[u8]) -> Run {
         Step { code, after: before }
     };
     let steps: Vec<Step> = codes.iter().map(&mut step).collect();
-    let lost = steps.iter().position(|step| step.after == 0).unwrap_or(steps.len());
+    let lost = steps.iter().position(|step| step.after == 0).map(|at| at + 1);
     Run { steps, lost }
 }
 
@@ -253,7 +253,7 @@ fn plan_b_shows_all_that_explains_it() {
     assert_eq!(drawn.matches("class=\"ring\"").count(), 1);
 }
 
-/// The three ways to be lost: no move, no way to finish, and the end of the run.
+/// The ways to be lost: no move, no way to finish, also from the start, and the end of the run.
 #[test]
 fn where_the_run_is_lost() {
     let sheet = sheet(include_bytes!("../../samples/plan-b.plan"));
@@ -267,10 +267,15 @@ fn where_the_run_is_lost() {
     };
     said(run(&sheet, &[1, 2, 1]), "The run ends in stage 1: not finishing.");
     said(run(&sheet, &[]), "The run has no step, and stage 0 is not finishing.");
+    let nowhere = Run {
+        lost: Some(0),
+        ..run(&sheet, &[1])
+    };
+    said(nowhere, "No way to finish from stage 0, where every run starts.");
     said(run(&sheet, &[2]), "Step 1, code 2: no move from stage 0.");
     let steps = vec![Step { code: 3, after: 0b110 }, Step { code: 9, after: 0b100 }];
     said(
-        Run { steps, lost: 0 },
+        Run { steps, lost: Some(1) },
         "Step 1, code 3: no way to finish from stages 1 and 2.",
     );
 }

@@ -1,7 +1,7 @@
 //! The same picture as text for graphviz.
 
 use super::sheet::{arrows, lost, Arrow};
-use super::{has, stages_of, Kind, Node, Picture, Run, Stage};
+use super::{has, stages_of, Kind, Node, Picture, Run, Stage, Step};
 use std::collections::BTreeMap;
 use std::fmt::Write;
 
@@ -53,15 +53,12 @@ fn arrow_line(arrow: &Arrow, names: &BTreeMap<u8, String>) -> String {
 
 /// A step that no move is on, to a node that is no stage.
 fn stuck_lines(run: &Run) -> Vec<String> {
-    let Some(step) = run.steps.get(run.lost).filter(|step| step.after == 0) else {
+    let Some((_, Step { code, after: 0 })) = run.losing() else {
         return Vec::new();
     };
     let line = |stage| {
         let node = format!("x{stage} [shape=plaintext, label=\"no move\"];");
-        format!(
-            "{node}\ns{stage} -> x{stage} [style=dashed, label=\"{}\", {LOST}];",
-            step.code
-        )
+        format!("{node}\ns{stage} -> x{stage} [style=dashed, label=\"{code}\", {LOST}];")
     };
     stages_of(run.stuck()).map(line).collect()
 }

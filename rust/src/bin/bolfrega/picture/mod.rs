@@ -56,8 +56,8 @@ pub struct Move {
 #[derive(Clone, Debug, Default)]
 pub struct Run {
     pub steps: Vec<Step>,
-    /// The step, from 0, from which on no finishing stage can be reached; the number of steps if the run only ends too early.
-    pub lost: usize,
+    /// The first place from which no finishing stage can be reached: 0 is the start, and k the end of step k; none if the run only ends too early.
+    pub lost: Option<usize>,
 }
 
 /// A step of a run, and the stages after it, bit s for stage s.
@@ -112,22 +112,36 @@ impl Run {
         taken
     }
 
-    /// The stages in which the run is when it is lost.
+    /// The steps up to the place where it is lost.
+    fn until_lost(&self) -> usize {
+        self.lost.unwrap_or(self.steps.len()).min(self.steps.len())
+    }
+
+    /// The step by which it is lost, with its number from 1; none if it is lost from the start, or by its end.
+    fn losing(&self) -> Option<(usize, Step)> {
+        let number = self.lost.filter(|&place| place > 0)?;
+        Some((number, *self.steps.get(number - 1)?))
+    }
+
+    /// The stages in which the run is just before it is lost.
     fn stuck(&self) -> u16 {
-        self.before(self.lost.min(self.steps.len()))
+        match self.losing() {
+            Some((number, _)) => self.before(number - 1),
+            None => self.before(self.until_lost()),
+        }
     }
 
     /// What happens where the run is lost.
     fn fate(&self) -> String {
         let stages = named(self.stuck());
-        match self.steps.get(self.lost) {
-            None if self.steps.is_empty() => "The run has no step, and stage 0 is not finishing.".to_string(),
-            None => format!("The run ends in {stages}: not finishing."),
-            Some(step) if step.after == 0 => format!("Step {}, code {}: no move from {stages}.", self.lost + 1, step.code),
-            Some(step) => {
-                let (place, after) = (self.lost + 1, named(step.after));
-                format!("Step {place}, code {}: no way to finish from {after}.", step.code)
+        match self.losing() {
+            Some((number, Step { code, after: 0 })) => format!("Step {number}, code {code}: no move from {stages}."),
+            Some((number, Step { code, after })) => {
+                format!("Step {number}, code {code}: no way to finish from {}.", named(after))
             }
+            None if self.lost.is_some() => format!("No way to finish from {stages}, where every run starts."),
+            None if self.steps.is_empty() => format!("The run has no step, and {stages} is not finishing."),
+            None => format!("The run ends in {stages}: not finishing."),
         }
     }
 }

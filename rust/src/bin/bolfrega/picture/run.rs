@@ -18,7 +18,7 @@ pub fn draw(run: &Run, width: f64) -> Canvas {
     let mut strip = Canvas::new(width, 0.0);
     let mut pen = Point::new(0.0, 24.0);
     strip.text(Point::new(0.0, 8.0), "bold", "The run, and the stages that it can be in");
-    let last = run.steps.len().min(run.lost + 1);
+    let last = run.until_lost();
     set(&mut strip, &mut pen, run.before(0), last == 0);
     for step in 0..last {
         if last > MOST && step == MOST / 2 {
@@ -31,7 +31,7 @@ pub fn draw(run: &Run, width: f64) -> Canvas {
             continue;
         }
         turn(&mut strip, &mut pen, GAP + width_of(&words(run.before(step + 1))) + 20.0);
-        arrow(&mut strip, &mut pen, run.steps[step].code, step == run.lost);
+        arrow(&mut strip, &mut pen, run.steps[step].code, run.lost == Some(step + 1));
         set(&mut strip, &mut pen, run.before(step + 1), step + 1 == last);
     }
     strip.text(Point::new(0.0, pen.y + TALL + 26.0), "", &run.fate());

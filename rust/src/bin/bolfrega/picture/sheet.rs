@@ -1,7 +1,7 @@
 //! The order sheet on a circle: stage 0 at the left, the others clockwise.
 
 use super::canvas::{width_of, Canvas, Point};
-use super::{has, stages_of, Move, Run, Sheet, Stage};
+use super::{has, stages_of, Move, Run, Sheet, Stage, Step};
 use std::collections::{BTreeMap, BTreeSet};
 use std::f64::consts::{PI, TAU};
 
@@ -248,13 +248,15 @@ fn draw_stage(canvas: &mut Canvas, circle: &Circle, stage: &Stage, run: Option<&
 
 /// The stages that the run comes to before it is lost.
 fn seen(run: &Run) -> u16 {
-    (0..=run.lost.min(run.steps.len())).fold(0, |set, step| set | run.before(step))
+    (0..=run.until_lost())
+        .filter(|&place| run.lost != Some(place))
+        .fold(0, |set, place| set | run.before(place))
 }
 
 /// The stages where the run is lost: those that it can't leave, or those from which it can't finish.
 pub(super) fn lost(run: &Run) -> u16 {
-    match run.steps.get(run.lost) {
-        Some(step) if step.after != 0 => step.after,
+    match run.losing() {
+        Some((_, step)) if step.after != 0 => step.after,
         _ => run.stuck(),
     }
 }
@@ -273,17 +275,17 @@ fn draw_start(canvas: &mut Canvas, circle: &Circle, labels: &mut Labels) {
 
 /// A step that no move is on, as an arrow that leads nowhere.
 fn draw_stuck(canvas: &mut Canvas, circle: &Circle, labels: &mut Labels, run: &Run) {
-    let Some(step) = run.steps.get(run.lost).filter(|step| step.after == 0) else {
+    let Some((_, Step { code, after: 0 })) = run.losing() else {
         return;
     };
     for stage in stages_of(run.stuck()) {
         let (at, angle) = (circle.at(stage), circle.outward(stage) - ASIDE);
         let [near, end] = [circle.edge(stage) + 2.0, 62.0].map(|far| at.away(far, angle));
-        canvas.curve(&[near, end], "stuck", false, &format!("no move on {}", step.code));
+        canvas.curve(&[near, end], "stuck", false, &format!("no move on {code}"));
         for turn in [PI / 4.0, -PI / 4.0] {
             canvas.line(end.away(7.0, angle + turn), end.away(-7.0, angle + turn), "cross");
         }
-        let label = [("first", step.code.to_string())];
+        let label = [("first", code.to_string())];
         labels.keep(end, 10.0);
         labels.put(canvas, &[at.away(42.0, angle)], &label);
     }

@@ -2,9 +2,14 @@
 //!
 //! `bench` measures and prints; `bench NAME..` only the files named, `bench --program` only
 //! the check program's worst file, `bench --runs` only the recognizing of recorded runs, `bench --lists` only the listing of gaps and
-//! doubles, `bench --forms` only the moving and unfolding of sixteen-byte records. `bench --agree` only checks that all agree on every
-//! file, and `bench --files DIR` writes the files.
+//! doubles, `bench --forms` only the moving and unfolding of sixteen-byte records. `bench --svg FILE` prints the first table and draws it, `bench
+//! --svg FILE NAME..` that of the files named. `bench --agree` only checks that all agree on every file, and `bench --files DIR` writes the files.
 
+// The drawing of the command, of which a chart needs a part.
+#[allow(dead_code)]
+#[path = "../../rust/src/bin/bolfrega/picture/canvas.rs"]
+mod canvas;
+mod chart;
 mod files;
 mod forms;
 mod growth;
@@ -12,7 +17,9 @@ mod lists;
 mod runs;
 mod timing;
 
+use chart::Measured;
 use files::Case;
+use std::io::Write;
 use std::path::Path;
 use std::process::ExitCode;
 use std::time::Duration;
@@ -33,9 +40,10 @@ fn main() -> ExitCode {
         ["--runs"] => runs::agree().and_then(|_| runs::table()),
         ["--lists"] => lists::agree().and_then(|_| lists::table()),
         ["--forms"] => forms::agree().and_then(|_| forms::table()),
+        ["--svg", path, ref names @ ..] => draw(path, names),
         ["--agree"] => all_agree(),
         ["--files", folder] => write_files(Path::new(folder)).map_err(|error| format!("{folder}: {error}")),
-        ref names => named(names).and_then(|cases| table(&cases)),
+        ref names => named(names).and_then(|cases| table(&cases)).map(drop),
     };
     match done {
         Ok(()) => ExitCode::SUCCESS,
@@ -60,7 +68,7 @@ fn whole_run() -> Result<(), String> {
 fn named(names: &[&str]) -> Result<Vec<Case>, String> {
     let find = |name: &&str| files::all().into_iter().find(|case| case.name == *name);
     let unknown = |name: &&str| {
-        let usage = "bench [NAME.. | --program | --runs | --lists | --forms | --agree | --files DIR]";
+        let usage = "bench [NAME.. | --program | --runs | --lists | --forms | --svg FILE [NAME..] | --agree | --files DIR]";
         format!("there is no file {name}; usage: {usage}")
     };
     names.iter().map(|name| find(name).ok_or_else(|| unknown(name))).collect()
@@ -103,8 +111,18 @@ fn write_files(folder: &Path) -> io::Result<()> {
     Ok(())
 }
 
-/// A line for each file, and the summary.
-fn table(cases: &[Case]) -> Result<(), String> {
+/// Prints the table of some files, or of all, and draws it.
+fn draw(path: &str, names: &[&str]) -> Result<(), String> {
+    let cases = if names.is_empty() { files::all() } else { named(names)? };
+    let failed = |error| format!("{path}: {error}");
+    // A file that can't be written is better known before all is measured.
+    let mut file = fs::File::create(path).map_err(failed)?;
+    let drawn = chart::draw(&table(&cases)?);
+    file.write_all(drawn.as_bytes()).map_err(failed)
+}
+
+/// A line for each file, and the summary. Returns what was measured.
+fn table(cases: &[Case]) -> Result<Vec<Measured>, String> {
     println!("Times are for one join. \"proved\" is the proved check over lent rows, \"every\" plain Rust that forms every candidate, \"semi-naive\" plain Rust that is semi-naive.");
     println!();
     println!(
@@ -115,17 +133,22 @@ fn table(cases: &[Case]) -> Result<(), String> {
         "|{:-<16}|{:-<9}|{:->12}:|{:->6}:|{:->12}:|{:->12}:|{:->12}:|{:->13}:|{:->18}:|",
         "", "", "", "", "", "", "", "", ""
     );
-    let mut measured = Vec::new();
+    let (mut measured, mut large) = (Vec::new(), Vec::new());
     for case in cases {
         let (outcome, times) = measure(case)?;
         println!("{}", line(case, &outcome, &times));
+        measured.push(Measured {
+            name: case.name.clone(),
+            joins: outcome.joins,
+            times,
+        });
         if outcome.joins >= MANY_JOINS {
-            measured.push((case, times));
+            large.push((case, times));
         }
     }
-    summary(&measured);
+    summary(&large);
     cases.iter().filter(|case| case.name == TINY).for_each(both_calls);
-    Ok(())
+    Ok(measured)
 }
 
 /// The line of a file.

@@ -401,10 +401,10 @@ uint64_t bolfrega_unfold_from(const uint8_t *file, size_t file_length, uint64_t 
  * has 8 MiB.)
  *
  * How long it takes, as measured on one core of a server at 2.1 GHz (bench/README.md): some 25 microseconds for any file, most of them for
- * clearing its journal and tables; then 5 to 50 nanoseconds for each join, and where hundreds or thousands of rows of one procedure are
- * looked through for most joins, from 100 nanoseconds up to a microsecond. Joins of rows that were there in the pass before are only counted:
- * 62 thousand million of them took less than a second. So a budget of 1,000,000 joins ends a call within about a second, and of the files
- * that we measure the slowest took 21 milliseconds with it.
+ * clearing its journal and tables; then 2 to 20 nanoseconds for most joins, and where hundreds or thousands of rows of one procedure are
+ * looked through for each join, from 40 nanoseconds up to one or two microseconds. Joins of rows that were there in the pass before are only
+ * counted: 62 thousand million of them took a quarter of a second. So a budget of 1,000,000 joins ends a call within about two seconds, and of the
+ * files that we measure the slowest took 10 milliseconds with it.
  *
  * Returns, and sets all eight details:
  * - 1 to 7 or 12 if the file is refused; else 8 if `rows` is 0 or above 4,096. The record is that of bolfrega_refusal (0 for 1, 2 and 8), and

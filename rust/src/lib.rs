@@ -71,9 +71,9 @@
 //!
 //! # Time
 //!
-//! As measured on one core of a server at 2.1 GHz, [`check`] takes some 25 microseconds for any file, then 5 to 50 nanoseconds for each join,
-//! and where hundreds or thousands of rows of one procedure are looked through for most joins, from 100 nanoseconds up to a microsecond. Joins
-//! of rows that were there in the pass before are only counted. A budget of 1,000,000 joins ends a call within about a second. [`check_rows`] takes
+//! As measured on one core of a server at 2.1 GHz, [`check`] takes some 25 microseconds for any file, then 2 to 20 nanoseconds for most joins,
+//! and where hundreds or thousands of rows of one procedure are looked through for each join, from 40 nanoseconds up to one or two microseconds. Joins
+//! of rows that were there in the pass before are only counted. A budget of 1,000,000 joins ends a call within about two seconds. [`check_rows`] takes
 //! about a microsecond for a tiny file.
 
 #![no_std]

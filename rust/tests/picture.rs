@@ -74,7 +74,7 @@ fn plan_b() -> Picture {
     ];
     nodes[5].marked = true;
     Picture {
-        title: "plan-b.plan: broken by the run 1 3".to_string(),
+        title: "samples/plan-b.plan: broken: the sheet turns away the run 1 3 of procedure 0".to_string(),
         run: Some(run(&sheet, &[1, 3])),
         sheet,
         tree: Some(Tree { nodes }),

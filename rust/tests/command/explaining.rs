@@ -172,6 +172,42 @@ fn every_sample_is_explained() {
 }
 
 #[test]
+fn plan_b_is_drawn_as_it_was_looked_at() {
+    for option in ["svg", "dot"] {
+        let said = call(&["explain", &format!("--{option}"), "samples/plan-b.plan"]);
+        let stored = String::from_utf8(read(&format!("rust/tests/pictures/plan-b.{option}"))).unwrap();
+        assert_eq!((said.status, said.out, said.err.as_str()), (1, stored, ""), "{option}");
+    }
+}
+
+#[test]
+fn every_sample_is_drawn_or_refused() {
+    for sample in samples(".plan") {
+        let word = answer(&sample)[0].split(' ').next().unwrap().to_string();
+        for (option, begin, end) in [("--svg", "<svg", "</svg>\n"), ("--dot", "digraph", "}\n")] {
+            let said = call(&["explain", option, &sample]);
+            assert_eq!(said.status, status_of(&word), "{sample} {option}");
+            if word == "refused" {
+                assert_eq!(said.out, "", "{sample} {option}");
+                assert!(said.err.ends_with("; there is nothing to draw\n"), "{}", said.err);
+            } else {
+                assert_eq!(said.err, "", "{sample} {option}");
+                assert!(said.out.contains(begin) && said.out.ends_with(end), "{sample} {option}");
+            }
+        }
+    }
+}
+
+#[test]
+fn names_are_drawn() {
+    let names = made("drawn.txt", b"procedure 2 after tile\nstep 3 close\nstage 1 index-due\n");
+    let said = call(&["explain", "--svg", "--names", &names, "samples/plan-b.plan"]);
+    for name in ["after tile", "close", "index-due"] {
+        assert!(said.out.contains(name), "{name}");
+    }
+}
+
+#[test]
 fn a_run_that_is_not_written() {
     // 2^63 steps: each of 63 procedures gives the next one twice, and the last gives 5.
     let rules: Vec<u8> = (0..63)

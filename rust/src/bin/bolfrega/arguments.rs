@@ -14,6 +14,8 @@ pub struct Arguments {
     pub named: Option<Starts>,
     pub json: bool,
     pub wide: bool,
+    pub svg: bool,
+    pub dot: bool,
     pub help: bool,
     /// The file with names.
     pub names: Option<OsString>,
@@ -28,6 +30,8 @@ pub fn parse(options: &[&str], words: &[OsString]) -> Result<Arguments, Trouble>
         named: None,
         json: false,
         wide: false,
+        svg: false,
+        dot: false,
         help: false,
         names: None,
         words: Vec::new(),
@@ -57,7 +61,9 @@ impl Arguments {
         match (name, &given) {
             ("--json", None) => self.json = true,
             ("--wide", None) => self.wide = true,
-            ("--json" | "--wide", Some(_)) => return Err(Trouble::usage(format!("{name} takes no value"))),
+            ("--svg", None) => self.svg = true,
+            ("--dot", None) => self.dot = true,
+            ("--json" | "--wide" | "--svg" | "--dot", Some(_)) => return Err(Trouble::usage(format!("{name} takes no value"))),
             _ => {
                 let value = given.or_else(|| left.next().cloned());
                 let value = value.ok_or_else(|| Trouble::usage(format!("{name} needs a value")))?;

@@ -2,12 +2,14 @@
 
 use crate::arguments::Arguments;
 use crate::asked::Asked;
+use crate::drawing::{picture, Shown};
 use crate::endless::endless;
 use crate::names::Names;
+use crate::picture::{dot, svg};
 use crate::sheet::{members, Sheet, Stages};
 use crate::show::content;
 use crate::status::{Status, Trouble};
-use crate::streams::Streams;
+use crate::streams::{complain, Streams};
 use crate::tree::tree;
 use crate::words::{joined, shown, steps};
 use bolfrega::{records, BrokenRow, Journal, Record, Refusal, VerdictRows, RECORD_BYTES};
@@ -26,6 +28,9 @@ pub fn run(arguments: &Arguments, streams: &mut Streams) -> Result<Status, Troub
     if asked.status() == Status::NoAnswer {
         return Err(Trouble::new(first.trim_end()));
     }
+    if arguments.svg || arguments.dot {
+        return draw(arguments, streams, &file, &journal, &names, &asked, first.trim_end());
+    }
     let text = match &asked.reply {
         Err(refusal) => at_fault(&file, *refusal),
         Ok(answer) => {
@@ -42,6 +47,44 @@ pub fn run(arguments: &Arguments, streams: &mut Streams) -> Result<Status, Troub
         None => String::new(),
     };
     streams.write(format!("{first}{text}{to_do}").as_bytes())?;
+    Ok(asked.status())
+}
+
+/// Writes a picture in the place of the text: the sheet, and of a broken answer the run and how the plan gives it. Of a refused file there is
+/// nothing to draw, and standard error says so.
+fn draw(
+    arguments: &Arguments,
+    streams: &mut Streams,
+    file: &[u8],
+    journal: &Journal,
+    names: &Names,
+    asked: &Asked,
+    title: &str,
+) -> Result<Status, Trouble> {
+    if arguments.svg && arguments.dot {
+        return Err(Trouble::usage("--svg and --dot are two pictures: ask for one"));
+    }
+    let Ok(found) = records(file) else {
+        complain(&format!("bolfrega: {title}; there is nothing to draw\n"));
+        return Ok(asked.status());
+    };
+    let records: Vec<Record> = found.collect();
+    let run = asked.run.as_ref().and_then(|run| run.as_deref().ok());
+    let sheet = Sheet::of(records.iter().copied());
+    let sets = sheet.along(run.unwrap_or_default());
+    let shown = match asked.reply.as_ref().map(|answer| answer.verdict) {
+        Ok(VerdictRows::Broken(broken)) => Some(Shown {
+            rows: journal.rows(),
+            row: broken.row,
+            run,
+            sets: &sets,
+            lost: run.and_then(|_| sheet.lost(&sets)),
+        }),
+        _ => None,
+    };
+    let picture = picture(title, &records, names, shown);
+    let text = if arguments.svg { svg(&picture) } else { dot(&picture) };
+    streams.write(text.as_bytes())?;
     Ok(asked.status())
 }
 
@@ -117,6 +160,14 @@ fn why_lost(sets: &[Stages], run: &[u8], place: usize, names: &Names) -> String 
         }
         Some(_) => nothing.to_string(),
         None => "no finishing stage can be reached at all".to_string(),
+    }
+}
+
+/// Why a run is lost at a step, in few words: no move leads on, or those that do lead to no finishing stage.
+pub fn lost_at(sets: &[Stages], place: usize, names: &Names) -> String {
+    match sets[place] {
+        0 => format!("no move from {}", stages(sets[place - 1], names)),
+        _ => "no way to finish".to_string(),
     }
 }
 

@@ -56,7 +56,8 @@ refused, 4 one is undecided; the worst of these in the order 2, 3, 1, 4, 0.
 ";
 
 pub const EXPLAIN: &str = "\
-usage: bolfrega explain [--names NAMES] [--rows N] [--budget N] [--start P,..] FILE
+usage: bolfrega explain [--names NAMES] [--svg | --dot] [--rows N] [--budget N]
+                        [--start P,..] FILE
 
 Says why a file has the verdict that `bolfrega check` gives:
 
@@ -71,6 +72,9 @@ Says why a file has the verdict that `bolfrega check` gives:
 
   --names NAMES   a text with names, a line for each: `procedure 1 rows`, `step 3
                   close`, `stage 0 ready`
+  --svg           a picture in the place of the text: the sheet, the path of the run in
+                  it, and the tree beside it
+  --dot           the same as text for graphviz
   --rows, --budget, --start   as of `bolfrega check`
 
 The verdict, the run and the rows are the proved library's. The stages, the place and

@@ -6,12 +6,14 @@
 mod arguments;
 mod asked;
 mod check;
+mod drawing;
 mod endless;
 mod explain;
 mod help;
 mod make;
 mod names;
 mod others;
+mod picture;
 mod sheet;
 mod show;
 mod status;
@@ -48,7 +50,7 @@ const COMMANDS: &[Command] = &[
     },
     Command {
         name: "explain",
-        options: check_options!("--names"),
+        options: check_options!("--names", "--svg", "--dot"),
         run: explain::run,
         help: help::EXPLAIN,
     },

@@ -42,7 +42,7 @@ impl Names {
     }
 
     /// A procedure at the head of a rule.
-    fn head(&self, number: u8) -> String {
+    pub fn head(&self, number: u8) -> String {
         self.name(Kind::Procedure, number).unwrap_or_else(|| number.to_string())
     }
 
@@ -53,11 +53,21 @@ impl Names {
 
     /// A step of a run.
     pub fn step(&self, code: u8) -> String {
-        self.name(Kind::Step, code).unwrap_or_else(|| code.to_string())
+        self.step_name(code).unwrap_or_else(|| code.to_string())
     }
 
     pub fn stage(&self, number: u8) -> String {
-        self.name(Kind::Stage, number).unwrap_or_else(|| format!("stage {number}"))
+        self.stage_name(number).unwrap_or_else(|| format!("stage {number}"))
+    }
+
+    /// The name of a stage, if it has one.
+    pub fn stage_name(&self, number: u8) -> Option<String> {
+        self.name(Kind::Stage, number)
+    }
+
+    /// The name of a step code, if it has one.
+    pub fn step_name(&self, code: u8) -> Option<String> {
+        self.name(Kind::Step, code)
     }
 
     fn symbol(&self, byte: u8) -> String {

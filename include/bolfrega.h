@@ -19,13 +19,9 @@
  *
  * A check keeps a journal, a row for each effect that it keeps. bolfrega_check and bolfrega_check_from have one of their own; a host that wants to
  * see the rows, or to write the run behind any of them, or to check many files in less time, lends its own to bolfrega_check_rows and bolfrega_write.
- * Where a row is needed and none is unused, the check drops every row that is neither live, nor was live when the pass began, nor is reached from one
- * of those through `left` and `right`; the others move down in their order, and are renumbered. It is full where none can be dropped. Unless it is
- * full, its verdict, joins, pass and run are those of a check with so many rows that it never drops any.
  *
  * What every call asks of its caller:
- * - A pointer and the length after it are those of one area of memory, which is there also where the call refuses: it may be read all the same.
- *   With length 0 the pointer may be null.
+ * - A pointer and the length after it are those of one area of memory. With length 0 the pointer may be null.
  * - `record`, `entries`, `length`, `offset`, `details`, `values`, `next`, `cells` and `near` are not null.
  * - These, and `buffer`, `table`, `list`, `out` and `journal`, overlap neither each other nor the file or the run, and are aligned as their types
  *   ask. What they hold before the call is of no account, but for the journal of bolfrega_write.
@@ -52,7 +48,7 @@ extern "C" {
 #endif
 
 /* The version of the interface that this header describes. A library whose bolfrega_version is this or above has all that stands here. */
-#define BOLFREGA_VERSION 4
+#define BOLFREGA_VERSION 3
 
 /* The numbers that a call refuses with, as documents 01 and 02 have them. */
 #define BOLFREGA_REFUSAL_LENGTH 1
@@ -110,7 +106,7 @@ extern "C" {
 /* What bolfrega_check, bolfrega_check_from and bolfrega_check_rows return, unless they refuse. */
 #define BOLFREGA_HOLDS 100  /* each member has a run, and the sheet accepts every run of every member */
 #define BOLFREGA_BROKEN 101 /* a member has a run that the sheet turns away */
-#define BOLFREGA_FULL 102   /* the journal had no row left, and none could be dropped */
+#define BOLFREGA_FULL 102   /* the journal had no row left */
 #define BOLFREGA_SPENT 103  /* the joins reached the budget */
 #define BOLFREGA_EMPTY 104  /* some member has no run: it never ends; and the sheet accepts every run of the others */
 
@@ -154,7 +150,7 @@ extern "C" {
 /* The places of the details: bolfrega_check has the first eight, bolfrega_check_from and bolfrega_check_rows all nine. */
 #define BOLFREGA_RECORD 0    /* the record that is refused */
 #define BOLFREGA_JOINS 1     /* candidates formed */
-#define BOLFREGA_USED 2      /* journal rows used, at the end */
+#define BOLFREGA_USED 2      /* journal rows used */
 #define BOLFREGA_PASS 3      /* the pass in which the check ended, from 1 */
 #define BOLFREGA_ROW 4       /* the row of a broken check */
 #define BOLFREGA_PAIRS 5     /* the number of stage pairs in that row's effect */
@@ -179,7 +175,7 @@ struct bolfrega_row {
     uint64_t right;     /* the row of its second symbol, likewise */
     uint64_t length;    /* the length of the run, up to BOLFREGA_LENGTH_CAP */
     uint64_t birth;     /* the pass in which it was stored, from 1 */
-    uint64_t retired;   /* the pass in which a smaller one took its place, or 0: it is live */
+    uint64_t retired;   /* the pass in which a smaller one took its place, or 0 */
 };
 
 /*
@@ -232,7 +228,7 @@ static inline const char *bolfrega_message(uint64_t number)
     case BOLFREGA_BROKEN:
         return "broken: a run is turned away";
     case BOLFREGA_FULL:
-        return "full: the journal had no row left, and none could be dropped";
+        return "full: the journal had no row left";
     case BOLFREGA_SPENT:
         return "spent: the joins reached the budget";
     case BOLFREGA_EMPTY:
@@ -268,8 +264,7 @@ static inline const char *bolfrega_message(uint64_t number)
  * The version of the library's interface, BOLFREGA_VERSION or above.
  *
  * Version 2 adds bolfrega_check_from, bolfrega_unfold_from and BOLFREGA_PROCEDURE. Version 3 adds bolfrega_check_rows, bolfrega_write, bolfrega_step
- * and bolfrega_moves, with number 9. Since version 4 a check uses rows again: where it was BOLFREGA_FULL before, it may go on and answer, and then
- * it may leave rows of its own above the used ones. All else that the versions before had is unchanged.
+ * and bolfrega_moves, with number 9. What the versions before had is unchanged.
  */
 uint64_t bolfrega_version(void);
 
@@ -420,8 +415,7 @@ uint64_t bolfrega_unfold_from(const uint8_t *file, size_t file_length, uint64_t 
  *   steps and fits into the buffer, refused is 0 and the run is the first `length` bytes of the buffer. Else refused is 10.
  *
  * Every byte of the buffer keeps its value but those of a run that is written. Once it returns BOLFREGA_HOLDS, BOLFREGA_BROKEN or
- * BOLFREGA_EMPTY, more rows (up to 4,096) or a larger budget change nothing that it returns or writes, and of what it sets only used and row,
- * since other rows may have been dropped.
+ * BOLFREGA_EMPTY, more rows (up to 4,096) or a larger budget change nothing that it returns, sets or writes.
  */
 uint64_t bolfrega_check(const uint8_t *file, size_t file_length, size_t rows, uint64_t budget, uint64_t details[BOLFREGA_DETAILS], uint8_t *buffer,
                         size_t buffer_length);
@@ -442,8 +436,7 @@ uint64_t bolfrega_check(const uint8_t *file, size_t file_length, size_t rows, ui
  *   the first `length` bytes of the buffer. Else refused is 10.
  *
  * Every byte of the buffer keeps its value but those of a run that is written. Once it returns BOLFREGA_HOLDS, BOLFREGA_BROKEN or
- * BOLFREGA_EMPTY, more rows (up to 4,096) or a larger budget change nothing that it returns or writes, and of what it sets only used and row,
- * since other rows may have been dropped.
+ * BOLFREGA_EMPTY, more rows (up to 4,096) or a larger budget change nothing that it returns, sets or writes.
  */
 uint64_t bolfrega_check_from(const uint8_t *file, size_t file_length, uint64_t starts, size_t rows, uint64_t budget,
                              uint64_t details[BOLFREGA_DETAILS_FROM], uint8_t *buffer, size_t buffer_length);
@@ -456,11 +449,8 @@ uint64_t bolfrega_check_from(const uint8_t *file, size_t file_length, uint64_t s
  *
  * Returns, and sets all nine details, as bolfrega_check_from does, but for BOLFREGA_REFUSED, which is 0.
  *
- * The first `used` rows become those of the check. Unless rows were dropped, all other rows keep their contents; and if the call is refused, all rows
- * do. Rows are dropped only where all of them are used: then each row above the used ones is one of this check as it last was, with the row numbers of
- * that time, and of no use. The journal is read also where the call refuses: where there are rows, one of them is read whatever is returned, and what
- * it holds is of no account. A refused call leaves
- * `cells` and `near` as they were too; what they hold after any other is of no use.
+ * The first `used` rows become those of the check. All other rows keep their contents, and so do all of them if the call is refused. What `cells`
+ * and `near` hold after the call is of no use.
  */
 uint64_t bolfrega_check_rows(const uint8_t *file, size_t file_length, uint64_t starts, uint64_t budget, struct bolfrega_row *journal,
                              size_t rows, uint32_t cells[BOLFREGA_TABLE_CELLS], uint64_t near[BOLFREGA_NEAR_WORDS],
@@ -476,13 +466,7 @@ uint64_t bolfrega_check_rows(const uint8_t *file, size_t file_length, uint64_t s
  * refuses.
  *
  * The first *length bytes of the buffer become the run. All other bytes of the buffer keep their values, and so do all of them if the call is
- * refused. The journal is read also where the call refuses: the rows up to `row`, unless the file or the counts refuse it. It takes up to 578 KiB of
- * stack (144 bytes for each row on the way down).
- *
- * How long it takes, as measured on one core of a busy server at 2.6 GHz: 15 microseconds to look at 4,096 rows, and then 20 nanoseconds for most
- * steps. A row with one symbol alone, or whose other symbol gives nothing, is one more row on the way of each of its steps, for 8 to 16 nanoseconds.
- * After a check at most 64 such rows stand one behind the other, and every run is written within two tenths of a second. Rows that somebody made
- * may all stand so: the longest call that we could make, 65,534 steps behind 4,066 rows each, took 5 seconds.
+ * refused. It takes up to 578 KiB of stack (144 bytes for each row on the way down).
  */
 uint64_t bolfrega_write(const uint8_t *file, size_t file_length, const struct bolfrega_row *journal, size_t rows, size_t used, size_t row,
                         uint64_t *record, uint64_t *length, uint8_t *buffer, size_t buffer_length);

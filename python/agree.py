@@ -7,7 +7,7 @@ before and after it, which it must leave. Exit status: 0 all agree; 1 some do no
 import ctypes
 import sys
 import zlib
-from typing import Collection, Iterator, List, Optional, Tuple
+from typing import Iterator, List, Optional, Tuple
 
 import bolfrega
 
@@ -106,8 +106,8 @@ def function(name: str, file: bytes, run: bytes, given: Numbers) -> Optional[Num
     return [number, *set_] + ([] if area is None else [zlib.crc32(contents)])
 
 
-def members(word: int) -> Collection[int]:
-    return [procedure for procedure in range(64) if word >> procedure & 1] or bolfrega.NO_STARTS
+def members(word: int) -> List[int]:
+    return [procedure for procedure in range(64) if word >> procedure & 1]
 
 
 def answered(answer: bolfrega.Answer, room: int, details: int) -> Numbers:

@@ -88,6 +88,7 @@ pub fn all() -> Vec<Case> {
         Case::new("full-1024", &closed(&ORDERS)).rows(1_024),
         Case::new("full-4096", &closed(&ORDERS)),
         Case::new("full-largest", &random_largest()),
+        Case::new("full-retired", &retired(2, 1)),
         Case::new("spent-group", &closed(&ORDERS_OF_SIX)).budget(300_000),
         Case::new("spent-largest", &cube_largest()).budget(200_000),
         Case::new("sixteen-ring", &ring_of_sixteen()),
@@ -95,10 +96,6 @@ pub fn all() -> Vec<Case> {
         Case::new("sixteen-random", &random_relations(16, 2, 4, 14, 330)),
         Case::new("sixteen-full", &closed(&[RING_OF_16, SWAP_OF_16])),
         Case::new("holes", &holes()),
-        Case::new("dropped-once", &some_codes(13)).rows(1_024),
-        Case::new("dropped-retired", &retired(2, 1)),
-        Case::new("dropped-often", &chains(0)).rows(77),
-        Case::new("dropped-largest", &chains(14)).rows(3_185),
         many_passes(),
     ]
 }
@@ -264,62 +261,6 @@ fn retired_and_chain() -> FileBuilder {
         making.rule(head, &[procedure(head + 1)]);
     }
     making.rule(63, &[]);
-    making
-}
-
-/// A run's effect is smaller the more of these codes it has: each of them stays in every stage but one, which it leads nowhere from. Procedure 1
-/// gives one code, 2 gives two, and 0 first three and then four. So in pass 3 the rows of three codes retire, and nothing needs them any more.
-fn some_codes(codes: u8) -> FileBuilder {
-    let mut making = leaving_one_out(codes);
-    making
-        .rule(0, &[procedure(1), procedure(2)])
-        .rule(0, &[procedure(2), procedure(2)])
-        .rule(2, &[procedure(1), procedure(1)])
-        .finishing(0);
-    making
-}
-
-/// Procedure 1 gives each of the codes from 1 on, and each stays in every stage from 0 on but the one of its number.
-fn leaving_one_out(codes: u8) -> FileBuilder {
-    let mut making = FileBuilder::new();
-    for code in 1..=codes {
-        making.rule(1, &[code]);
-        (0..=codes).filter(|&stage| stage != code).for_each(|stage| {
-            making.step(stage, code, stage);
-        });
-    }
-    making
-}
-
-/// Forty procedures with 256 candidates each in one pass, each of which retires the one before it: a journal that has just the rows it needs drops
-/// one or two of them for nearly every row that it adds. Procedures 1 to 4 have many live rows before that, if there are `codes` of them.
-///
-/// `LEFT + i` leads from stages above i to stage 15, and from i to 14. `RIGHT + j` leads from 15 to every stage, and from 14 to those above j; and from
-/// 13 to j, so that no two of them compare. Their product has all pairs from stages above i, and from i to those above j.
-fn chains(codes: u8) -> FileBuilder {
-    const LEFT: u8 = 40;
-    const RIGHT: u8 = 60;
-    let mut making = leaving_one_out(codes);
-    for i in 0..16 {
-        making.rule(5, &[procedure(20), LEFT + i]).rule(6, &[RIGHT + i]);
-        (i + 1..16).for_each(|stage| {
-            making.step(stage, LEFT + i, 15).step(14, RIGHT + i, stage);
-        });
-        making.step(i, LEFT + i, 14).step(13, RIGHT + i, i);
-        (0..16).for_each(|stage| {
-            making.step(15, RIGHT + i, stage);
-        });
-    }
-    for head in 24..64 {
-        making.rule(head, &[procedure(5), procedure(6)]);
-    }
-    if codes > 0 {
-        making
-            .rule(2, &[procedure(1), procedure(1)])
-            .rule(3, &[procedure(2), procedure(2)])
-            .rule(4, &[procedure(3), procedure(1)]);
-    }
-    delay(&mut making, 3);
     making
 }
 

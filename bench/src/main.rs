@@ -19,12 +19,11 @@ mod timing;
 
 use chart::Measured;
 use files::Case;
-use std::env;
-use std::fs::{self, File};
 use std::io::Write;
 use std::path::Path;
 use std::process::ExitCode;
 use std::time::Duration;
+use std::{env, fs, io};
 use timing::{agree, measure, measure_alone, measure_lent, Outcome, Times};
 
 /// Files with fewer joins say more about reading a file than about the search, and stay out of the summary.
@@ -43,7 +42,7 @@ fn main() -> ExitCode {
         ["--forms"] => forms::agree().and_then(|_| forms::table()),
         ["--svg", path, ref names @ ..] => draw(path, names),
         ["--agree"] => all_agree(),
-        ["--files", folder] => write_files(Path::new(folder)),
+        ["--files", folder] => write_files(Path::new(folder)).map_err(|error| format!("{folder}: {error}")),
         ref names => named(names).and_then(|cases| table(&cases)).map(drop),
     };
     match done {
@@ -103,27 +102,23 @@ fn same_journals(case: &Case) -> Result<(), String> {
     Err(format!("{}: the plain checks have different journals", case.name))
 }
 
-/// Writes the files of the table, so that other programs can read them; none over another file.
-fn write_files(folder: &Path) -> Result<(), String> {
-    let failed = |path: &Path, error| format!("{}: {error}", path.display());
-    fs::create_dir_all(folder).map_err(|error| failed(folder, error))?;
+/// Writes the files of the table, so that other programs can read them.
+fn write_files(folder: &Path) -> io::Result<()> {
+    fs::create_dir_all(folder)?;
     for case in files::all() {
-        let path = folder.join(case.name + ".plan");
-        let written = File::create_new(&path).and_then(|mut file| file.write_all(&case.file));
-        written.map_err(|error| failed(&path, error))?;
+        fs::write(folder.join(case.name + ".plan"), case.file)?;
     }
     Ok(())
 }
 
-/// Prints the table of some files, or of all, and draws it to a file that is not there yet.
+/// Prints the table of some files, or of all, and draws it.
 fn draw(path: &str, names: &[&str]) -> Result<(), String> {
     let cases = if names.is_empty() { files::all() } else { named(names)? };
     let failed = |error| format!("{path}: {error}");
     // A file that can't be written is better known before all is measured.
-    let mut file = File::create_new(path).map_err(failed)?;
-    let drawn = table(&cases).and_then(|measured| file.write_all(chart::draw(&measured).as_bytes()).map_err(failed));
-    // What is empty or cut short is no drawing.
-    drawn.inspect_err(|_| drop(fs::remove_file(path)))
+    let mut file = fs::File::create(path).map_err(failed)?;
+    let drawn = chart::draw(&table(&cases)?);
+    file.write_all(drawn.as_bytes()).map_err(failed)
 }
 
 /// A line for each file, and the summary. Returns what was measured.

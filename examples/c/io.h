@@ -1,4 +1,4 @@
-/* What the examples share: a file read to its end, a number among the words, a refusal, and an answer that was written. */
+/* What the examples share: a file read whole, a number among the words, a refusal, and an answer that was written. */
 #ifndef EXAMPLES_IO_H
 #define EXAMPLES_IO_H
 
@@ -9,29 +9,30 @@
 #include <stdio.h>
 #include <stdlib.h>
 
-/* One record more than any file has, be its records of 8 bytes or of 16. */
-#define MORE_THAN_ANY (BOLFREGA_WIDE_BYTES + BOLFREGA_WIDE_RECORD_BYTES)
-
-/* Reads a stream to its end. Of one that is longer than any file only so many bytes are kept that it is refused as the whole would be. Returns memory
- * to be freed, or null if it can't be read. */
+/* Reads all of a stream. Returns memory to be freed, or null if it can't be read. */
 static inline uint8_t *read_all(FILE *stream, size_t *length)
 {
-    uint8_t *bytes = calloc(MORE_THAN_ANY + BOLFREGA_WIDE_RECORD_BYTES, 1), more[4096];
-    if (bytes == NULL)
-        return NULL;
-    *length = fread(bytes, 1, MORE_THAN_ANY, stream);
-    size_t rest = 0;
-    for (size_t got; (got = fread(more, 1, sizeof more, stream)) > 0;)
-        rest += got;
-    *length += rest % BOLFREGA_WIDE_RECORD_BYTES;
-    if (ferror(stream)) {
+    size_t room = 16384;
+    uint8_t *bytes = malloc(room);
+    *length = 0;
+    while (bytes != NULL) {
+        *length += fread(bytes + *length, 1, room - *length, stream);
+        if (*length < room)
+            break;
+        room *= 2;
+        uint8_t *more = realloc(bytes, room);
+        if (more == NULL)
+            free(bytes);
+        bytes = more;
+    }
+    if (bytes != NULL && ferror(stream)) {
         free(bytes);
-        return NULL;
+        bytes = NULL;
     }
     return bytes;
 }
 
-/* Reads a file to its end. Returns memory to be freed, or null after saying on standard error why not. */
+/* Reads all of a file. Returns memory to be freed, or null after saying on standard error why not. */
 static inline uint8_t *read_file(const char *path, size_t *length)
 {
     FILE *stream = fopen(path, "rb");

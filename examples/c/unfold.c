@@ -1,7 +1,6 @@
 /*
  * Unfolds a plan file of sixteen-byte records, and checks the result as the check program of document 01 does: 1,024 rows, a budget of
- * 1,000,000, a run buffer of 4,096 bytes. If a second name is given, the unfolded file is written there, for check-plan and others; a file that
- * is there already stays, so that `unfold *.wide` destroys none.
+ * 1,000,000, a run buffer of 4,096 bytes. If a second name is given, the unfolded file is written there, for check-plan and others.
  *
  *     cc -Iinclude examples/c/unfold.c target/staticlib/libbolfrega.a -o unfold
  *     ./unfold samples/long-bodies.wide
@@ -13,18 +12,15 @@
 #include "bolfrega.h"
 #include "io.h"
 
-/* Writes an unfolded file, and none over another one. Returns 0 after saying on standard error why not. */
+/* Writes an unfolded file. Returns 0 after saying on standard error why not. */
 static int write_file(const char *path, const uint8_t *file, size_t length)
 {
-    FILE *stream = fopen(path, "wbx");
+    FILE *stream = fopen(path, "wb");
     int whole = stream != NULL && fwrite(file, 1, length, stream) == length;
     if (stream != NULL && fclose(stream) != 0)
         whole = 0;
     if (!whole)
         perror(path);
-    /* What was cut short may be a valid file too, and say something else. */
-    if (!whole && stream != NULL)
-        remove(path);
     return whole;
 }
 

@@ -9,7 +9,6 @@
  */
 #include "bolfrega.h"
 
-#include <algorithm>
 #include <array>
 #include <cstdint>
 #include <fstream>
@@ -31,23 +30,6 @@ Checked check(const std::vector<std::uint8_t> &file)
     checked.number = bolfrega_check(file.data(), file.size(), BOLFREGA_PROGRAM_ROWS, BOLFREGA_PROGRAM_BUDGET, checked.details.data(),
                                     checked.buffer.data(), checked.buffer.size());
     return checked;
-}
-
-/* Reads a stream to its end. Of one that is longer than any file only so many bytes are kept that it is refused as the whole would be. */
-std::vector<std::uint8_t> read_all(std::istream &stream)
-{
-    constexpr std::size_t more_than_any = BOLFREGA_FILE_BYTES + BOLFREGA_RECORD_BYTES;
-    std::vector<std::uint8_t> file;
-    std::array<char, 4096> chunk;
-    std::size_t rest = 0;
-    while (stream.read(chunk.data(), chunk.size()), stream.gcount() > 0) {
-        const auto got = static_cast<std::size_t>(stream.gcount());
-        const auto kept = std::min(got, more_than_any - file.size());
-        file.insert(file.end(), chunk.data(), chunk.data() + kept);
-        rest += got - kept;
-    }
-    file.resize(file.size() + rest % BOLFREGA_RECORD_BYTES);
-    return file;
 }
 
 /* Lines 2 and 3: row, pairs and length, and then the step codes or that the run is not in the buffer. */
@@ -107,7 +89,10 @@ int main(int argc, char **argv)
         return 2;
     }
     std::ifstream stream(argv[1], std::ios::binary);
-    const auto file = read_all(stream);
+    std::vector<std::uint8_t> file;
+    std::array<char, 4096> chunk;
+    while (stream.read(chunk.data(), chunk.size()), stream.gcount() > 0)
+        file.insert(file.end(), chunk.begin(), chunk.begin() + stream.gcount());
     if (!stream.is_open() || stream.bad()) {
         std::cerr << "check: " << argv[1] << " cannot be read\n";
         return 2;

@@ -9,7 +9,7 @@
 mod answer;
 
 use answer::{status, text};
-use bolfrega::{Starts, PROCEDURES, PROGRAM_BUDGET, PROGRAM_ROOM, PROGRAM_ROWS};
+use bolfrega::{Starts, PROGRAM_BUDGET, PROGRAM_ROOM, PROGRAM_ROWS};
 use std::io::Write;
 use std::process::ExitCode;
 use std::{env, fs, io};
@@ -24,20 +24,19 @@ fn main() -> ExitCode {
     }
 }
 
-/// The procedure in a word.
-fn procedure(word: &String) -> Result<u8, String> {
-    let found = word.parse().ok().filter(|&procedure| procedure < PROCEDURES);
-    found.ok_or_else(|| format!("{word} is no procedure"))
-}
-
 /// Prints the answer; gives the exit status, or why there is no answer.
 fn routes() -> Result<u8, String> {
     let words: Vec<String> = env::args().skip(1).collect();
-    let usage = "usage: routes FILE PROCEDURE..";
-    let (path, procedures) = words.split_first().ok_or(usage)?;
-    let procedures: Vec<u8> = procedures.iter().map(procedure).collect::<Result<_, _>>()?;
-    // From no procedure every plan would pass, so of none there is no set.
-    let starts = Starts::of(procedures).ok_or(usage)?;
+    // Without a procedure every plan would pass.
+    let (path, procedures) = match &words[..] {
+        [path, procedures @ ..] if !procedures.is_empty() => (path, procedures),
+        _ => return Err("usage: routes FILE PROCEDURE..".to_string()),
+    };
+    let member = |starts: Starts, word: &String| {
+        let with = word.parse().ok().and_then(|procedure| starts.with(procedure));
+        with.ok_or_else(|| format!("{word} is no procedure"))
+    };
+    let starts = procedures.iter().try_fold(Starts::NONE, member)?;
     let file = fs::read(path).map_err(|error| format!("{path}: {error}"))?;
     let mut buffer = [0; PROGRAM_ROOM];
     let told = bolfrega::check_from(&file, starts, PROGRAM_ROWS, PROGRAM_BUDGET, &mut buffer);

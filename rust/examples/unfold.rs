@@ -1,6 +1,5 @@
 //! Unfolds a plan file of sixteen-byte records, and checks the result as the check program of document 01 does: 1,024 rows, a budget of
-//! 1,000,000, a run buffer of 4,096 bytes. If a second name is given, the unfolded file is written there, for `check-plan` and others; a file that
-//! is there already stays, so that `unfold *.wide` destroys none.
+//! 1,000,000, a run buffer of 4,096 bytes. If a second name is given, the unfolded file is written there, for `check-plan` and others.
 //!
 //!     cargo run --example unfold -- ../samples/long-bodies.wide
 //!
@@ -11,7 +10,6 @@ mod answer;
 
 use answer::{status, text};
 use bolfrega::{PROGRAM_BUDGET, PROGRAM_ROOM, PROGRAM_ROWS};
-use std::fs::File;
 use std::io::Write;
 use std::process::ExitCode;
 use std::{env, fs, io};
@@ -26,13 +24,6 @@ fn main() -> ExitCode {
     }
 }
 
-/// Writes a file, and none over another one.
-fn write_new(path: &str, file: &[u8]) -> io::Result<()> {
-    let written = File::create_new(path)?.write_all(file);
-    // What was cut short may be a valid file too, and say something else.
-    written.inspect_err(|_| drop(fs::remove_file(path)))
-}
-
 /// Prints the answer; gives the exit status, or why there is no answer.
 fn unfold() -> Result<u8, String> {
     let mut words = env::args().skip(1);
@@ -40,7 +31,7 @@ fn unfold() -> Result<u8, String> {
     let wide = fs::read(&path).map_err(|error| format!("{path}: {error}"))?;
     let unfolded = bolfrega::unfold(&wide);
     if let (Ok(file), Some(path)) = (&unfolded, words.next()) {
-        write_new(&path, file).map_err(|error| format!("{path}: {error}"))?;
+        fs::write(&path, file).map_err(|error| format!("{path}: {error}"))?;
     }
     let mut buffer = [0; PROGRAM_ROOM];
     let reply = unfolded.and_then(|file| bolfrega::check(&file, PROGRAM_ROWS, PROGRAM_BUDGET, &mut buffer));

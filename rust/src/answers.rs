@@ -25,13 +25,12 @@ impl fmt::Display for Judgement {
 
 /// What a check says: the verdict, and how far the check went.
 #[derive(Clone, Copy, Debug, PartialEq, Eq, Hash)]
-#[non_exhaustive]
 pub struct Answer<'b> {
     /// How the check ended.
     pub verdict: Verdict<'b>,
     /// The candidates formed.
     pub joins: u64,
-    /// The journal rows used, at the end: those that were dropped on the way do not count.
+    /// The journal rows used.
     pub used: u64,
     /// The pass in which the check ended, from 1.
     pub pass: u64,
@@ -62,7 +61,7 @@ pub enum Verdict<'b> {
     Holds,
     /// The plan has a run that the sheet turns away, and this one is shown.
     Broken(Broken<'b>),
-    /// The journal had no row left, and none could be dropped. With more rows the check may come to a verdict.
+    /// The journal had no row left. With more rows the check may come to a verdict.
     Full,
     /// The joins reached the budget. With a larger one the check may come to a verdict.
     Spent,
@@ -85,7 +84,6 @@ impl fmt::Display for Verdict<'_> {
 
 /// The journal row at which a check was broken, and its run.
 #[derive(Clone, Copy, Debug, PartialEq, Eq, Hash)]
-#[non_exhaustive]
 pub struct Broken<'b> {
     /// The row's number.
     pub row: u64,

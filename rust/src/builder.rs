@@ -29,16 +29,11 @@ pub struct FileBuilder<const WIDTH: usize = RECORD_BYTES> {
 
 impl FileBuilder {
     /// A file without records.
-    #[must_use]
     pub fn new() -> FileBuilder {
         FileBuilder::default()
     }
 
-    /// The file, or what refuses it.
-    ///
-    /// # Errors
-    ///
-    /// It is refused with 2 to 5, 7 or 12.
+    /// The file, or what refuses it: 2 to 5, 7 or 12.
     pub fn file(&self) -> Result<Vec<u8>, Refusal> {
         let bytes = self.bytes();
         refusal(&bytes)?;
@@ -48,16 +43,11 @@ impl FileBuilder {
 
 impl FileBuilder<WIDE_RECORD_BYTES> {
     /// A file without records, of the sixteen-byte form.
-    #[must_use]
     pub fn wide() -> FileBuilder<WIDE_RECORD_BYTES> {
         FileBuilder::default()
     }
 
-    /// The file, or what refuses it.
-    ///
-    /// # Errors
-    ///
-    /// It is refused with 2 to 5, 7 or 12.
+    /// The file, or what refuses it: 2 to 5, 7 or 12.
     pub fn file(&self) -> Result<Vec<u8>, Refusal> {
         let bytes = self.bytes();
         wide_refusal(&bytes)?;
@@ -108,13 +98,11 @@ impl<const WIDTH: usize> FileBuilder<WIDTH> {
     }
 
     /// The number of records of a kind: 1 for rules, 2 for moves, 3 for finishing stages.
-    #[must_use]
     pub fn count(&self, kind: u8) -> usize {
         self.records.iter().filter(|record| record[0] == kind).count()
     }
 
     /// The bytes as they are, whether or not they are refused.
-    #[must_use]
     pub fn bytes(&self) -> Vec<u8> {
         self.records.iter().flatten().copied().collect()
     }

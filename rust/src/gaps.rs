@@ -67,7 +67,7 @@ impl fmt::Debug for Gaps {
 /// Lists the gaps and doubles of a file's sheet: the pairs of a stage and a code whose number of moves is not one. The stages are 0 and every
 /// stage in a move or finishing record, the codes are those that moves are on.
 ///
-/// If there is none, a run of codes that moves are on has exactly one path from each of the stages.
+/// If there is none, a run of codes that moves are on has exactly one path from each of the stages. It refuses a file with 1 to 7 or 12.
 ///
 /// ```
 /// use bolfrega::{gaps, Gap};
@@ -83,10 +83,6 @@ impl fmt::Debug for Gaps {
 /// assert_eq!(gaps(&[])?.len(), 0);
 /// # Ok::<(), bolfrega::Refusal>(())
 /// ```
-///
-/// # Errors
-///
-/// It refuses a file with 1 to 7 or 12.
 pub fn gaps(file: &[u8]) -> Result<Gaps, Refusal> {
     let mut gaps = Gaps {
         list: [0; LIST_BYTES],

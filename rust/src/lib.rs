@@ -47,7 +47,7 @@
 //! # Several starting procedures
 //!
 //! One file serves many routes, each with its own first procedure. [`check_from`] and [`unfold_from`] take the set of these, [`Starts`];
-//! [`check`] and [`unfold`] are for procedure 0 alone. From no procedure every plan holds, so that set is had by its name alone, [`Starts::NONE`].
+//! [`check`] and [`unfold`] are for procedure 0 alone.
 //!
 //! # Lent rows
 //!
@@ -57,8 +57,8 @@
 //! # Linking
 //!
 //! The build links `libbolfrega.a` from the folder in `BOLFREGA_LIB_DIR`; or from the crate's own folder `lib`, where a release has it; or from
-//! `../target/staticlib`, where `rt staticlib bolfrega` leaves it. The archive is for x86-64 Linux. Without it, and for another target, `cargo doc`
-//! works, and nothing else does: the build says what to do.
+//! `../target/staticlib`, where `rt staticlib bolfrega` leaves it. The archive is for x86-64 Linux. Without it `cargo doc` works, and nothing
+//! else does.
 //!
 //! The crate is `no_std`. With the feature `alloc`, which is on by default, there are also [`FileBuilder`], [`Journal`] and the calls whose result
 //! has memory of its own: [`check_owned`], [`widen`], [`narrow`], [`unfold`], [`unfold_from`]. Without it nothing is allocated.
@@ -79,13 +79,15 @@
 #![no_std]
 #![deny(unsafe_code)]
 #![warn(missing_docs)]
-#![warn(clippy::missing_errors_doc, clippy::must_use_candidate)]
 
 #[cfg(feature = "alloc")]
 extern crate alloc;
 
 #[cfg(all(without_archive, not(doc)))]
-compile_error!(env!("BOLFREGA_MISSING"));
+compile_error!(concat!(
+    env!("BOLFREGA_MISSING"),
+    " is not there: run `rt staticlib bolfrega` first, or set BOLFREGA_LIB_DIR to the folder that has libbolfrega.a"
+));
 
 mod answers;
 #[cfg(feature = "alloc")]
@@ -121,20 +123,19 @@ pub use wide::{narrow, unfold, unfold_from, widen};
 pub use wide::{narrow_into, unfold_from_into, unfold_into, widen_into};
 
 /// The version of the library's interface that this crate is written for. [`version`] is this or above.
-pub const VERSION: u64 = 4;
+pub const VERSION: u64 = 3;
 
 /// The version of the library's interface. Since 2 it has [`check_from`] and [`unfold_from_into`], and since 3 [`check_rows`], [`write()`],
-/// [`step`] and [`moves`]. Since 4 a check uses rows again that nothing needs, and is full only where there are none.
+/// [`step`] and [`moves`].
 ///
 /// ```
 /// assert!(bolfrega::version() >= bolfrega::VERSION);
 /// ```
-#[must_use]
 pub fn version() -> u64 {
     raw::version()
 }
 
-/// Reads a file, and says why it is refused if it is.
+/// Reads a file, and says why it is refused if it is: 1 to 7 or 12.
 ///
 /// ```
 /// use bolfrega::{refusal, Refusal};
@@ -145,10 +146,6 @@ pub fn version() -> u64 {
 /// let twice = [3, 0, 0, 0, 0, 0, 0, 0, 3, 0, 0, 0, 0, 0, 0, 0];
 /// assert_eq!(refusal(&twice), Err(Refusal::Order { record: 1 }));
 /// ```
-///
-/// # Errors
-///
-/// It refuses a file with 1 to 7 or 12.
 pub fn refusal(file: &[u8]) -> Result<(), Refusal> {
     let mut record = 0;
     match raw::refusal(file, &mut record) {
@@ -158,6 +155,8 @@ pub fn refusal(file: &[u8]) -> Result<(), Refusal> {
 }
 
 /// Judges one run by the sheet in a file. A run is a slice of step codes, one to a byte. On a remark the sheet stays in its stage.
+///
+/// It refuses a file with 1 to 7 or 12, and then a run with 11.
 ///
 /// ```
 /// use bolfrega::{judge, Judgement, Refusal};
@@ -169,10 +168,6 @@ pub fn refusal(file: &[u8]) -> Result<(), Refusal> {
 /// assert_eq!(judge(&file, &[120, 5, 127]), Ok(Judgement::Accepted));
 /// assert_eq!(judge(&file, &[128]), Err(Refusal::Run));
 /// ```
-///
-/// # Errors
-///
-/// It refuses a file with 1 to 7 or 12, and then a run with 11.
 pub fn judge(file: &[u8], run: &[u8]) -> Result<Judgement, Refusal> {
     let mut record = 0;
     match raw::judge(file, run, &mut record) {
@@ -185,9 +180,9 @@ pub fn judge(file: &[u8], run: &[u8]) -> Result<Judgement, Refusal> {
 /// Checks a file's plan against its sheet, with a journal of `rows` rows and at most `budget` joins. The runs are those of procedure 0;
 /// [`check_from`] is for other procedures.
 ///
-/// The run of a broken answer is written to the front of `buffer`; all other bytes of `buffer` keep their values, and so do all of them with any
-/// other answer and with a refusal. More rows and a larger budget never change an answer that is `Holds`, `Broken` or `Empty`,
-/// but for the used rows and the row of a broken one, since other rows may have been dropped.
+/// The run of a broken answer is written to the front of `buffer`; all other bytes of `buffer` keep their values, and so do all of them
+/// with any other answer and with a refusal. It refuses a file with 1 to 7 or 12, and then with 8 a number of rows that is 0 or above
+/// [`MOST_ROWS`]. More rows and a larger budget never change an answer that is `Holds`, `Broken` or `Empty`.
 ///
 /// It keeps about 765 KiB on the stack ([see above](crate#stack)).
 ///
@@ -205,10 +200,6 @@ pub fn judge(file: &[u8], run: &[u8]) -> Result<Judgement, Refusal> {
 /// assert_eq!(check(&file, 0, 1_000_000, &mut []), Err(Refusal::Journal));
 /// # Ok::<(), Refusal>(())
 /// ```
-///
-/// # Errors
-///
-/// It refuses a file with 1 to 7 or 12, and then with 8 a number of rows that is 0 or above [`MOST_ROWS`].
 pub fn check<'b>(file: &[u8], rows: usize, budget: u64, buffer: &'b mut [u8]) -> Result<Answer<'b>, Refusal> {
     let mut details = raw::Details::default();
     let code = raw::check(file, rows, budget, &mut details, buffer);

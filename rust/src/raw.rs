@@ -59,7 +59,7 @@ pub const FINISHING: u8 = 3;
 pub const HOLDS: u64 = 100;
 /// [`check`]: a run of the plan is turned away. [`check_from`]: a run of a member is.
 pub const BROKEN: u64 = 101;
-/// [`check`], [`check_from`]: the journal had no row left, and none could be dropped.
+/// [`check`], [`check_from`]: the journal had no row left.
 pub const FULL: u64 = 102;
 /// [`check`], [`check_from`]: the joins reached the budget.
 pub const SPENT: u64 = 103;
@@ -215,7 +215,6 @@ mod c {
 }
 
 /// The version of the interface.
-#[must_use]
 pub fn version() -> u64 {
     c::bolfrega_version()
 }
@@ -308,8 +307,8 @@ pub fn check_from(file: &[u8], starts: u64, rows: usize, budget: u64, details: &
     unsafe { c::bolfrega_check_from(file.as_ptr(), file.len(), starts, rows, budget, details, pointer, length) }
 }
 
-/// As [`check_from`], over the rows of `journal`: the first of them become those of the check, and no run is written. If rows were dropped, those above
-/// them are rows of the check too, as they last were. What `cells` and `near` hold afterwards is of no use.
+/// As [`check_from`], over the rows of `journal`: the first of them become those of the check, and no run is written. What `cells` and `near` hold
+/// afterwards is of no use.
 pub fn check_rows(
     file: &[u8],
     starts: u64,
@@ -326,7 +325,7 @@ pub fn check_rows(
 }
 
 /// [`WRITTEN`] or the number of a refusal; `record` becomes the record's number, `length` the length of the run behind row `row` of the `used` rows
-/// of `journal`, and the front of `buffer` the run. Rows that somebody made may take it 5 seconds.
+/// of `journal`, and the front of `buffer` the run.
 pub fn write(
     file: &[u8],
     journal: &[Row],

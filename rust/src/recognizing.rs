@@ -13,7 +13,6 @@ pub struct Derivations {
 
 impl Derivations {
     /// Whether procedure 0 derives the whole run.
-    #[must_use]
     pub fn derived(&self) -> bool {
         self.derives(0, 0..self.steps)
     }
@@ -21,13 +20,11 @@ impl Derivations {
     /// Whether a procedure derives a stretch of the run: the steps of `stretch`, counted from 0.
     ///
     /// No procedure above 63 derives anything, and neither does any a stretch that is not within the run.
-    #[must_use]
     pub fn derives(&self, procedure: u8, stretch: Range<usize>) -> bool {
         procedure < PROCEDURES && self.procedures(stretch) >> procedure & 1 == 1
     }
 
     /// The procedures that derive a stretch, bit p for procedure p; 0 for a stretch that is not within the run.
-    #[must_use]
     pub fn procedures(&self, stretch: Range<usize>) -> u64 {
         let within = stretch.start <= stretch.end && stretch.end <= self.steps;
         if within {
@@ -38,13 +35,11 @@ impl Derivations {
     }
 
     /// The number of steps of the run.
-    #[must_use]
     pub fn steps(&self) -> usize {
         self.steps
     }
 
     /// All cells: the stretches from step i up to step j with 0 ≤ i ≤ j ≤ 64, in rising order of i, then j.
-    #[must_use]
     pub fn cells(&self) -> &[u64; CELLS] {
         &self.table
     }
@@ -69,7 +64,8 @@ impl fmt::Debug for Derivations {
 /// Says which procedures of a file's plan derive each stretch of a recorded run of at most [`MOST_STEPS`] steps. Every step code counts as a
 /// step here, whatever the sheet says of it.
 ///
-/// It keeps about 36 KiB on the stack, beside the table of the result, 17 KiB by value.
+/// It refuses a file with 1 to 7 or 12, then a run with 11, and then with 13 a run that is longer. It keeps about 36 KiB on the stack, beside
+/// the table of the result, 17 KiB by value.
 ///
 /// ```
 /// use bolfrega::{recognize, Refusal};
@@ -89,10 +85,6 @@ impl fmt::Debug for Derivations {
 /// assert_eq!(recognize(&file, &[3; 65]), Err(Refusal::LongRun));
 /// # Ok::<(), Refusal>(())
 /// ```
-///
-/// # Errors
-///
-/// It refuses a file with 1 to 7 or 12, then a run with 11, and then with 13 a run that is longer.
 pub fn recognize(file: &[u8], run: &[u8]) -> Result<Derivations, Refusal> {
     let mut found = Derivations {
         table: [0; CELLS],

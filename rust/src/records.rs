@@ -54,7 +54,6 @@ impl fmt::Display for Symbol {
 }
 
 /// The symbol of a procedure, as a byte. Of a number above 63 the byte is above 191, which is no symbol, and a file with it is refused.
-#[must_use]
 pub const fn procedure(number: u8) -> u8 {
     CODES.saturating_add(number)
 }
@@ -144,7 +143,7 @@ impl ExactSizeIterator for Records<'_> {}
 
 impl FusedIterator for Records<'_> {}
 
-/// The records of a file of eight-byte records.
+/// The records of a file of eight-byte records. It refuses a file with 1 to 7 or 12.
 ///
 /// ```
 /// use bolfrega::{records, Record, Refusal};
@@ -161,17 +160,13 @@ impl FusedIterator for Records<'_> {}
 /// assert_eq!(records(&file[..9]).unwrap_err(), Refusal::Length);
 /// # Ok::<(), Refusal>(())
 /// ```
-///
-/// # Errors
-///
-/// It refuses a file with 1 to 7 or 12.
 pub fn records(file: &[u8]) -> Result<Records<'_>, Refusal> {
     refusal(file)?;
     let left = file.chunks_exact(RECORD_BYTES);
     Ok(Records { left })
 }
 
-/// The records of a file of [sixteen-byte records](crate#sixteen-byte-records).
+/// The records of a file of [sixteen-byte records](crate#sixteen-byte-records). It refuses a file with 16, 2 to 7 or 12.
 ///
 /// ```
 /// use bolfrega::{wide_records, Refusal};
@@ -181,17 +176,13 @@ pub fn records(file: &[u8]) -> Result<Records<'_>, Refusal> {
 /// assert_eq!(wide_records(&file[..8]).unwrap_err(), Refusal::WideLength);
 /// # Ok::<(), Refusal>(())
 /// ```
-///
-/// # Errors
-///
-/// It refuses a file with 16, 2 to 7 or 12.
 pub fn wide_records(file: &[u8]) -> Result<Records<'_>, Refusal> {
     wide_refusal(file)?;
     let left = file.chunks_exact(WIDE_RECORD_BYTES);
     Ok(Records { left })
 }
 
-/// Reads a file of [sixteen-byte records](crate#sixteen-byte-records), and says why it is refused if it is.
+/// Reads a file of [sixteen-byte records](crate#sixteen-byte-records), and says why it is refused if it is: 16, 2 to 7 or 12.
 ///
 /// ```
 /// use bolfrega::{wide_refusal, Refusal};
@@ -199,10 +190,6 @@ pub fn wide_records(file: &[u8]) -> Result<Records<'_>, Refusal> {
 /// assert_eq!(wide_refusal(&[3, 0, 0, 0, 0, 0, 0, 0, 0, 0, 0, 0, 0, 0, 0, 0]), Ok(()));
 /// assert_eq!(wide_refusal(&[3, 0, 0, 0, 0, 0, 0, 0, 0, 0, 0, 0, 0, 0, 0, 1]), Err(Refusal::Unused { record: 0 }));
 /// ```
-///
-/// # Errors
-///
-/// It refuses a file with 16, 2 to 7 or 12.
 pub fn wide_refusal(file: &[u8]) -> Result<(), Refusal> {
     let (mut record, mut length) = (0, 0);
     // What refuses the file itself comes before a long body and a missing output.
@@ -214,6 +201,9 @@ pub fn wide_refusal(file: &[u8]) -> Result<(), Refusal> {
 
 /// Reads the record at a place of a file, from 0; `None` past the last one. To read a file as far as it goes, begin at 0 and add one for each record.
 ///
+/// It refuses a file with 1 or 2 by its length, and then the record with 3 to 7 or 12. Numbers 6 and 7 look at the records before it, which are not
+/// checked again.
+///
 /// ```
 /// use bolfrega::{step, Record, Refusal};
 ///
@@ -222,11 +212,6 @@ pub fn wide_refusal(file: &[u8]) -> Result<(), Refusal> {
 /// assert_eq!(step(&file, 1), Err(Refusal::Order { record: 1 }));
 /// assert_eq!(step(&file, 2), Ok(None));
 /// ```
-///
-/// # Errors
-///
-/// It refuses a file with 1 or 2 by its length, and then the record with 3 to 7 or 12. Numbers 6 and 7 look at the records before it, which are not
-/// checked again.
 pub fn step(file: &[u8], from: usize) -> Result<Option<Record<'_>>, Refusal> {
     let (mut record, mut values, mut next) = (0, raw::Values::default(), 0);
     let number = raw::step(file, from, &mut record, &mut values, &mut next);
@@ -259,7 +244,6 @@ pub fn step(file: &[u8], from: usize) -> Result<Option<Record<'_>>, Refusal> {
 /// assert_eq!(bolfrega::moves(&file), &file[8..16]);
 /// assert_eq!(bolfrega::moves(&file[1..]), []);
 /// ```
-#[must_use]
 pub fn moves(file: &[u8]) -> &[u8] {
     let (mut offset, mut length) = (0, 0);
     raw::moves(file, &mut offset, &mut length);

@@ -67,7 +67,6 @@ pub enum Refusal {
 
 impl Refusal {
     /// The papers' number.
-    #[must_use]
     pub fn number(self) -> u64 {
         match self {
             Refusal::Length => raw::REFUSAL_LENGTH,
@@ -93,7 +92,6 @@ impl Refusal {
     }
 
     /// The record at fault, for 3 to 7 and 12.
-    #[must_use]
     pub fn record(self) -> Option<u64> {
         match self {
             Refusal::Kind { record }
@@ -144,7 +142,6 @@ impl Refusal {
     }
 
     /// What is wrong, in the words of the C header.
-    #[must_use]
     pub fn message(self) -> &'static str {
         match self {
             Refusal::Length => "the file's length is no multiple of 8",

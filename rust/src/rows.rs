@@ -29,7 +29,6 @@ pub struct Row {
 
 impl Row {
     /// Whether the run leads from one stage to another. From and to a stage above 15 none does.
-    #[must_use]
     pub const fn leads(&self, from: u8, to: u8) -> bool {
         from < STAGES && to < STAGES && self.effect[from as usize / 4] >> (16 * (from % 4) + to) & 1 == 1
     }
@@ -54,7 +53,7 @@ pub struct AnswerRows {
     pub verdict: VerdictRows,
     /// The candidates formed.
     pub joins: u64,
-    /// The rows used, at the end: the first ones of those that were lent.
+    /// The rows used: the first ones of those that were lent.
     pub used: usize,
     /// The pass in which the check ended, from 1.
     pub pass: u64,
@@ -79,7 +78,7 @@ pub enum VerdictRows {
     Holds,
     /// A run is turned away: the one behind this row.
     Broken(BrokenRow),
-    /// There was no row left, and none could be dropped.
+    /// There was no row left.
     Full,
     /// The joins reached the budget.
     Spent,
@@ -124,11 +123,11 @@ impl fmt::Display for BrokenRow {
 
 /// As [`check_from`](crate::check_from), over rows of the caller's own. [`Journal`] has all that is lent here.
 ///
-/// Rows, `cells` and `near` may hold anything. The first rows become those of the check, as many as it used at the end. Unless rows were dropped, all
-/// others keep their contents; and if the call is refused, all rows do. Rows are dropped where a row is needed and all of them are used: those that
-/// nothing needs go, and the others move down. Then each row above the used ones is one of this check as it last was, and of no use. A refused call leaves
-/// `cells` and `near` as they were too; what they hold after any other is of no use. It keeps about 7 KiB on the stack and clears nothing else, so that a check of a tiny file takes about a
-/// microsecond.
+/// Rows, `cells` and `near` may hold anything. The first rows become those of the check, as many as it used; all others keep their contents, and so
+/// do all of them if the call is refused. What `cells` and `near` hold afterwards is of no use. It keeps about 7 KiB on the stack and clears nothing
+/// else, so that a check of a tiny file takes about a microsecond.
+///
+/// It refuses a file with 1 to 7 or 12, and then with 8 rows that are none or more than [`MOST_ROWS`](crate::MOST_ROWS).
 ///
 /// ```
 /// use bolfrega::{check_rows, Row, Starts, VerdictRows, NEAR_WORDS, TABLE_CELLS};
@@ -144,10 +143,6 @@ impl fmt::Display for BrokenRow {
 /// assert_eq!(bolfrega::write(&file, &rows, answer.used, broken.row, &mut buffer)?, [5]);
 /// # Ok::<(), bolfrega::Refusal>(())
 /// ```
-///
-/// # Errors
-///
-/// It refuses a file with 1 to 7 or 12, and then with 8 rows that are none or more than [`MOST_ROWS`](crate::MOST_ROWS).
 pub fn check_rows(
     file: &[u8],
     starts: Starts,
@@ -183,12 +178,9 @@ pub fn check_rows(
 /// Writes the run behind row `row` of a journal, of which `used` rows are used, to the front of `buffer`: that of a broken check, or any other. All
 /// other bytes of `buffer` keep their values, and so do all of them with a refusal.
 ///
-/// Whoever made the rows, a run that is written is one of the plan's, from the procedure of that row. It takes up to 578 KiB of stack, 144 bytes for
-/// each row on the way down. After a check every run is written within two tenths of a second; rows that somebody made may take it 5 seconds.
-///
-/// # Errors
-///
-/// It refuses a file with 1 to 7 or 12; then with 8 rows that are none or more than [`MOST_ROWS`](crate::MOST_ROWS); then with 9 and 10.
+/// Whoever made the rows, a run that is written is one of the plan's, from the procedure of that row. It refuses a file with 1 to 7 or 12; then
+/// with 8 rows that are none or more than [`MOST_ROWS`](crate::MOST_ROWS); then with 9 and 10. It takes up to 578 KiB of stack, 144 bytes for each
+/// row on the way down.
 pub fn write<'b>(file: &[u8], rows: &[Row], used: usize, row: usize, buffer: &'b mut [u8]) -> Result<&'b [u8], Refusal> {
     let (mut record, mut length) = (0, 0);
     match raw::write(file, rows, used, row, &mut record, &mut length, buffer) {
@@ -202,15 +194,13 @@ pub fn write<'b>(file: &[u8], rows: &[Row], used: usize, row: usize, buffer: &'b
 /// ```
 /// use bolfrega::{Journal, Refusal, Starts};
 ///
-/// let mut journal = Journal::new(1_024)?;
+/// let mut journal = Journal::new(1_024);
 /// let file = [1, 0, 1, 5, 0, 0, 0, 0, 1, 1, 1, 6, 0, 0, 0, 0]; // 0 gives 5, 1 gives 6, and no stage is finishing
 /// let answer = journal.check(&file, Starts::of([1]).unwrap(), 1_000_000)?;
 /// assert_eq!(answer.to_string(), "broken 2 2 1\n1 0 1\nprocedure 1");
 /// let runs: Vec<_> = (0..journal.rows().len()).map(|row| journal.run(&file, row)).collect();
 /// assert_eq!(runs, [Ok(vec![5]), Ok(vec![6])]);
 /// assert_eq!(journal.run(&file, 2), Err(Refusal::Row));
-/// // There is no such memory, and none is asked for.
-/// assert_eq!(Journal::new(usize::MAX).unwrap_err(), Refusal::Journal);
 /// # Ok::<(), Refusal>(())
 /// ```
 #[cfg(feature = "alloc")]
@@ -225,28 +215,17 @@ pub struct Journal {
 #[cfg(feature = "alloc")]
 impl Journal {
     /// A journal of this many rows.
-    ///
-    /// # Errors
-    ///
-    /// It refuses with 8 a number that is 0 or above [`MOST_ROWS`](crate::MOST_ROWS), over which no check would work.
-    pub fn new(rows: usize) -> Result<Journal, Refusal> {
-        if rows == 0 || rows > crate::MOST_ROWS {
-            return Err(Refusal::Journal);
-        }
+    pub fn new(rows: usize) -> Journal {
         let length = "the length is that of the type";
-        Ok(Journal {
+        Journal {
             rows: vec![Row::default(); rows].into_boxed_slice(),
             cells: vec![0; crate::TABLE_CELLS].try_into().expect(length),
             near: vec![0; crate::NEAR_WORDS].try_into().expect(length),
             used: 0,
-        })
+        }
     }
 
     /// As [`check_rows`].
-    ///
-    /// # Errors
-    ///
-    /// It refuses a file with 1 to 7 or 12.
     pub fn check(&mut self, file: &[u8], starts: Starts, budget: u64) -> Result<AnswerRows, Refusal> {
         let answer = check_rows(file, starts, budget, &mut self.rows, &mut self.cells, &mut self.near)?;
         self.used = answer.used;
@@ -254,26 +233,17 @@ impl Journal {
     }
 
     /// The rows that the last check used which was not refused.
-    #[must_use]
     pub fn rows(&self) -> &[Row] {
         &self.rows[..self.used]
     }
 
     /// As [`write()`](crate::write()), of one of [`Journal::rows`]. The file is the one that was checked: with another one, what is written is a
     /// run of that one.
-    ///
-    /// # Errors
-    ///
-    /// It refuses a file with 1 to 7 or 12, and then with 9 and 10.
     pub fn write<'b>(&self, file: &[u8], row: usize, buffer: &'b mut [u8]) -> Result<&'b [u8], Refusal> {
         write(file, &self.rows, self.used, row, buffer)
     }
 
     /// The run behind a row, in memory of its own.
-    ///
-    /// # Errors
-    ///
-    /// It refuses a file with 1 to 7 or 12, then with 9 a row that is not used, and with 10 a run of 65,535 or more steps.
     pub fn run(&self, file: &[u8], row: usize) -> Result<Vec<u8>, Refusal> {
         let mut buffer = vec![0; self.rows().get(row).map_or(0, |row| row.length as usize)];
         self.write(file, row, &mut buffer).map(<[u8]>::to_vec)

@@ -10,13 +10,10 @@ use core::fmt;
 
 /// A set of starting procedures, each from 0 to 63.
 ///
-/// From no procedure a check holds, whatever the plan. So the set without a member is had by its name alone, [`Starts::NONE`]: of an iterator that is
-/// used up, a filter that left nothing, or a word without a bit, no set is made.
-///
 /// ```
 /// use bolfrega::Starts;
 ///
-/// let starts = Starts::of([0, 5]).expect("some procedures, and none above 63");
+/// let starts = Starts::of([0, 5]).expect("no procedure is above 63");
 /// assert!(starts.contains(0) && starts.contains(5) && !starts.contains(1));
 /// assert_eq!(starts.bits(), 0b10_0001);
 /// assert_eq!(Starts::INITIAL.with(5), Some(starts));
@@ -24,44 +21,33 @@ use core::fmt;
 /// // There is no procedure 64.
 /// assert_eq!(Starts::INITIAL.with(64), None);
 /// assert_eq!(Starts::of([0, 64]), None);
-/// // The second time there is nothing left.
-/// let mut routes = [0, 5].into_iter();
-/// assert_eq!(Starts::of(&mut routes), Some(starts));
-/// assert_eq!(Starts::of(&mut routes), None);
 /// ```
 #[derive(Clone, Copy, PartialEq, Eq, Hash)]
 pub struct Starts(u64);
 
 impl Starts {
-    /// No procedure: a check from it says nothing about runs, and is never broken or empty.
+    /// No procedure.
     pub const NONE: Starts = Starts(0);
 
     /// Procedure 0 alone, as [`check`](crate::check) and [`unfold`](crate::unfold) have it.
     pub const INITIAL: Starts = Starts(1);
 
-    /// The procedures whose bits are 1, bit p for procedure p; `None` if no bit is.
-    #[must_use]
-    pub const fn from_bits(bits: u64) -> Option<Starts> {
-        match bits {
-            0 => None,
-            _ => Some(Starts(bits)),
-        }
+    /// The procedures whose bits are 1, bit p for procedure p.
+    pub const fn from_bits(bits: u64) -> Starts {
+        Starts(bits)
     }
 
     /// Bit p is 1 if procedure p is a member.
-    #[must_use]
     pub const fn bits(self) -> u64 {
         self.0
     }
 
-    /// These procedures; `None` if one is above 63, or if there is none.
+    /// These procedures; `None` if one is above 63.
     pub fn of(procedures: impl IntoIterator<Item = u8>) -> Option<Starts> {
-        let starts = procedures.into_iter().try_fold(Starts::NONE, Starts::with)?;
-        Starts::from_bits(starts.bits())
+        procedures.into_iter().try_fold(Starts::NONE, Starts::with)
     }
 
     /// The members and this procedure; `None` if it is above 63.
-    #[must_use]
     pub const fn with(self, procedure: u8) -> Option<Starts> {
         if procedure < PROCEDURES {
             Some(Starts(self.0 | 1 << procedure))
@@ -71,7 +57,6 @@ impl Starts {
     }
 
     /// Whether a procedure is a member. None above 63 is.
-    #[must_use]
     pub const fn contains(self, procedure: u8) -> bool {
         procedure < PROCEDURES && self.0 >> procedure & 1 == 1
     }
@@ -122,7 +107,7 @@ impl fmt::Display for AnswerFrom<'_> {
 /// no run; `Holds`: each has one, and the sheet accepts every run of every member. Without a member ([`Starts::NONE`]) no check is broken or
 /// empty: it holds, unless the rows or the joins run out first.
 ///
-/// It keeps about 765 KiB on the stack ([see above](crate#stack)).
+/// It refuses what `check` refuses, and keeps about 765 KiB on the stack ([see above](crate#stack)).
 ///
 /// ```
 /// use bolfrega::{check_from, Starts, Verdict};
@@ -135,7 +120,7 @@ impl fmt::Display for AnswerFrom<'_> {
 ///     [3, 1, 0, 0, 0, 0, 0, 0],   // stage 1 is finishing
 /// ]
 /// .concat();
-/// let starts = Starts::of([0, 1, 2]).expect("some procedures, and none above 63");
+/// let starts = Starts::of([0, 1, 2]).expect("no procedure is above 63");
 /// let mut buffer = [0; 64];
 /// let told = check_from(&file, starts, 1_024, 1_000_000, &mut buffer)?;
 /// assert_eq!(told.procedure, Some(1));
@@ -148,10 +133,6 @@ impl fmt::Display for AnswerFrom<'_> {
 /// assert_eq!(verdict(Starts::NONE), Ok(Verdict::Holds));
 /// # Ok::<(), bolfrega::Refusal>(())
 /// ```
-///
-/// # Errors
-///
-/// It refuses what [`check`](crate::check) refuses.
 pub fn check_from<'b>(
     file: &[u8],
     starts: Starts,
@@ -185,7 +166,6 @@ pub struct OwnedAnswer {
 #[cfg(feature = "alloc")]
 impl OwnedAnswer {
     /// The answer, which borrows its run from here.
-    #[must_use]
     pub fn told(&self) -> AnswerFrom<'_> {
         told(self.code, self.details, &self.run).expect("a refusal does not come to be an answer")
     }
@@ -212,10 +192,6 @@ impl fmt::Display for OwnedAnswer {
 /// assert_eq!(ask()?.to_string(), "broken 1 1 1\n0 0 1\n5\nprocedure 0");
 /// # Ok::<(), Refusal>(())
 /// ```
-///
-/// # Errors
-///
-/// It refuses what [`check`](crate::check) refuses.
 #[cfg(feature = "alloc")]
 pub fn check_owned(file: &[u8], starts: Starts, rows: usize, budget: u64) -> Result<OwnedAnswer, Refusal> {
     let (mut details, mut buffer) = (raw::DetailsFrom::default(), vec![0; LONGEST_RUN]);

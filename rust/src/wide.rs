@@ -8,7 +8,7 @@ use alloc::{vec, vec::Vec};
 
 /// Moves a file of eight-byte records over to [sixteen bytes](crate#sixteen-byte-records): every record gets eight zeros behind it.
 ///
-/// [`narrow`] gives the same bytes back, and [`unfold`] too.
+/// [`narrow`] gives the same bytes back, and [`unfold`] too. It refuses a file with 1 to 7 or 12.
 ///
 /// ```
 /// use bolfrega::{narrow, unfold, widen};
@@ -20,10 +20,6 @@ use alloc::{vec, vec::Vec};
 /// assert_eq!(unfold(&wide)?, file);
 /// # Ok::<(), bolfrega::Refusal>(())
 /// ```
-///
-/// # Errors
-///
-/// It refuses a file with 1 to 7 or 12.
 #[cfg(feature = "alloc")]
 pub fn widen(file: &[u8]) -> Result<Vec<u8>, Refusal> {
     whole(raw::widen, file, WIDE_BYTES)
@@ -31,6 +27,8 @@ pub fn widen(file: &[u8]) -> Result<Vec<u8>, Refusal> {
 
 /// As [`widen`], on a lent output. Returns the length of the result, which is at the front of `out`; all other bytes of `out` keep their values,
 /// and so do all of them if the call is refused.
+///
+/// It refuses a file with 1 to 7 or 12, and then with 10 an output that is shorter than the result.
 ///
 /// ```
 /// use bolfrega::{widen_into, Refusal};
@@ -42,15 +40,13 @@ pub fn widen(file: &[u8]) -> Result<Vec<u8>, Refusal> {
 /// assert_eq!(widen_into(&file, &mut out), Ok(16));
 /// assert_eq!(out, [3, 0, 0, 0, 0, 0, 0, 0, 0, 0, 0, 0, 0, 0, 0, 0, 9, 9, 9, 9]);
 /// ```
-///
-/// # Errors
-///
-/// It refuses a file with 1 to 7 or 12, and then with 10 an output that is shorter than the result.
 pub fn widen_into(file: &[u8], out: &mut [u8]) -> Result<usize, Refusal> {
     into(raw::widen, file, out)
 }
 
 /// Moves a file of [sixteen-byte records](crate#sixteen-byte-records) back to eight bytes. [`widen`] gives the same bytes again.
+///
+/// It refuses a file with 16, 2 to 7 or 12, and then with 17 a body of more than two symbols.
 ///
 /// ```
 /// use bolfrega::{narrow, Refusal};
@@ -62,10 +58,6 @@ pub fn widen_into(file: &[u8], out: &mut [u8]) -> Result<usize, Refusal> {
 /// assert_eq!(narrow(&long[..8]), Err(Refusal::WideLength));
 /// # Ok::<(), Refusal>(())
 /// ```
-///
-/// # Errors
-///
-/// It refuses a file with 16, 2 to 7 or 12, and then with 17 a body of more than two symbols.
 #[cfg(feature = "alloc")]
 pub fn narrow(file: &[u8]) -> Result<Vec<u8>, Refusal> {
     whole(raw::narrow, file, FILE_BYTES)
@@ -73,6 +65,9 @@ pub fn narrow(file: &[u8]) -> Result<Vec<u8>, Refusal> {
 
 /// As [`narrow`], on a lent output. Returns the length of the result, which is at the front of `out`; all other bytes of `out` keep their
 /// values, and so do all of them if the call is refused.
+///
+/// It refuses a file with 16, 2 to 7 or 12, then with 17 a body of more than two symbols, and then with 10 an output that is shorter than the
+/// result.
 ///
 /// ```
 /// use bolfrega::{narrow_into, Refusal};
@@ -83,10 +78,6 @@ pub fn narrow(file: &[u8]) -> Result<Vec<u8>, Refusal> {
 /// assert_eq!(narrow_into(&file, &mut out), Ok(8));
 /// assert_eq!(out, [3, 0, 0, 0, 0, 0, 0, 0, 9, 9]);
 /// ```
-///
-/// # Errors
-///
-/// It refuses a file with 16, 2 to 7 or 12, then with 17 a body of more than two symbols, and then with 10 an output that is shorter than the result.
 pub fn narrow_into(file: &[u8], out: &mut [u8]) -> Result<usize, Refusal> {
     into(raw::narrow, file, out)
 }
@@ -97,6 +88,8 @@ pub fn narrow_into(file: &[u8], out: &mut [u8]) -> Result<usize, Refusal> {
 /// body has chain procedures of its own. They are numbered from one above the highest procedure in use, as the head or a symbol of any rule, in
 /// file order and left to right. The rules are put in file order; moves and finishing stages are the same. Each procedure of the file derives
 /// the same runs as before, so a verdict on the result is one on the file; joins, rows, passes and rules are those of the result.
+///
+/// It refuses a file with 16, 2 to 7 or 12, and then with 18 one that would need procedure 64 or a 257th rule.
 ///
 /// ```
 /// use bolfrega::{check, unfold, Verdict};
@@ -122,10 +115,6 @@ pub fn narrow_into(file: &[u8], out: &mut [u8]) -> Result<usize, Refusal> {
 /// assert_eq!(broken.run, Ok(&[1, 2, 3][..]));
 /// # Ok::<(), bolfrega::Refusal>(())
 /// ```
-///
-/// # Errors
-///
-/// It refuses a file with 16, 2 to 7 or 12, and then with 18 one that would need procedure 64 or a 257th rule.
 #[cfg(feature = "alloc")]
 pub fn unfold(file: &[u8]) -> Result<Vec<u8>, Refusal> {
     whole(raw::unfold, file, FILE_BYTES)
@@ -133,6 +122,9 @@ pub fn unfold(file: &[u8]) -> Result<Vec<u8>, Refusal> {
 
 /// As [`unfold`], on a lent output. Returns the length of the result, which is at the front of `out`; all other bytes of `out` keep their
 /// values, and so do all of them if the call is refused.
+///
+/// It refuses a file with 16, 2 to 7 or 12, then with 18 one that would need procedure 64 or a 257th rule, and then with 10 an output that is
+/// shorter than the result.
 ///
 /// ```
 /// use bolfrega::{unfold_into, Refusal};
@@ -145,11 +137,6 @@ pub fn unfold(file: &[u8]) -> Result<Vec<u8>, Refusal> {
 /// // The last procedure is in use, and there is none above it.
 /// assert_eq!(unfold_into(&[1, 63, 3, 5, 6, 7, 0, 0, 0, 0, 0, 0, 0, 0, 0, 0], &mut out), Err(Refusal::Chains));
 /// ```
-///
-/// # Errors
-///
-/// It refuses a file with 16, 2 to 7 or 12, then with 18 one that would need procedure 64 or a 257th rule, and then with 10 an output that is shorter
-/// than the result.
 pub fn unfold_into(file: &[u8], out: &mut [u8]) -> Result<usize, Refusal> {
     into(raw::unfold, file, out)
 }
@@ -157,11 +144,13 @@ pub fn unfold_into(file: &[u8], out: &mut [u8]) -> Result<usize, Refusal> {
 /// As [`unfold`], for a check from the procedures in `starts` ([`check_from`](crate::check_from)): each of them counts as in use, whether or not
 /// a rule has it, so that no member is a chain procedure. Of procedure 0 alone ([`Starts::INITIAL`]) it gives what `unfold` gives.
 ///
+/// It refuses a file with 16, 2 to 7 or 12, and then with 18 one that would need procedure 64 or a 257th rule.
+///
 /// ```
 /// use bolfrega::{unfold_from, Refusal, Starts};
 ///
 /// let wide = [1, 0, 3, 5, 6, 7, 0, 0, 0, 0, 0, 0, 0, 0, 0, 0]; // 0 gives 5 6 7
-/// let starts = Starts::of([0, 1]).expect("some procedures, and none above 63");
+/// let starts = Starts::of([0, 1]).expect("no procedure is above 63");
 /// let file = unfold_from(&wide, starts)?;
 /// // Procedure 1 has no rule, and it gets none: the chain procedure is 2.
 /// assert_eq!(file, [[1, 0, 2, 5, 130, 0, 0, 0], [1, 2, 2, 6, 7, 0, 0, 0]].concat());
@@ -169,10 +158,6 @@ pub fn unfold_into(file: &[u8], out: &mut [u8]) -> Result<usize, Refusal> {
 /// assert_eq!(unfold_from(&wide, Starts::of([63]).unwrap()), Err(Refusal::Chains));
 /// # Ok::<(), Refusal>(())
 /// ```
-///
-/// # Errors
-///
-/// It refuses a file with 16, 2 to 7 or 12, and then with 18 one that would need procedure 64 or a 257th rule.
 #[cfg(feature = "alloc")]
 pub fn unfold_from(file: &[u8], starts: Starts) -> Result<Vec<u8>, Refusal> {
     whole(from(starts), file, FILE_BYTES)
@@ -181,21 +166,19 @@ pub fn unfold_from(file: &[u8], starts: Starts) -> Result<Vec<u8>, Refusal> {
 /// As [`unfold_from`], on a lent output. Returns the length of the result, which is at the front of `out`; all other bytes of `out` keep their
 /// values, and so do all of them if the call is refused.
 ///
+/// It refuses a file with 16, 2 to 7 or 12, then with 18 one that would need procedure 64 or a 257th rule, and then with 10 an output that is
+/// shorter than the result.
+///
 /// ```
 /// use bolfrega::{unfold_from_into, Refusal, Starts};
 ///
 /// let wide = [1, 0, 3, 5, 6, 7, 0, 0, 0, 0, 0, 0, 0, 0, 0, 0]; // 0 gives 5 6 7
-/// let starts = Starts::of([62]).expect("some procedures, and none above 63");
+/// let starts = Starts::of([62]).expect("no procedure is above 63");
 /// let mut out = [9; 18];
 /// assert_eq!(unfold_from_into(&wide, starts, &mut out[..15]), Err(Refusal::Room));
 /// assert_eq!(unfold_from_into(&wide, starts, &mut out), Ok(16));
 /// assert_eq!(out, [1, 0, 2, 5, 191, 0, 0, 0, 1, 63, 2, 6, 7, 0, 0, 0, 9, 9]);
 /// ```
-///
-/// # Errors
-///
-/// It refuses a file with 16, 2 to 7 or 12, then with 18 one that would need procedure 64 or a 257th rule, and then with 10 an output that is shorter
-/// than the result.
 pub fn unfold_from_into(file: &[u8], starts: Starts, out: &mut [u8]) -> Result<usize, Refusal> {
     into(from(starts), file, out)
 }

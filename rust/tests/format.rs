@@ -272,7 +272,7 @@ impl<'e> Asked<'e> {
     }
 
     fn write(&self) -> Result<String, Refusal> {
-        let mut journal = Journal::new(bolfrega::PROGRAM_ROWS)?;
+        let mut journal = Journal::new(bolfrega::PROGRAM_ROWS);
         journal.check(self.file, Starts::INITIAL, bolfrega::PROGRAM_BUDGET)?;
         let mut buffer = vec![0; self.number("into", bolfrega::PROGRAM_ROOM)];
         let run = journal.write(self.file, self.number("write", 0), &mut buffer)?;

@@ -19,7 +19,7 @@ fn the_same_answers() {
         if numbers.once_in(4) && !file.is_empty() {
             damage(&mut numbers, &mut file, 8);
         }
-        let starts = Starts::from_bits(numbers.below(16) as u64).unwrap_or(Starts::NONE);
+        let starts = Starts::from_bits(numbers.below(16) as u64);
         let (rows, budget) = (numbers.pick(&[0, 2, 1_024]), numbers.pick(&[10, 5_000]));
         let mut buffer = vec![0; LONGEST_RUN];
         let lent = check_from(&file, starts, rows, budget, &mut buffer);

@@ -1,6 +1,6 @@
 //! The iterator over records and the builder: what one takes apart the other puts together, and both refuse what the calls refuse.
 
-use bolfrega::{records, refusal, wide_records, wide_refusal, FileBuilder, Record, Records, Refusal, Symbol};
+use bolfrega::{records, refusal, wide_records, wide_refusal, FileBuilder, Record, Records, Refusal};
 use making::{damage, valid_file, valid_wide_file, Numbers, Size};
 
 const SIZE: Size = Size {
@@ -10,11 +10,8 @@ const SIZE: Size = Size {
     moves: 30,
 };
 
-/// The file of these records, which come in the other direction. The builder sorts them, so that the order is looked at here.
+/// The file of these records, which come in the other direction.
 fn rebuilt<const WIDTH: usize>(records: Records, mut file: FileBuilder<WIDTH>) -> Vec<u8> {
-    let mut backwards: Vec<Record> = records.clone().collect();
-    backwards.reverse();
-    assert!(records.clone().rev().eq(backwards));
     for record in records.rev() {
         match record {
             Record::Rule { procedure, body } => file.rule(procedure, body),
@@ -70,37 +67,6 @@ fn sixteen_bytes() {
         refused += usize::from(theirs.is_some());
     }
     assert!(refused > 1_000 && refused < 3_000, "{refused}");
-}
-
-/// From both ends in turn, each record comes once.
-#[test]
-fn from_both_ends() {
-    let file = making::plan_b().bytes();
-    let all: Vec<Record> = records(&file).unwrap().collect();
-    let mut left = records(&file).unwrap();
-    for place in 0..4 {
-        assert_eq!(left.next(), Some(all[place]));
-        assert_eq!(left.next_back(), Some(all[8 - place]));
-        assert_eq!(left.len(), 7 - 2 * place);
-    }
-    assert_eq!((left.next_back(), left.next_back(), left.next()), (Some(all[4]), None, None));
-}
-
-/// The byte of each symbol, and of those that there are not a byte which no file may have.
-#[test]
-fn bytes_of_symbols() {
-    for number in 0..=255 {
-        let code = u8::from(Symbol::Code(number));
-        assert_eq!(code, if number < 128 { number } else { 255 }, "code {number}");
-        let procedure = u8::from(Symbol::Procedure(number));
-        assert_eq!(procedure, 128u8.saturating_add(number), "procedure {number}");
-        for (symbol, there) in [(code, number < 128), (procedure, number < 64)] {
-            assert_eq!(FileBuilder::new().rule(0, &[symbol]).file().is_ok(), there, "{symbol}");
-        }
-        if number < 192 {
-            assert_eq!(u8::from(Symbol::from(number)), number);
-        }
-    }
 }
 
 /// A body that no record has room for, whatever its length: refused, and no panic.

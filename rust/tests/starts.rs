@@ -36,7 +36,7 @@ const LARGE: Size = Size {
     moves: 1_024,
 };
 
-const ALL: Starts = Starts::from_bits(u64::MAX).unwrap();
+const ALL: Starts = Starts::from_bits(u64::MAX);
 
 /// Lengths of bodies: a long one now and then.
 const SOME_LONG: [usize; 12] = [0, 0, 0, 1, 1, 1, 1, 2, 2, 2, 3, 5];
@@ -46,20 +46,12 @@ const BROKEN: u64 = raw::BROKEN;
 const EMPTY: u64 = raw::EMPTY;
 
 fn set(procedures: &[u8]) -> Starts {
-    match procedures {
-        [] => Starts::NONE,
-        _ => Starts::of(procedures.iter().copied()).unwrap(),
-    }
-}
-
-/// The set with these bits, of which there may be none.
-fn of_bits(bits: u64) -> Starts {
-    Starts::from_bits(bits).unwrap_or(Starts::NONE)
+    Starts::of(procedures.iter().copied()).unwrap()
 }
 
 /// A set at random, for a file of this size: none, all 64, one, some of the file's procedures, and others that may have no rule.
 fn draw(numbers: &mut Numbers, size: Size) -> Starts {
-    let any = |numbers: &mut Numbers| of_bits((numbers.below(1 << 32) as u64) << 32 | numbers.below(1 << 32) as u64);
+    let any = |numbers: &mut Numbers| Starts::from_bits((numbers.below(1 << 32) as u64) << 32 | numbers.below(1 << 32) as u64);
     let own = u64::MAX >> (64 - size.procedures);
     match numbers.below(10) {
         0 => Starts::NONE,
@@ -68,7 +60,7 @@ fn draw(numbers: &mut Numbers, size: Size) -> Starts {
         3 => set(&[numbers.byte(64)]),
         4 => Starts::INITIAL,
         5 | 6 => set(&[numbers.byte(size.procedures)]),
-        _ => of_bits(any(numbers).bits() & own),
+        _ => Starts::from_bits(any(numbers).bits() & own),
     }
 }
 
@@ -413,7 +405,7 @@ fn every_procedure() {
             };
             assert_eq!((code, details[8]), expected);
         }
-        let others = of_bits(!(1 << head));
+        let others = Starts::from_bits(!(1 << head));
         assert_eq!(checking_from(&file, others, 4, 10, 4).0, EMPTY);
         assert_eq!(checking_from(&file, ALL, 4, 10, 4).1[8], u64::from(head));
         assert_eq!(checking_from(&file, Starts::NONE, 4, 10, 4).0, HOLDS);
@@ -433,7 +425,7 @@ fn all_of_them() {
         let mut short = file.clone();
         short.drain(8 * missing..8 * missing + 8);
         assert_eq!(checking_from(&short, ALL, 1_024, 1_000, 4).0, EMPTY);
-        let others = of_bits(!(1 << missing));
+        let others = Starts::from_bits(!(1 << missing));
         assert_eq!(checking_from(&short, others, 1_024, 1_000, 4).0, HOLDS);
     }
 }
@@ -531,7 +523,7 @@ fn the_last_chain_procedure() {
             } else {
                 raw::CONVERTED
             };
-            let whole = of_bits(u64::MAX >> (63 - highest));
+            let whole = Starts::from_bits(u64::MAX >> (63 - highest));
             for starts in [set(&[highest]), set(&[0, highest]), whole] {
                 assert_eq!(with_every_room(UnfoldFrom(starts), &file).0, expected, "{highest} {length}");
             }
@@ -551,27 +543,9 @@ fn sets() {
         assert_eq!(Starts::INITIAL.contains(procedure), procedure == 0);
     }
     assert_eq!(Starts::of([0]), Some(Starts::INITIAL));
+    assert_eq!(Starts::of([]), Some(Starts::NONE));
     assert_eq!(Starts::of(0..64), Some(ALL));
     assert_eq!(Starts::of(0..65), None);
     assert_eq!(format!("{:?}", set(&[63, 5, 0, 5])), "{0, 5, 63}");
     assert!(ALL.procedures().eq(0..64));
-}
-
-/// The set without a member comes by its name, and of nothing else: a check from it holds, though plan B is broken.
-#[test]
-fn no_set_of_nothing() {
-    let file = making::plan_b().bytes();
-    let verdict = |starts| checking_from(&file, starts, 1_024, 1_000_000, 4_096).0;
-    let mut routes = [0].into_iter();
-    assert_eq!(Starts::of(&mut routes).map(verdict), Some(BROKEN));
-    assert_eq!(Starts::of(&mut routes).map(verdict), None);
-    assert_eq!(Starts::of([]), None);
-    assert_eq!(Starts::of([64]), None);
-    assert_eq!(Starts::of([0, 3].into_iter().filter(|&procedure| procedure > 3)), None);
-    assert_eq!(Starts::from_bits(0), None);
-    for procedure in 0..64 {
-        assert_eq!(Starts::from_bits(1 << procedure), Starts::of([procedure]));
-    }
-    assert_eq!(Starts::NONE.bits(), 0);
-    assert_eq!(verdict(Starts::NONE), HOLDS);
 }

@@ -4,8 +4,6 @@
  *   late N         its input is a pipe that does not block; the first N bytes of ours are in it, and the rest does not come before its end
  *   bytes          its input is a pipe in which ours comes byte by byte, each when the one before has been taken
  *   closed-output  its output is a pipe that nobody reads
- *   one-write      of its output the first write comes to ours, and what else it writes is thrown away
- *   signal N FILE  once there is something in FILE, signal N is sent to the program, and to it alone
  */
 #define _GNU_SOURCE
 #include <fcntl.h>
@@ -14,8 +12,6 @@
 #include <stdlib.h>
 #include <string.h>
 #include <sys/ioctl.h>
-#include <sys/socket.h>
-#include <sys/stat.h>
 #include <sys/wait.h>
 #include <time.h>
 #include <unistd.h>
@@ -50,29 +46,7 @@ static int wait_taken(int pipe_end, pid_t child)
     return 1;
 }
 
-/* Takes the first write to the other end, and then all the rest. Each write is a message of the socket. */
-static void take_writes(int from)
-{
-    static char bytes[1 << 17];
-    ssize_t got = read(from, bytes, sizeof bytes);
-    if (got < 0 || write(STDOUT_FILENO, bytes, (size_t)got) != got)
-        fail("feed: the first write");
-    while (read(from, bytes, sizeof bytes) > 0)
-        ;
-}
-
-/* Sends a signal once there is something in a file, and waits for that a minute at most. */
-static void send_signal(const char *path, int number, pid_t child)
-{
-    const struct timespec pause = {0, 10000000};
-    struct stat found;
-    for (int turns = 0; turns < 6000 && !(stat(path, &found) == 0 && found.st_size > 0); turns++)
-        nanosleep(&pause, NULL);
-    if (kill(child, number) != 0)
-        fail("feed: kill");
-}
-
-/* Starts the program with one of its streams exchanged for an end of the pipe, unless that is none. */
+/* Starts the program with one of its streams exchanged for an end of the pipe. */
 static pid_t start(char **program, int end, int stream, const int *ends)
 {
     pid_t child = fork();
@@ -80,9 +54,7 @@ static pid_t start(char **program, int end, int stream, const int *ends)
         fail("feed: fork");
     if (child == 0) {
         signal(SIGPIPE, SIG_DFL);
-        /* A shell starts what it does not wait for with this one ignored. */
-        signal(SIGINT, SIG_DFL);
-        if (stream >= 0 && dup2(end, stream) < 0)
+        if (dup2(end, stream) < 0)
             fail("feed: dup2");
         close(ends[0]);
         close(ends[1]);
@@ -96,16 +68,14 @@ int main(int argc, char **argv)
 {
     const char *how = argc > 1 ? argv[1] : "";
     int late = strcmp(how, "late") == 0, bytes = strcmp(how, "bytes") == 0, output = strcmp(how, "closed-output") == 0;
-    int one = strcmp(how, "one-write") == 0, signalled = strcmp(how, "signal") == 0;
-    char **program = argv + (late ? 3 : signalled ? 4 : 2);
+    char **program = argv + (late ? 3 : 2);
     int ends[2];
-    if (!(late || bytes || output || one || signalled) || program >= argv + argc) {
-        fprintf(stderr, "usage: feed (late N | bytes | closed-output | one-write | signal N FILE) PROGRAM ARGUMENT..\n");
+    if (!(late || bytes || output) || program >= argv + argc) {
+        fprintf(stderr, "usage: feed (late N | bytes | closed-output) PROGRAM ARGUMENT..\n");
         return 125;
     }
     signal(SIGPIPE, SIG_IGN);
-    int made = one ? socketpair(AF_UNIX, SOCK_SEQPACKET, 0, ends) : pipe(ends);
-    if (made != 0 || (late && fcntl(ends[0], F_SETFL, O_NONBLOCK) != 0))
+    if (pipe(ends) != 0 || (late && fcntl(ends[0], F_SETFL, O_NONBLOCK) != 0))
         fail("feed: pipe");
     for (long left = late ? strtol(argv[2], NULL, 10) : 0; left > 0; left--)
         if (!move_byte(ends[1]))
@@ -113,16 +83,11 @@ int main(int argc, char **argv)
 
     if (output)
         close(ends[0]);
-    int stream = output || one ? STDOUT_FILENO : signalled ? -1 : STDIN_FILENO;
-    pid_t child = start(program, ends[stream == STDOUT_FILENO], stream, ends);
+    pid_t child = output ? start(program, ends[1], STDOUT_FILENO, ends) : start(program, ends[0], STDIN_FILENO, ends);
     while (bytes && move_byte(ends[1]) && wait_taken(ends[0], child))
         ;
     if (!late)
         close(ends[1]);
-    if (one)
-        take_writes(ends[0]);
-    if (signalled)
-        send_signal(argv[3], (int)strtol(argv[2], NULL, 10), child);
     int status;
     if (waitpid(child, &status, 0) != child)
         fail("feed: wait");

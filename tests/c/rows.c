@@ -29,7 +29,6 @@ AT(retired, 10);
 _Static_assert(sizeof(struct bolfrega_row) == 88, "eleven words");
 
 static int failures = 0;
-static int dropped = 0; /* how many checks have dropped rows */
 static const char *name = "";
 
 /* All that is lent, each area between two that are to stay as they are. */
@@ -80,22 +79,6 @@ static int rows_same(size_t from)
     return memcmp(lent.rows + from, garbage.rows + from, (BOLFREGA_MOST_ROWS - from) * sizeof lent.rows[0]) == 0;
 }
 
-/* Whether the rows from `used` on, of `rows` that were lent, are as a check leaves them: as they were, or else, where it has dropped rows, each a row
- * of this file's check. */
-static int rows_above(size_t used, size_t rows)
-{
-    if (rows_same(used))
-        return 1;
-    for (size_t i = used; i < rows; i++) {
-        const struct bolfrega_row *row = &lent.rows[i];
-        if (row->procedure >= BOLFREGA_PROCEDURES || row->rule >= BOLFREGA_MOST_RULES || row->birth < 1 || row->birth > lent.details[BOLFREGA_PASS] ||
-            (row->left >= i && row->left != BOLFREGA_NO_ROW) || (row->right >= i && row->right != BOLFREGA_NO_ROW))
-            return 0;
-    }
-    dropped++;
-    return rows_same(rows);
-}
-
 /* Writes the run behind `row`, and returns what the call does. */
 static uint64_t write_run(const uint8_t *file, size_t length, size_t rows, size_t used, size_t row, size_t room)
 {
@@ -139,7 +122,7 @@ static void check(const uint8_t *file, size_t length, uint64_t starts, size_t ro
     EXPECT(bolfrega_check_rows(file, length, starts, budget, lent.rows, rows, lent.cells, lent.near, lent.details) == code);
     EXPECT(memcmp(lent.details, expected, sizeof expected) == 0);
     EXPECT(guards_same() && SAME(buffer) && SAME(record) && SAME(length));
-    EXPECT(rows_above(expected[BOLFREGA_USED], rows));
+    EXPECT(rows_same(expected[BOLFREGA_USED]));
     if (code < 100) {
         EXPECT(rows_same(0));
         uint64_t written = write_run(file, length, rows, 1, 0, BOLFREGA_LONGEST_RUN);
@@ -160,7 +143,7 @@ static void check(const uint8_t *file, size_t length, uint64_t starts, size_t ro
 static void check_all(const uint8_t *file, size_t length)
 {
     static const uint64_t starts[] = {1, 0, 2, 9, UINT64_MAX};
-    static const size_t rows[] = {BOLFREGA_MOST_ROWS, 1, 7, BOLFREGA_PROGRAM_ROWS};
+    static const size_t rows[] = {BOLFREGA_MOST_ROWS, 1, 7};
     for (size_t i = 0; i < sizeof starts / sizeof starts[0]; i++)
         for (size_t k = 0; k < sizeof rows / sizeof rows[0]; k++) {
             check(file, length, starts[i], rows[k], 1000000);
@@ -196,7 +179,5 @@ int main(int count, char **names)
         fclose(in);
         check_all(file, length);
     }
-    name = "all files";
-    EXPECT(dropped > 0);
     return failures == 0 ? 0 : 1;
 }

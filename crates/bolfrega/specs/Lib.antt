@@ -1,4 +1,15 @@
+pub mod Codes
 pub mod Clauses
 pub mod Telling
 pub mod ZeroRows
 pub mod OwnRows
+pub mod Hosts
+pub mod BrokenLaws
+pub mod HostReplies
+pub mod HostJudging
+pub mod HostRecognizing
+pub mod HostListing
+pub mod HostConverting
+pub mod HostShows
+pub mod HostStays
+pub mod HostTruth

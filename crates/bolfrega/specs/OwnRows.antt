@@ -1,6 +1,6 @@
 -- What the code has in hand after a check over a host's own rows, and after writing a run, is what the host is told. Assumes nothing.
 use Rattle.std.specs.Prelude.{◌≡◌, refl, List, [], ◌∷◌, ◌++◌, map, ℕ, length, get_or}
-use Rattle.std.proofs.Common.{sym, ap, ◌∙◌}
+use Rattle.std.proofs.Common.{sym, ap, ◌∙◌, subst}
 use Rattle.spec_basics.specs.Lists.{get_d_map}
 use Rattle.relation.specs.Relation.{states, pairs}
 use Rattle.spec_order.specs.Journal.{absent, Row}
@@ -14,7 +14,7 @@ use Rattle.search_laws.specs.declared.Answer.TheVariants as answer
 use Rattle.call_check.specs.declared.Checked.{Checked}
 use Rattle.call_check.specs.declared.Checked.TheVariants as checked
 use Rattle.call_check.specs.Answers.{checked_of}
-use Rattle.call_check.specs.Clauses.{Checks}
+use Rattle.call_check.specs.Clauses.{settings_over, Checks}
 use Rattle.call_write.specs.Answers.{writing_of}
 use Rattle.call_write.specs.Clauses.{Writes}
 use Rattle.call_write.specs.declared.Writing.{Writing}
@@ -23,13 +23,15 @@ use Rattle.host_result.specs.Results.{told_by, numbers_in}
 use Rattle.host_result.specs.declared.CheckResult.{CheckResult}
 use Rattle.host_check.specs.Details.{zero_row, answer_code, row_after, row_numbers, head_of}
 use Rattle.host_check.specs.TellingLaws.{unbroken-shows-none, row-there, head-there}
-use Rattle.host_tell.specs.Codes.{writing_code}
-use Rattle.host_tell.specs.Telling.{told_sized, ToldRows}
-use Rattle.host_tell.specs.TellingLaws.{Stored, told-as, fills}
-use Rattle.host_tell.specs.declared.Told.{Told}
-use Rattle.bolfrega.specs.Clauses.{ChecksRows, WritesRun}
+use Rattle.bolfrega.specs.Codes.{writing_code, place_in, size_in}
+use Rattle.bolfrega.specs.Clauses.{ChecksRows, ToldRun, WritesRun}
 
 -- ---- the check
+
+-- the number r and the nine details d, of what the check answered, c, and the row x that it names
+pub record ToldRows (c : Checked) (x : LentRow) (r : ℕ) (d : List ℕ) : Type 0 where
+  pub code : r ≡ (told_by c x x 0).code
+  pub details : d ≡ numbers_in (told_by c x x 0) ++ ((told_by c x x 0).head ∷ [])
 
 module _ (bs : List ℕ) (o : Options) (old new : Journal) (as_many : length new ≡ length old) where
   -- with the row that is named
@@ -68,7 +70,9 @@ module _ (bs : List ℕ) (o : Options) (old new : Journal) (as_many : length new
 
 -- ---- writing
 
--- t is told of the answer x, and stored as r, i and n
-pub writes-run : (bs : List ℕ) (rows : Journal) (used k : ℕ) (old new : List ℕ) (x : Writing) → Writes bs (map row_of rows) used k old new x
-    → (t : Told) → t ≡ told_sized writing_code (writing_of x) → (r i n : ℕ) → Stored t r i n → WritesRun bs rows used k old new r i n
-writes-run bs rows used k old new x w t e r i n s = fills w.answer w.buffer w.meaning (told-as e s)
+-- the answer x, which is y
+pub told-run : (x y : Writing) → x ≡ y → ToldRun (writing_of x) (code_by writing_code (writing_of y)) (place_in (writing_of y)) (size_in (writing_of y))
+told-run x y q = let e = ap writing_of (sym q) in record { code = ap (code_by writing_code) e; place = ap place_in e; size = ap size_in e }
+
+pub writes-run : (bs : List ℕ) (rows : Journal) (used k : ℕ) (old new : List ℕ) (x : Writing) → Writes bs (map row_of rows) used k old new x → (r i n : ℕ) → ToldRun (writing_of x) r i n → WritesRun bs rows used k old new r i n
+writes-run bs rows used k old new x w r i n t = record { told = subst (λ (y : Reply ℕ). ToldRun y r i n) w.answer t; buffer = w.buffer; meaning = w.meaning }

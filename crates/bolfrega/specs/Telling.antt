@@ -1,71 +1,78 @@
--- The numbers that the code has in hand are those of the contracts. Assumes nothing.
-use Rattle.std.specs.Prelude.{◌≡◌, List, ℕ}
-use Rattle.std.proofs.Common.{ap, ◌∙◌, subst}
+-- The numbers that the code computes are those of the contracts. Assumes nothing.
+use Rattle.std.specs.Prelude.{◌≡◌, List, ℕ, length}
+use Rattle.std.proofs.Common.{sym, ap, ◌∙◌, subst}
 use Rattle.spec_file.specs.Answers.{refusal_of}
 use Rattle.spec_file.specs.Refusals.{Refusal, fault}
 use Rattle.spec_file.specs.declared.Refusal.{Refusal as RefusalAnswer}
 use Rattle.spec_file.specs.Reading.{ReaderStep, step_at}
-use Rattle.spec_calls.specs.Codes.{code_by}
-use Rattle.spec_calls.specs.Judging.{JudgementMeans}
-use Rattle.spec_calls.specs.Listing.{ListMeans}
-use Rattle.spec_calls.specs.Recognizing.{RecognizeMeans}
-use Rattle.spec_unfold.specs.MovingMeans.{WidenMeans, NarrowMeans}
-use Rattle.spec_unfold.specs.UnfoldingMeans.{UnfoldMeans}
-use Rattle.spec_unfold.specs.Unfolding.{least_for}
-use Rattle.call_gaps.specs.declared.Listed.{Listed}
-use Rattle.call_gaps.specs.Answers.{listed_of, Lists}
+use Rattle.file_reader.specs.Answers.{step_of, place_after}
+use Rattle.file_reader.specs.declared.Step.{Step}
+use Rattle.spec_calls.specs.Judging.{judge_of, JudgementMeans}
 use Rattle.call_judge.specs.declared.Judged.{Judged}
 use Rattle.call_judge.specs.Answers.{judged_of, Judging}
+use Rattle.spec_calls.specs.Recognizing.{recognize_of, RecognizeMeans}
 use Rattle.call_member.specs.declared.Recognized.{Recognized}
 use Rattle.call_member.specs.Answers.{recognized_of, Recognizing}
+use Rattle.spec_calls.specs.Listing.{list_of, ListMeans}
+use Rattle.call_gaps.specs.declared.Listed.{Listed}
+use Rattle.call_gaps.specs.Answers.{listed_of, Lists}
+use Rattle.spec_calls.specs.Codes.{code_by}
+use Rattle.spec_calls.specs.Replies.{Reply}
 use Rattle.call_move.specs.declared.Moved.{Moved}
+use Rattle.spec_unfold.specs.Unfolding.{least_for}
 use Rattle.call_move.specs.Answers.{moved_of, Widens, Narrows}
 use Rattle.call_unfold.specs.Answers.{Unfolds}
-use Rattle.host_tell.specs.Codes.{judgement_code, derivation_code, listing_code, conversion_code, place_in}
-use Rattle.host_tell.specs.Telling.{told_plain, told_sized, ToldStep}
-use Rattle.host_tell.specs.TellingLaws.{Stored, told-as, fills}
-use Rattle.host_tell.specs.declared.Told.{Told}
-use Rattle.bolfrega.specs.Clauses.{Refuses, StepsFrom, Judges, Recognizes, ListsGaps, WidensFile, NarrowsFile, UnfoldsFile}
+use Rattle.bolfrega.specs.Codes.{judgement_code, derivation_code, listing_code, conversion_code, step_code, step_record, step_values, size_in, place_in}
+use Rattle.bolfrega.specs.Clauses.{Refuses, StepsFrom, Judges, Recognizes, ListsGaps, ToldMove, Converts, WidensFile, NarrowsFile, UnfoldsFile}
 
 -- the file's refusal
 pub refuses : (bs : List ℕ) (x : RefusalAnswer) → refusal_of x ≡ fault bs → Refuses bs x.number x.place
 refuses bs x e = record { number = ap (λ (y : Refusal). y.number) e; place = ap (λ (y : Refusal). y.place) e }
 
--- the step s
-pub steps-from : (bs : List ℕ) (place : ℕ) {r i next : ℕ} {values : List ℕ} {s : ReaderStep} → s ≡ step_at bs place → ToldStep s place r i values next → StepsFrom bs place r i values next
-steps-from bs place {r} {i} {next} {values} e t = subst (λ (s : ReaderStep). ToldStep s place r i values next) e t
+-- the step x, which is y
+pub steps-from : (bs : List ℕ) (place : ℕ) (x y : Step) → step_of x ≡ step_at bs place → x ≡ y → StepsFrom bs place (step_code (step_of y)) (step_record (step_of y)) (step_values (step_of y)) (place_after (step_of y) place)
+steps-from bs place x y j q =
+    let e : step_of y ≡ step_at bs place = ap step_of (sym q) ∙ j in
+    record { code = ap step_code e; refused = ap step_record e; says = ap step_values e; after = ap (λ (s : ReaderStep). place_after s place) e }
 
--- the judgement x, of which t is told
-pub judges : (bs w : List ℕ) (x : Judged) (t : Told) → Judging bs w x → t ≡ told_plain judgement_code (judged_of x) → Judges bs w t.number t.place
-judges bs w x t j e =
-    record {
-      code = ap (λ (y : Told). y.number) e ∙ ap (code_by judgement_code) j.answer;
-      place = ap (λ (y : Told). y.place) e ∙ ap place_in j.answer;
-      meaning = subst (JudgementMeans bs w) j.answer j.meaning;
-    }
+-- the judgement x, which is y
+pub judges : (bs w : List ℕ) (x y : Judged) → Judging bs w x → x ≡ y → Judges bs w (code_by judgement_code (judged_of y)) (place_in (judged_of y))
+judges bs w x y j q =
+    let e : judged_of y ≡ judge_of bs w = ap judged_of (sym q) ∙ j.answer in
+    record { code = ap (code_by judgement_code) e; place = ap place_in e; meaning = subst (JudgementMeans bs w) j.answer j.meaning }
 
--- the answer x on a run, of which t is told
-pub recognizes : (bs w before after : List ℕ) (x : Recognized) (t : Told) → Recognizing bs w before after x → t ≡ told_plain derivation_code (recognized_of x)
-    → Recognizes bs w before after t.number t.place
-recognizes bs w before after x t j e =
-    record {
-      code = ap (λ (y : Told). y.number) e ∙ ap (code_by derivation_code) j.answer;
-      place = ap (λ (y : Told). y.place) e ∙ ap place_in j.answer;
-      meaning = subst (RecognizeMeans bs w before after) j.answer j.meaning;
-    }
+-- the answer x on a run, which is y
+pub recognizes : (bs w before after : List ℕ) (x y : Recognized) → Recognizing bs w before after x → x ≡ y
+    → Recognizes bs w before after (code_by derivation_code (recognized_of y)) (place_in (recognized_of y))
+recognizes bs w before after x y j q =
+    let e : recognized_of y ≡ recognize_of bs w (length before) after = ap recognized_of (sym q) ∙ j.answer in
+    record { code = ap (code_by derivation_code) e; place = ap place_in e; meaning = subst (RecognizeMeans bs w before after) j.answer j.meaning }
 
--- ---- what fills a buffer: t is told of the answer x, and stored as r, i and n
+-- the answer x on the sheet, which is y
+pub lists-gaps : (bs old new : List ℕ) (x y : Listed) → Lists bs old new x → x ≡ y
+    → ListsGaps bs old new (code_by listing_code (listed_of y)) (place_in (listed_of y)) (size_in (listed_of y))
+lists-gaps bs old new x y j q =
+    let e : listed_of y ≡ list_of bs (length old) = ap listed_of (sym q) ∙ j.answer in
+    record { code = ap (code_by listing_code) e; place = ap place_in e; entries = ap size_in e; buffer = j.buffer; meaning = subst (ListMeans bs old new) j.answer j.meaning }
 
-module _ (bs old new : List ℕ) (t : Told) (r i n : ℕ) (s : Stored t r i n) where
-  pub lists-gaps : (x : Listed) → t ≡ told_sized listing_code (listed_of x) → Lists bs old new x → ListsGaps bs old new r i n
-  lists-gaps x e j = fills j.answer j.buffer (subst (ListMeans bs old new) j.answer j.meaning) (told-as e s)
+-- ---- a file that is converted
 
-  module _ (x : Moved) (e : t ≡ told_sized conversion_code (moved_of x)) where
-    pub widens-file : Widens bs old new x → WidensFile bs old new r i n
-    widens-file j = fills j.answer j.output (subst (WidenMeans bs old new) j.answer j.meaning) (told-as e s)
+-- the answer x, which is y
+pub told_move : (x y : Moved) → x ≡ y → ToldMove (moved_of x) (code_by conversion_code (moved_of y)) (place_in (moved_of y)) (size_in (moved_of y))
+told_move x y q = let e = ap moved_of (sym q) in record { code = ap (code_by conversion_code) e; place = ap place_in e; size = ap size_in e }
 
-    pub narrows-file : Narrows bs old new x → NarrowsFile bs old new r i n
-    narrows-file j = fills j.answer j.output (subst (NarrowMeans bs old new) j.answer j.meaning) (told-as e s)
+-- the answer x, told as r, i and n
 
-    pub unfolds-file : (set : ℕ) → Unfolds (least_for set) bs old new x → UnfoldsFile set bs old new r i n
-    unfolds-file set j = fills j.answer j.output (subst (UnfoldMeans (least_for set) bs old new) j.answer j.meaning) (told-as e s)
+module _ (bs old new : List ℕ) (x : Moved) (r i n : ℕ) (t : ToldMove (moved_of x) r i n) where
+  converts : (a : Reply ℕ) (after : List ℕ) (means : List ℕ → Reply ℕ → Type 0) → moved_of x ≡ a → new ≡ after → means new (moved_of x) → Converts a after means new r i n
+  converts a after means answer output meaning =
+      record { told = subst (λ (y : Reply ℕ). ToldMove y r i n) answer t; output = output; meaning = subst (means new) answer meaning }
+
+  pub widens-file : Widens bs old new x → WidensFile bs old new r i n
+  widens-file j = converts _ _ _ j.answer j.output j.meaning
+
+  pub narrows-file : Narrows bs old new x → NarrowsFile bs old new r i n
+  narrows-file j = converts _ _ _ j.answer j.output j.meaning
+
+  pub unfolds-file : (set : ℕ) → Unfolds (least_for set) bs old new x → UnfoldsFile set bs old new r i n
+  unfolds-file set j = converts _ _ _ j.answer j.output j.meaning

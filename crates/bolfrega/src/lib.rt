@@ -1,22 +1,55 @@
-// The library for hosts in C, C++, Rust and Python: the calls of documents 01 and 02 as functions on numbers and lent bytes. No function asks
-// anything of its caller. A result below 100 is the number that refused the call; from 100 on it is an answer (`host_tell` has these
-// numbers, and `spec_calls/specs/Codes` those of the verdicts). `include/bolfrega.h` says the same to C.
-ghost use Rattle.std.specs.Prelude.{◌≡◌};
+// The library for hosts in C and Rust: the calls of document 01 as functions on numbers and lent bytes. No function asks anything of
+// its caller. A result below 100 is the number that refused the call; from 100 on it is an answer (the verdicts' numbers are in
+// `host_result`). `include/bolfrega.h` says the same to C.
+ghost use Rattle.std.specs.Prelude.{◌≡◌, [], ◌∷◌, ◌++◌};
+ghost use Rattle.spec_file.specs.Answers.{said_by};
 ghost use Rattle.spec_calls.specs.Rows.{blank};
-ghost use Rattle.spec_calls.specs.Base.{initial_alone};
-ghost use Rattle.spec_calls.specs.Checking.{check_of};
-ghost use Rattle.call_check.specs.Clauses.{settings_over, AreasKept};
+ghost use Rattle.host_result.specs.Results.{numbers_in};
 ghost use Rattle.host_check.specs.Clauses.{ChecksAlone};
-ghost use Rattle.host_tell.specs.Codes.{version};
-ghost use Rattle.bolfrega.specs.Clauses.{Refuses, StepsFrom, MovesAt, Judges, Recognizes, ListsGaps, WidensFile, NarrowsFile, UnfoldsFile, ChecksZeros, ChecksFrom, of_initial, ChecksRows, WritesRun};
+ghost use Rattle.bolfrega.specs.Codes.{version, record_code, record_values};
+ghost use Rattle.bolfrega.specs.Clauses.{Refuses, StepsFrom, MovesAt, Judges, Recognizes, ListsGaps, ToldMove, WidensFile, NarrowsFile, UnfoldsFile, ChecksZeros, ChecksFrom, of_initial, ChecksRows, ToldRun, WritesRun};
+ghost use Rattle.bolfrega.specs.OwnRows.{ToldRows};
+ghost use Rattle.spec_calls.specs.Base.{initial_alone};
+ghost use Rattle.call_move.specs.Answers.{moved_of};
+ghost use Rattle.call_write.specs.Answers.{writing_of};
 
+use call_check::Checked;
+use call_gaps::Listed;
+use call_judge::Judged;
+use call_member::Recognized;
+use call_move::Moved;
+use call_write::Writing;
+use file_reader::Step;
 use host_result::CheckResult;
 use relation::Letter;
 use search_cover::NEAR_WORDS;
 use search_state::CELLS;
 use spec_calls::{INITIAL_ALONE, Options, Row};
+use spec_file::Record;
 
 const VERSION: u64 = 3;
+
+const ACCEPTED: u64 = 110;
+
+const TURNED_AWAY: u64 = 111;
+
+const DERIVED: u64 = 112;
+
+const NOT_DERIVED: u64 = 113;
+
+const LISTED: u64 = 114;
+
+const CONVERTED: u64 = 115;
+
+const WRITTEN: u64 = 116;
+
+const RULE: u64 = 117;
+
+const MOVE: u64 = 118;
+
+const FINISHING: u64 = 119;
+
+const ENDED: u64 = 120;
 
 // Returns the version of this interface.
 #[unsafe(no_mangle)]
@@ -36,6 +69,38 @@ pub extern "C" fn bolfrega_refusal(file: &[u8], place: &mut u64) -> u64
     refusal.number
 }
 
+// Returns the number of what `found` is.
+fn record_code(found: Record) -> u64
+    ensures { result ≡ record_code (said_by found) }
+{
+    match found {
+        Record::Rule(_) => RULE,
+        Record::Transition(_) => MOVE,
+        Record::Final(_) => FINISHING,
+    }
+}
+
+// Returns what `found` says, as four numbers.
+fn record_values(found: Record) -> [u64; 4]
+    ensures { result ≡ record_values (said_by found) }
+{
+    match found {
+        Record::Rule(rule) => [
+            rule.head as u64,
+            rule.size as u64,
+            rule.first as u64,
+            rule.second as u64,
+        ],
+        Record::Transition(transition) => [
+            transition.source as u64,
+            transition.letter as u64,
+            transition.target as u64,
+            0,
+        ],
+        Record::Final(state) => [state as u64, 0, 0, 0],
+    }
+}
+
 // Reads the record at `from` of `file`: returns RULE, MOVE or FINISHING, ENDED past the last record, or the number that refuses the step.
 // Stores what the record says in `values`, zeros where none came; the place of the next record in `next`, or `from` where none came; and
 // the refused record's number in `place`, or 0.
@@ -50,7 +115,26 @@ pub extern "C" fn bolfrega_step(
     ensures { StepsFrom file.now from result place.new values.new next.new }
 {
     let step = file_reader::step_at(file, from);
-    host_tell::tell_step(step, from, place, values, next)
+    match step {
+        Step::Gives(record, after) => {
+            *place = 0;
+            *values = record_values(record);
+            *next = after as u64;
+            record_code(record)
+        }
+        Step::Refused(stopped) => {
+            *place = stopped.place as u64;
+            *values = [0, 0, 0, 0];
+            *next = from as u64;
+            stopped.number
+        }
+        Step::Ended => {
+            *place = 0;
+            *values = [0, 0, 0, 0];
+            *next = from as u64;
+            ENDED
+        }
+    }
 }
 
 // Stores where the moves of `file` stand in it: from the byte `offset` on, `length` bytes; both are 0 where the file is refused.
@@ -75,9 +159,20 @@ pub extern "C" fn bolfrega_judge(file: &[u8], run: &[u8], place: &mut u64) -> u6
     ensures { Judges file.now run.now result place.new }
 {
     let judged = call_judge::judge(file, run);
-    let told = host_tell::of_judged(judged);
-    *place = told.place;
-    told.number
+    match judged {
+        Judged::Accepted => {
+            *place = 0;
+            ACCEPTED
+        }
+        Judged::TurnedAway => {
+            *place = 0;
+            TURNED_AWAY
+        }
+        Judged::Refused(refused) => {
+            *place = refused.place as u64;
+            refused.number
+        }
+    }
 }
 
 // Returns whether the plan derives the `run`: DERIVED, NOT_DERIVED, or the number that refuses the call, with `place` as above. Stores in bit
@@ -92,9 +187,20 @@ pub extern "C" fn bolfrega_recognize(
     ensures { Recognizes file.now run.now table.old table.new result place.new }
 {
     let recognized = call_member::recognize(file, run, table);
-    let told = host_tell::of_recognized(recognized);
-    *place = told.place;
-    told.number
+    match recognized {
+        Recognized::Derived => {
+            *place = 0;
+            DERIVED
+        }
+        Recognized::NotDerived => {
+            *place = 0;
+            NOT_DERIVED
+        }
+        Recognized::Refused(found) => {
+            *place = found.place as u64;
+            found.number
+        }
+    }
 }
 
 // Lists the gaps and doubles of the sheet in `file`: returns LISTED, or the number that refuses the call, with `place` as above. Stores their
@@ -110,11 +216,39 @@ pub extern "C" fn bolfrega_list(
     ensures { ListsGaps file.now list.old list.new result place.new entries.new }
 {
     let listed = call_gaps::list(file, list);
-    let told = host_tell::of_listed(listed);
-    host_tell::tell(told, place, entries)
+    match listed {
+        Listed::Entries(n) => {
+            *place = 0;
+            *entries = n as u64;
+            LISTED
+        }
+        Listed::Refused(found) => {
+            *place = found.place as u64;
+            *entries = 0;
+            found.number
+        }
+    }
 }
 
 // ---- the other form of records
+
+// Stores the record and the length of `moved` in `place` and `length`, and returns CONVERTED or the number that refuses the call.
+fn tell_moved(moved: Moved, place: &mut u64, length: &mut u64) -> u64
+    ensures { ToldMove (moved_of moved) result place.new length.new }
+{
+    match moved {
+        Moved::Length(n) => {
+            *place = 0;
+            *length = n as u64;
+            CONVERTED
+        }
+        Moved::Refused(found) => {
+            *place = found.place as u64;
+            *length = 0;
+            found.number
+        }
+    }
+}
 
 // Moves `file`, of eight-byte records, over to sixteen bytes: returns CONVERTED, or the number that refuses the call, with `place` as
 // above. Stores the result's length in `length`, 0 for a refused call, and writes the result to the front of `out`. The other bytes of `out`
@@ -129,8 +263,7 @@ pub extern "C" fn bolfrega_widen(
     ensures { WidensFile file.now out.old out.new result place.new length.new }
 {
     let moved = call_move::widen(file, out);
-    let told = host_tell::of_moved(moved);
-    host_tell::tell(told, place, length)
+    tell_moved(moved, place, length)
 }
 
 // Moves `file`, of sixteen-byte records, back to eight bytes; its numbers and lent places are those of `bolfrega_widen`.
@@ -144,8 +277,7 @@ pub extern "C" fn bolfrega_narrow(
     ensures { NarrowsFile file.now out.old out.new result place.new length.new }
 {
     let moved = call_move::narrow(file, out);
-    let told = host_tell::of_moved(moved);
-    host_tell::tell(told, place, length)
+    tell_moved(moved, place, length)
 }
 
 // Unfolds `file`, of sixteen-byte records, into a file of eight-byte records for a check, with chain procedures for its longer bodies; its
@@ -160,8 +292,7 @@ pub extern "C" fn bolfrega_unfold(
     ensures { UnfoldsFile initial_alone file.now out.old out.new result place.new length.new }
 {
     let moved = call_unfold::unfold(file, INITIAL_ALONE, out);
-    let told = host_tell::of_moved(moved);
-    host_tell::tell(told, place, length)
+    tell_moved(moved, place, length)
 }
 
 // As `bolfrega_unfold`, for the set `starts` of starting procedures, bit p for procedure p: none of them becomes a chain procedure.
@@ -176,11 +307,36 @@ pub extern "C" fn bolfrega_unfold_from(
     ensures { UnfoldsFile starts file.now out.old out.new result place.new length.new }
 {
     let moved = call_unfold::unfold(file, starts, out);
-    let told = host_tell::of_moved(moved);
-    host_tell::tell(told, place, length)
+    tell_moved(moved, place, length)
 }
 
 // ---- the check
+
+// The eight details in the order of the header.
+fn details_of(told: CheckResult) -> [u64; 8]
+    ensures { result ≡ numbers_in told }
+{
+    [
+        told.place,
+        told.joins,
+        told.used,
+        told.pass,
+        told.row,
+        told.pairs,
+        told.length,
+        told.refused,
+    ]
+}
+
+// The nine details in the order of the header: the eight, and the procedure.
+fn nine_of(told: CheckResult) -> [u64; 9]
+    ensures { result ≡ numbers_in told ++ (told.head ∷ []) }
+{
+    let eight = details_of(told);
+    [
+        eight[0], eight[1], eight[2], eight[3], eight[4], eight[5], eight[6], eight[7], told.head,
+    ]
+}
 
 // Checks `file` with these `options` over a journal of `rows` rows of zeros, and writes the run of a broken answer to `buffer`.
 fn check_zeros(file: &[u8], rows: usize, options: Options, buffer: &mut [u8]) -> CheckResult
@@ -208,7 +364,7 @@ pub extern "C" fn bolfrega_check(
         starts: INITIAL_ALONE,
     };
     let told = check_zeros(file, rows, options, buffer);
-    *details = host_tell::details_of(told);
+    *details = details_of(told);
     told.code
 }
 
@@ -227,11 +383,20 @@ pub extern "C" fn bolfrega_check_from(
 {
     let options = Options { budget, starts };
     let told = check_zeros(file, rows, options, buffer);
-    *details = host_tell::nine_of(told);
+    *details = nine_of(told);
     told.code
 }
 
 // ---- over a host's own rows
+
+// Stores the nine details of `checked` in `details`, where `row` is the row that a broken answer names, and returns its number.
+fn tell_rows(checked: Checked, row: Row, details: &mut [u64; 9]) -> u64
+    ensures { ToldRows checked row result details.new }
+{
+    let told = host_result::to_unwritten(checked, row);
+    *details = nine_of(told);
+    told.code
+}
 
 // As `bolfrega_check_from`, over the rows of `journal`, which the host lends, in a `table` and in words (`near`) that it lends too. All three
 // may have any contents: nothing is cleared but what is read. The rows that the check uses are those of `journal` then; the others keep their
@@ -246,14 +411,31 @@ pub extern "C" fn bolfrega_check_rows(
     near: &mut [Letter; NEAR_WORDS],
     details: &mut [u64; 9],
 ) -> u64
-    ensures { ChecksRows file.now (record { budget = budget; starts = starts }) journal.old journal.new details.new result
-        × AreasKept (check_of file.now (settings_over (record { budget = budget; starts = starts }) journal.old)) table.old table.new near.old near.new }
+    ensures { ChecksRows file.now (record { budget = budget; starts = starts }) journal.old journal.new details.new result }
 {
     let options = Options { budget, starts };
     let checked = call_check::check_in(file, journal, table, near, options);
     let named = host_result::row_to_write(checked, 0);
     let row = host_check::row_at(journal, named.row);
-    host_tell::tell_rows(checked, row, details)
+    tell_rows(checked, row, details)
+}
+
+// Stores the record and the length of `writing` in `place` and `length`, and returns WRITTEN or the number that refuses the call.
+fn tell_written(writing: Writing, place: &mut u64, length: &mut u64) -> u64
+    ensures { ToldRun (writing_of writing) result place.new length.new }
+{
+    match writing {
+        Writing::Length(n) => {
+            *place = 0;
+            *length = n as u64;
+            WRITTEN
+        }
+        Writing::Refused(found) => {
+            *place = found.place as u64;
+            *length = 0;
+            found.number
+        }
+    }
 }
 
 // Writes the run behind row `row` of `journal`, of which `used` rows are used, to the front of `buffer`: returns WRITTEN, or the number that
@@ -272,6 +454,5 @@ pub extern "C" fn bolfrega_write(
     ensures { WritesRun file.now journal.now used row buffer.old buffer.new result place.new length.new }
 {
     let writing = call_write::write(file, journal, used, row, buffer);
-    let told = host_tell::of_written(writing);
-    host_tell::tell(told, place, length)
+    tell_written(writing, place, length)
 }

@@ -19,3 +19,8 @@ checked_by r a = by_number r.number (checked.Refused r) (checked.Answered a)
 abbrev pub checked_of : Checked → Journal → Reply (order.Answer ℕ)
 checked_of (checked.Refused r) j = refused (refusal_of r)
 checked_of (checked.Answered a) j = answered (answer_of row_of a j)
+
+-- the rows that a reply uses; none on a refusal
+abbrev pub used_in : Reply (order.Answer ℕ) → ℕ
+used_in (refused r) = 0
+used_in (answered a) = a.used

@@ -1,6 +1,8 @@
 -- The tables of a file that a check looks up are the file's, so the working order over them is that on the file. Assumes nothing.
-use Rattle.std.specs.Prelude.{◌≡◌, refl, Bool, true, false, ◌&&◌, List, map, ℕ, ◌≤◌, ◌<◌, eqb, ltb}
-use Rattle.std.proofs.Common.{sym, ap₂, ◌∙◌, arith, pow_pos, eqb-true, ltb-true, ltb-false}
+use Rattle.std.specs.Prelude.{◌≡◌, refl, Bool, true, false, ◌&&◌, ℕ, ◌≤◌, ◌<◌, eqb, ltb}
+use Rattle.std.proofs.Common.{sym, ◌∙◌, arith, pow_pos, eqb-true, ltb-true, ltb-false}
+use Rattle.std.proofs.Math.Path.{ap}
+use mathlib.Core.List.{List, map}
 use Rattle.spec_basics.specs.Tests.{fails, and-fst, and-snd}
 use Rattle.spec_basics.specs.Elements.{In}
 use Rattle.spec_basics.specs.Lists.{any_of}
@@ -19,13 +21,13 @@ use Rattle.spec_file.specs.Limits.{terminals}
 use Rattle.spec_file.specs.Refusals.{fault}
 use Rattle.spec_file.specs.Views.{rules_of, transitions_of, automaton_of}
 use Rattle.spec_file.specs.Valid.{letter-low}
-use Rattle.spec_order.specs.Algebra.{Algebra}
-use Rattle.spec_reuse.specs.Reuse.{reuse}
+use Rattle.spec_order.specs.Order.{check}
 use Rattle.spec_file.specs.Entries.{entry_of}
-use Rattle.spec_calls.specs.Checking.{Settings, reuse_over}
+use Rattle.spec_calls.specs.Checking.{Settings, algebra_over, order_on}
 use Rattle.relation.specs.Stored.{relation_in}
-use Rattle.search_laws.specs.Problems.{RuleBytes, algebra_of, rules_in}
-use Rattle.search_laws.specs.OnAutomaton.{algebra-on}
+use Rattle.search_laws.specs.Clauses.{order_of}
+use Rattle.search_laws.specs.Problems.{RuleBytes}
+use Rattle.search_laws.specs.OnAutomaton.{order-on}
 use Rattle.call_check_start.specs.Starting.{problem_of}
 use Rattle.file_tables.specs.Tables.{letter_table}
 use Rattle.file_tables.specs.LetterLaws.{letters-at, letters-past}
@@ -56,8 +58,8 @@ module _ (bs : List ℕ) (v : (fault bs).number ≡ 0) where
           ∙ sym (letter-absent states (transitions_of bs) c (past-remarks c (let l : last_remark < c = omega (arith, q refl) in l))
           (λ t h e. let l = letter-low bs v t h in let m = q refl in omega arith))
 
-  pub order_same : (rules : RuleBytes) → map entry_of rules ≡ rules_of bs → (g : Settings)
-      → (let P = problem_of bs g (letter_table states (transitions_of bs)) rules in reuse (algebra_of P) (rules_in P) g.rows g.budget) ≡ reuse_over states bs g
+  pub order_same : (rules : RuleBytes) → map entry_of rules ≡ rules_of bs → (g : Settings) → order_of (problem_of bs g (letter_table states (transitions_of bs)) rules) g.rows g.budget ≡ order_on bs g
+  unfolding order_on
   order_same rules e g =
-      ap₂ (λ (A : Algebra ℕ) (rs : List Rule). reuse A rs g.rows g.budget)
-      (algebra-on (automaton_of bs) g.starts (number states (is_final (automaton_of bs))) (letter_table states (transitions_of bs)) rules letters-all (bit-number states (is_final (automaton_of bs)))) e
+      order-on (automaton_of bs) g.starts (number states (is_final (automaton_of bs))) (letter_table states (transitions_of bs)) rules g.rows g.budget letters-all (bit-number states (is_final (automaton_of bs)))
+      ∙ ap (λ (x : List Rule). check (algebra_over states bs g) x g.rows g.budget) e

@@ -2,8 +2,7 @@
 ghost use Rattle.std.specs.Prelude.{◌≡◌};
 ghost use Rattle.search_laws.specs.Meanings.{answer_in};
 ghost use Rattle.call_check.specs.Answers.{checked_by};
-ghost use Rattle.spec_calls.specs.Checking.{check_of};
-ghost use Rattle.call_check.specs.Clauses.{settings_over, Checks, AreasKept};
+ghost use Rattle.call_check.specs.Clauses.{Checks};
 
 use relation::Letter;
 use search_cover::NEAR_WORDS;
@@ -30,7 +29,7 @@ fn as_checked(told: Refusal, last: State) -> Checked
 }
 
 // Decides whether every word of the plan in `file` is accepted, by the working order over the lent `journal`, in which it stores the rows that it
-// uses, and uses again those that nothing needs; `options` has the budget of joins. It works in the lent `table` and `near`, which may have any contents: nothing is cleared but what is
+// uses; `options` has the budget of joins. It works in the lent `table` and `near`, which may have any contents: nothing is cleared but what is
 // read. Proved by hand.
 pub fn check_in(
     file: &[u8],
@@ -39,8 +38,7 @@ pub fn check_in(
     near: &mut [Letter; NEAR_WORDS],
     options: Options,
 ) -> Checked
-    ensures { Checks file.now options journal.old journal.new result
-        × AreasKept (check_of file.now (settings_over options journal.old)) table.old table.new near.old near.new }
+    ensures { Checks file.now options journal.old journal.new result }
 {
     let mut letters: Letters = [0; LETTER_WORDS];
     let mut rules = [[0u8; 4]; RULE_LIMIT];
@@ -54,7 +52,7 @@ pub fn check_in(
         rows,
         options,
     );
-    let last = search_reuse::run(journal, table, near, &letters, &rules, start.state);
+    let last = search_loops::run(journal, table, near, &letters, &rules, start.state);
     as_checked(start.refusal, last)
 }
 

@@ -1,5 +1,5 @@
 -- What a check has at each end of `prepare`, and that the search may then run. Assumes nothing.
-use mathlib.Core.Path.{◌≡◌, refl, sym, ap, ◌∙◌, subst, subst₂}
+use mathlib.Core.Path.{◌≡◌, refl, sym, ap, ◌∙◌, subst}
 use mathlib.Core.Bool.{Bool, ◌||◌}
 use mathlib.Core.List.{List, [], map}
 use Prim.Native.Nat.{ℕ, zero, suc, ◌≤◌, ◌<◌}
@@ -29,14 +29,13 @@ use Rattle.search_links.specs.Rows.{rows_read}
 use Rattle.search_cover.specs.Near.{near_words, Beside}
 use Rattle.search_state.specs.declared.State.{State}
 use Rattle.search_state.specs.declared.Terms.{Terms}
-use Rattle.search_laws.specs.Passes.{Aim, aim_from, pass-from, first-before}
+use Rattle.search_laws.specs.Passes.{pass-first}
 use Rattle.search_laws.specs.Nearing.{near_first}
 use Rattle.search_laws.specs.OnRelations.{Letters, problem_in, NearIn, Running, OpensPass}
 use Rattle.search_laws.specs.ProblemLaws.{problem-laws}
 use Rattle.search_laws.specs.Problems.{RuleBytes, Problem}
 use Rattle.search_laws.specs.Steps.{MayOpen}
-use Rattle.search_laws.specs.Running.{aim_at, SearchAt, Onward}
-use Rattle.search_laws.specs.RunningLaws.{opening-terms}
+use Rattle.search_laws.specs.Running.{SearchAt, Onward}
 use Rattle.search_laws.specs.States.{all_linked, opening}
 use Rattle.search_laws.specs.declared.Reached.{Reached}
 use Rattle.file_tables.specs.Tables.{letter_table, RuleTable}
@@ -78,11 +77,11 @@ module _ (bs : List ℕ) (g : Settings) where
     quiet : ((fault bs).number ≡ 0) × (journal_fault J ≡ 0)
     quiet = none-refused bs J r e z
 
-    opened : (j : Journal) → length j ≡ J → Onward P B (aim_from P B 1 0 j) j (record { used = 0; joins = 0; added = 0 }) s j t'
+    opened : (j : Journal) → length j ≡ J → Onward P B j (record { used = 0; joins = 0; added = 0 }) s j t'
     opened j l =
         let k = journal-size J quiet.1 in
-        subst (λ (y : State). Onward P B (aim_from P B 1 0 j) j (record { used = 0; joins = 0; added = 0 }) y j t') (sym (es ∙ ap (opening w w.terms x) em ∙ ap (λ (y : State). opening y y.terms x (all_linked y.terms.starts t')) ew))
-        (subst (λ (y : State). OpensPass rules t n y.terms y.counts t' x) ew o P (problem-laws g.starts finals letters (take n rules)) B (aim_from P B 1 0 j) j j 1 0 (waiting g n finals) refl (record { limit = omega (arith, l, k.1); past = omega arith }) (sym l) (pass-from P B 1 0 j (omega arith) (omega arith) (first-before P B 1 j)) refl (omega arith) (λ q. absurd (omega (arith, q)))
+        subst (λ (y : State). Onward P B j (record { used = 0; joins = 0; added = 0 }) y j t') (sym (es ∙ ap (opening w w.terms x) em ∙ ap (λ (y : State). opening y y.terms x (all_linked y.terms.starts t')) ew))
+        (subst (λ (y : State). OpensPass rules t n y.terms y.counts t' x) ew o P (problem-laws g.starts finals letters (take n rules)) B j j 1 0 (waiting g n finals) refl (record { some = omega (arith, l, k.0); limit = omega (arith, l, k.1) }) (sym l) (pass-first P B j) refl (λ q. absurd (omega (arith, q)))
         (subst (λ (rows : List Row). Covering rows t) (sym (rows_none row_of j)) (covering-none t et)))
 
     fit : n ≤ length rules
@@ -99,12 +98,9 @@ module _ (bs : List ℕ) (g : Settings) where
         relations = el;
         whole = subst (λ (k : ℕ). k ≤ length rules) count fit;
         entries = subst (λ (k : ℕ). map entry_of (take k rules) ≡ rules_of bs) count (rules-in bs quiet.0 before rules n en);
-        first-pass = ap (λ (y : State). y.terms.pass) es ∙ ap (λ (b : Terms). b.pass) (opening-terms w w.terms x nonempty) ∙ ap (λ (y : State). y.terms.pass) ew;
         none-used = (opened (replicate J blank) (length-replicate J blank)).used;
         none-near = subst (Beside []) (sym forgot) (near_first near size);
-        stands = λ j l.
-            subst (λ (k : ℕ). let Q = problem_of bs g letters (take k rules) in SearchAt Q B (aim_from Q B 1 0 j) j s j t') count
-            (subst (λ (f : ℕ). let Q = problem_in g.starts f letters (take n rules) in SearchAt Q B (aim_from Q B 1 0 j) j s j t') ef (opened j l).stands);
+        stands = λ j l. subst (λ (k : ℕ). SearchAt (problem_of bs g letters (take k rules)) B j s j t') count (subst (λ (f : ℕ). SearchAt (problem_in g.starts f letters (take n rules)) B j s j t') ef (opened j l).stands);
       };
     }
 
@@ -113,17 +109,10 @@ module _ (bs : List ℕ) (g : Settings) where
     abbrev s : State
     s = r.state
 
-    abbrev on : Terms → Problem ℕ LentRow
-    on x = problem_in x.starts x.finals letters (take s.rules rules)
-
-    -- what it must come to
-    abbrev pub aim : Aim ℕ
-    aim = aim_at (problem_in r.state.terms.starts r.state.terms.finals letters rules) rules r.state j
-
-    pub may-run : Running letters rules aim s j s j t
+    pub may-run : Running letters rules s j s j t
     may-run = by r.refusal.number refl
       where
-        by : (k : ℕ) → r.refusal.number ≡ k → Running letters rules aim s j s j t
+        by : (k : ℕ) → r.refusal.number ≡ k → Running letters rules s j s j t
         by zero z =
             let b = h.begins z in
             let k = journal-size J (none-refused bs J r.refusal h.refusal z).1 in
@@ -131,17 +120,14 @@ module _ (bs : List ℕ) (g : Settings) where
               all = λ _. omega (arith, ap length b.relations, letters-length states (transitions_of bs));
               search = record {
                 idle = λ _. (refl, refl);
-                some = λ _. omega (arith, l, k.0);
-                sized = λ _. record { limit = omega (arith, l, k.1); past = omega (arith, b.first-pass) };
+                sized = λ _. record { some = omega (arith, l, k.0); limit = omega (arith, l, k.1) };
                 whole = λ _. b.whole;
-                stands = λ g.
-                    subst₂ (λ (k u : ℕ). SearchAt (on s.terms) s.terms.budget (aim_from (on s.terms) s.terms.budget k u j) j s j t) (sym b.first-pass) (sym b.none-used)
-                    (subst (λ (x : Terms). SearchAt (on x) x.budget (aim_from (on x) x.budget 1 0 j) j s j t) (sym ((b.stands j l).goes g).begun.terms) (b.stands j l));
+                stands = λ g. subst (λ (x : Terms). SearchAt (problem_in x.starts x.finals letters (take s.rules rules)) x.budget j s j t) (sym ((b.stands j l).goes g).begun.terms) (b.stands j l);
               };
             }
         by (suc k) z =
             let none : T s.going → ⊥ = λ g. subst T (h.refused (λ q. let y : ⊥ = omega (arith, sym z ∙ q) in y)) g in
-            record { all = λ g. absurd (none g); search = record { idle = λ _. (refl, refl); some = λ g. absurd (none g); sized = λ g. absurd (none g); whole = λ g. absurd (none g); stands = λ g. absurd (none g) } }
+            record { all = λ g. absurd (none g); search = record { idle = λ _. (refl, refl); sized = λ g. absurd (none g); whole = λ g. absurd (none g); stands = λ g. absurd (none g) } }
 
     -- and no effect stands in the words yet
     pub may-look : T s.going → NearIn s j near

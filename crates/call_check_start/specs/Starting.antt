@@ -13,7 +13,6 @@ use Rattle.spec_calls.specs.declared.Row.{Row}
 use Rattle.search_state.specs.declared.State.{State}
 use Rattle.search_cover.specs.Near.{Beside}
 use Rattle.search_laws.specs.OnRelations.{Letters, problem_in}
-use Rattle.search_laws.specs.Passes.{aim_from}
 use Rattle.search_laws.specs.Problems.{RuleBytes, Problem}
 use Rattle.search_laws.specs.Running.{SearchAt}
 use Rattle.file_tables.specs.Tables.{letter_table}
@@ -39,16 +38,14 @@ waiting g n finals =
 abbrev pub problem_of : List ℕ → Settings → Letters → RuleBytes → Problem ℕ Row
 problem_of bs g letters rules = problem_in g.starts (number states (is_final (automaton_of bs))) letters rules
 
--- the tables are the file's, no row is used, and over every journal of g's number of rows the search stands in s, from pass 1 on; no effect
--- stands in the words w
+-- the tables are the file's, no row is used, and over every journal of g's number of rows the search stands in s; no effect stands in the words w
 pub record FirstPass (bs : List ℕ) (g : Settings) (letters : Letters) (rules : RuleBytes) (t w : List ℕ) (s : State) : Type 0 where
   pub relations : letters ≡ letter_table states (transitions_of bs)
   pub whole : s.rules ≤ length rules
   pub entries : map entry_of (take s.rules rules) ≡ rules_of bs
-  pub first-pass : s.terms.pass ≡ 1
   pub none-used : s.counts.used ≡ 0
   pub none-near : Beside [] w
-  pub stands : (j : Journal) → length j ≡ g.rows → let P = problem_of bs g letters (take s.rules rules) in SearchAt P g.budget (aim_from P g.budget 1 0 j) j s j t
+  pub stands : (j : Journal) → length j ≡ g.rows → SearchAt (problem_of bs g letters (take s.rules rules)) g.budget j s j t
 
 pub record Starts (bs : List ℕ) (g : Settings) (letters : Letters) (rules : RuleBytes) (t w : List ℕ) (r : Start) : Type 0 where
   pub refusal : refusal_of r.refusal ≡ first_of (check_refusals bs g.rows)

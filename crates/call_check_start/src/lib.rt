@@ -59,8 +59,7 @@ pub fn prepare(
     options: Options,
 ) -> Start
     requires { (length table.old ≡ table_cells) × (length near.old ≡ near_words) }
-    ensures { Starts file.now (settings_of rows options) letters.new rules.new table.new near.new result
-        × ((result.refusal.number ≡ 0 → ⊥) → (table.new ≡ table.old) × (near.new ≡ near.old)) }
+    ensures { Starts file.now (settings_of rows options) letters.new rules.new table.new near.new result }
 {
     let fault = call_refusals::refusal_for(file, rows);
     if fault.number != 0 {

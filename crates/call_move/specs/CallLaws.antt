@@ -14,7 +14,7 @@ use Rattle.spec_unfold.specs.MovingMeans.{WidenMeans, NarrowMeans}
 use Rattle.spec_unfold.specs.MovingTruth.{widen-means, narrow-means}
 use Rattle.call_move.specs.declared.Moved.{Moved}
 use Rattle.call_move.specs.Answers.{moved_of, Widens, Narrows}
-use Rattle.file_forms.specs.MovedLaws.{widened-length, narrowed-length}
+use Rattle.call_move.specs.FrontLaws.{widened-length, narrowed-length}
 use Rattle.call_move.specs.ReplyLaws.{Replied}
 
 -- ---- 10

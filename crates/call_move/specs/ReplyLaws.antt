@@ -8,7 +8,7 @@ use Rattle.spec_file.specs.RefusalLaws.{number-some, number-none}
 use Rattle.spec_calls.specs.Replies.{Reply, refused, answered, reply}
 use Rattle.spec_calls.specs.ReplyLaws.{reply-first}
 use Rattle.spec_calls.specs.Writing.{written_by}
-use Rattle.file_bytes.specs.Fronts.{over}
+use Rattle.call_move.specs.Fronts.{over}
 
 module _ (rs : List Refusal) (result old : List ℕ) where
   -- the reply x is the call's, and the output then holds new

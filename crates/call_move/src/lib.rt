@@ -1,11 +1,13 @@
 // Moving a file to the other form of records, as two calls on a file and a lent output (document 02, C-17): `widen` moves eight-byte records
-// over to sixteen bytes, and `narrow` moves them back.
-ghost use Rattle.std.specs.Prelude.{◌≡◌};
+// over to sixteen bytes, and `narrow` moves them back. `put` and `put_narrower` write a part of an output; unfolding uses them too.
+ghost use Rattle.std.specs.Prelude.{◌≡◌, ◌+◌, ◌*◌, ◌≤◌, ◌/◌, length};
+ghost use Rattle.std.proofs.Math.Seq.{paste};
 ghost use Rattle.spec_file.specs.Answers.{refusal_of};
 ghost use Rattle.spec_file.specs.Refusals.{first_of};
 ghost use Rattle.spec_unfold.specs.Calls.{widen_refusals, narrow_refusals};
-ghost use Rattle.spec_unfold.specs.Moving.{has_long};
+ghost use Rattle.spec_unfold.specs.Moving.{widened, narrowed, has_long};
 ghost use Rattle.call_move.specs.Answers.{Widens, Narrows};
+ghost use Rattle.call_move.specs.Fronts.{over};
 
 use file_wide_checks::WIDTH;
 use spec_file::{RULE_KIND, Refusal};
@@ -15,6 +17,50 @@ use spec_file::{RULE_KIND, Refusal};
 pub enum Moved {
     Length(usize),
     Refused(Refusal),
+}
+
+// ---- writing
+
+// Writes the bytes of `part` to `out`, from byte `at` on. The other bytes of `out` keep their values.
+pub fn put(out: &mut [u8], at: usize, part: &[u8])
+    requires { at + length part.now ≤ length out.old }
+    ensures { out.new ≡ paste out.old at part.now (length part.now) }
+{
+    let mut j: usize = 0;
+    while j < part.len() {
+        out[at + j] = part[j];
+        j += 1;
+    }
+}
+
+// Writes the records of `file`, of eight bytes each, to the front of `out`, each with eight zeros behind it.
+fn put_wider(file: &[u8], out: &mut [u8])
+    requires { length file.now / 8 * 16 ≤ length out.old }
+    ensures { out.new ≡ over (widened file.now) out.old }
+{
+    let zeros = [0u8; 8];
+    let n = file.len() / 8;
+    let mut i: usize = 0;
+    while i < n {
+        let from = i * 8;
+        put(out, i * WIDTH, &file[from..from + 8]);
+        put(out, i * WIDTH + 8, &zeros);
+        i += 1;
+    }
+}
+
+// Writes the first eight bytes of each record of `file`, of sixteen bytes each, to the front of `out`.
+pub fn put_narrower(file: &[u8], out: &mut [u8])
+    requires { length file.now / 16 * 8 ≤ length out.old }
+    ensures { out.new ≡ over (narrowed file.now) out.old }
+{
+    let n = file.len() / WIDTH;
+    let mut i: usize = 0;
+    while i < n {
+        let from = i * WIDTH;
+        put(out, i * 8, &file[from..from + 8]);
+        i += 1;
+    }
 }
 
 // ---- what refuses a move
@@ -66,7 +112,7 @@ pub fn widen(file: &[u8], out: &mut [u8]) -> Moved
     if refusal.number != 0 {
         return Moved::Refused(refusal);
     }
-    file_forms::put_wider(file, out);
+    put_wider(file, out);
     Moved::Length(file.len() / 8 * WIDTH)
 }
 
@@ -79,6 +125,6 @@ pub fn narrow(file: &[u8], out: &mut [u8]) -> Moved
     if refusal.number != 0 {
         return Moved::Refused(refusal);
     }
-    file_forms::put_narrower(file, out);
+    put_narrower(file, out);
     Moved::Length(file.len() / WIDTH * 8)
 }

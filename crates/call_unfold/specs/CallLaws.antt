@@ -8,15 +8,13 @@ use Rattle.spec_file.specs.Forms.{sixteen}
 use Rattle.spec_file.specs.Limits.{rule_limit, nonterminals}
 use Rattle.spec_file.specs.Refusals.{refuse, fault_in, first_of}
 use Rattle.spec_file.specs.RefusalLaws.{number-some, number-none, none-refuses}
-use Rattle.spec_calls.specs.Base.{initial_alone}
 use Rattle.spec_calls.specs.Replies.{answered}
 use Rattle.spec_calls.specs.ReplyLaws.{reply-none}
 use Rattle.spec_records.specs.Agreement.{sixteen-fits}
 use Rattle.spec_records.specs.Blocks.{records_of}
 use Rattle.spec_records.specs.FormLaws.{sound}
 use Rattle.spec_unfold.specs.Chains.{chains_in}
-use Rattle.spec_unfold.specs.Unfolding.{least_for, first_chain, unfolded_file, too_many}
-use Rattle.spec_unfold.specs.StartLaws.{unfold-so-far, output-so-far}
+use Rattle.spec_unfold.specs.Unfolding.{first_chain, unfolded_file, too_many}
 use Rattle.spec_unfold.specs.Needing.{first-low}
 use Rattle.spec_unfold.specs.Calls.{output_fault, chain_fault, unfold_refusals, unfold_of, unfold_after}
 use Rattle.spec_unfold.specs.CallLaws.{unfold-answers}
@@ -120,8 +118,3 @@ unfolds least bs old new r p =
 -- the same call, with the least number under another name
 pub unfolds-at : {m n : ℕ} {bs old new : List ℕ} {r : Moved} → m ≡ n → Unfolds m bs old new r → Unfolds n bs old new r
 unfolds-at {m} {n} {bs} {old} {new} {r} e h = subst (λ (k : ℕ). Unfolds k bs old new r) e h
-
--- "For the set of procedure 0 alone, answers equal those so far" (document 02, C-18): the answer and the output are those of an unfolding that is
--- given no set
-pub unfolds-so-far : (bs old new : List ℕ) (r : Moved) → Unfolds (least_for initial_alone) bs old new r → (moved_of r ≡ unfold_of 0 bs (length old)) × (new ≡ unfold_after 0 bs old)
-unfolds-so-far bs old new r h = (h.answer ∙ unfold-so-far bs (length old), h.output ∙ output-so-far bs old)

@@ -15,8 +15,8 @@ use Rattle.spec_unfold.specs.Chains.{RuleOver, chains_for, chains_in, chain, unf
 use Rattle.spec_unfold.specs.ChainFacts.{length-unfolded}
 use Rattle.spec_unfold.specs.Moving.{narrower}
 use Rattle.spec_unfold.specs.RuleRecords.{rule-length, keep-in}
-use Rattle.spec_records.specs.Sorting.{sort}
-use Rattle.spec_records.specs.SortingLaws.{sort-in, length-all}
+use Rattle.spec_unfold.specs.Sorting.{sort}
+use Rattle.spec_unfold.specs.SortingLaws.{sort-in, length-all}
 use Rattle.spec_unfold.specs.Unfolding.{has_kind, byte_rules, call_byte, first_chain, rule_bytes, chained_rules, unfolded_records, unfolded_file}
 use Rattle.call_unfold.specs.KeptLaws.{others, both-kinds}
 

@@ -22,8 +22,8 @@ use Rattle.spec_unfold.specs.ChainFacts.{Small, length-unfolded}
 use Rattle.spec_unfold.specs.Moving.{narrower, narrowed}
 use Rattle.spec_unfold.specs.OrderLaws.{rising-ordered}
 use Rattle.spec_unfold.specs.RuleRecords.{rule-length}
-use Rattle.spec_records.specs.Sorting.{sort}
-use Rattle.spec_records.specs.SortingLaws.{sort-in, length-all}
+use Rattle.spec_unfold.specs.Sorting.{sort}
+use Rattle.spec_unfold.specs.SortingLaws.{sort-in, length-all}
 use Rattle.spec_unfold.specs.Unfolding.{byte_rules, call_byte, rule_bytes, chained_rules, unfolded_file, too_many}
 use Rattle.spec_unfold.specs.UnfoldingLaws.{wide, alone, small}
 use Rattle.file_checks.specs.BigEndian.{big_endian}

@@ -4,7 +4,7 @@ use Rattle.spec_file.specs.Limits.{record_limit, rule_limit, nonterminals}
 use Rattle.spec_file.specs.Refusals.{Refusal, refuse}
 use Rattle.spec_records.specs.Blocks.{bytes_of, records_of}
 use Rattle.spec_unfold.specs.Chains.{RuleOver, chains_in, unfolded}
-use Rattle.spec_records.specs.Sorting.{sort}
+use Rattle.spec_unfold.specs.Sorting.{sort}
 use Rattle.spec_unfold.specs.Moving.{narrowed}
 use Rattle.spec_unfold.specs.Unfolding.{byte_rules, call_byte}
 use Rattle.unfold_count.specs.declared.Needed.{Needed}

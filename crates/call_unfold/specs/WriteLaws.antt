@@ -6,8 +6,8 @@ use Rattle.std.proofs.Math.Seq.{paste}
 use Rattle.spec_basics.specs.Lists.{map-in}
 use Rattle.spec_records.specs.Blocks.{bytes_of}
 use Rattle.spec_records.specs.BlockLaws.{bytes-append, length-bytes}
-use Rattle.file_bytes.specs.Fronts.{over}
-use Rattle.file_bytes.specs.FrontLaws.{over-more, over-length}
+use Rattle.call_move.specs.Fronts.{over}
+use Rattle.call_move.specs.FrontLaws.{over-more, over-length}
 use Rattle.unfold_order.specs.Keys.{digits_of}
 
 -- ---- records from their keys

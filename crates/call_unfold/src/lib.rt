@@ -8,7 +8,7 @@ ghost use Rattle.spec_file.specs.Forms.{sixteen};
 ghost use Rattle.spec_file.specs.Limits.{rule_limit, nonterminals};
 ghost use Rattle.spec_file.specs.Refusals.{fault_in, first_of};
 ghost use Rattle.spec_records.specs.Blocks.{bytes_of};
-ghost use Rattle.file_bytes.specs.Fronts.{over};
+ghost use Rattle.call_move.specs.Fronts.{over};
 ghost use Rattle.unfold_order.specs.Keys.{digits_of};
 ghost use Rattle.spec_unfold.specs.Unfolding.{least_for};
 ghost use Rattle.call_unfold.specs.Answers.{Unfolds};
@@ -30,7 +30,7 @@ fn put_rules(keys: &Keys, count: usize, out: &mut [u8])
     let mut i: usize = 0;
     while i < count {
         let r = unfold_order::record_of(keys[i]);
-        file_bytes::put(out, i * 8, &r);
+        call_move::put(out, i * 8, &r);
         i += 1;
     }
 }
@@ -46,7 +46,7 @@ fn put_unfolded(file: &[u8], first: usize, rules: usize, out: &mut [u8])
     put_rules(&keys, count, out);
     let from = rules * WIDTH;
     let at = count * 8;
-    file_forms::put_narrower(&file[from..], &mut out[at..]);
+    call_move::put_narrower(&file[from..], &mut out[at..]);
 }
 
 // ---- what refuses an unfolding

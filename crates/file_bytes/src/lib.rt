@@ -1,7 +1,5 @@
-// The eight bytes of a record, by its number in the file, and what they say: a rule, a transition or a final state. And bytes that are copied
-// into a lent output; specs: Fronts (a result over the front of one), FrontLaws.
-ghost use Rattle.std.specs.Prelude.{◌≡◌, ◌+◌, ◌≤◌, ◌<◌, length};
-ghost use Rattle.std.proofs.Math.Seq.{paste};
+// The eight bytes of a record, by its number in the file, and what they say: a rule, a transition or a final state.
+ghost use Rattle.std.specs.Prelude.{◌≡◌, ◌<◌};
 ghost use Rattle.spec_file.specs.Answers.{said_by};
 ghost use Rattle.spec_file.specs.Entries.{rule_in, transition_in, whole_record};
 ghost use Rattle.spec_file.specs.Records.{record_count, record_at, record_of};
@@ -70,16 +68,4 @@ pub fn record_of(r: [u8; 8]) -> Record
         return Record::Transition(transition_of(r));
     }
     Record::Final(r[1])
-}
-
-// Writes the bytes of `part` to `out`, from byte `at` on. The other bytes of `out` keep their values.
-pub fn put(out: &mut [u8], at: usize, part: &[u8])
-    requires { at + length part.now ≤ length out.old }
-    ensures { out.new ≡ paste out.old at part.now (length part.now) }
-{
-    let mut j: usize = 0;
-    while j < part.len() {
-        out[at + j] = part[j];
-        j += 1;
-    }
 }

@@ -123,8 +123,7 @@ fn row_at(file: &[u8], i: usize) -> [u8; 4]
     [r.head, r.size, r.first, r.second]
 }
 
-// Stores record `i` behind the first `n` rules of `rows`, where it is a rule and there are fewer than the limit. Returns how many rules there
-// are then.
+// Takes record i in after n rows, where it is a rule and fewer than the limit are written; gives the count of rows then.
 fn read_rule(file: &[u8], i: usize, rows: &mut [[u8; 4]], n: usize) -> usize
     requires { (i < record_count file.now) × (rule_limit ≤ length rows.old) }
     ensures { rows_in rows.new result ≡ cond (eqb (kind_at file.now i) rule_kind) (with_row (rows_in rows.old n) (rule_bytes_in (record_at file.now i))) (rows_in rows.old n) }
@@ -139,7 +138,7 @@ fn read_rule(file: &[u8], i: usize, rows: &mut [[u8; 4]], n: usize) -> usize
     n + 1
 }
 
-// Stores the rules of the file up to the limit in `rows`, in file order. Returns how many there are.
+// The first rules up to the limit, in file order; gives their count.
 fn read_rules(file: &[u8], rows: &mut [[u8; 4]]) -> usize
     requires { rule_limit ≤ length rows.old }
     ensures { rows_in rows.new result ≡ written rows.old (rows_of file.now) }

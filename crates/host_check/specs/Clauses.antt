@@ -25,8 +25,8 @@ pub record Tells (bs : List ℕ) (rows : List (Row ℕ)) (x : Reply (Answer ℕ)
 -- a check with the settings g, told so
 pub record ChecksBy (bs : List ℕ) (g : Settings) (rows : List (Row ℕ)) (d old new : List ℕ) (r : ℕ) : Type 0 where
   pub told : Tells bs rows (check_of bs g) d old new r
-  -- demand 3, where the verdict comes and what the joins are, the least height, what the rows are and which are live, writing the word behind
-  -- each, and stability, of the answer
+  -- demand 3, where the verdict comes and what the joins are, the least height, what the rows are, writing the word that is shown,
+  -- and stability, of the answer
   pub promises : (a : Answer ℕ) → check_of bs g ≡ answered a → Promises bs g a
 
 -- with the options o over a journal

@@ -1,4 +1,3 @@
 pub mod Details
 pub mod Clauses
 pub mod TellingLaws
-pub mod AsBefore

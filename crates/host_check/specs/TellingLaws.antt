@@ -1,17 +1,22 @@
 -- What the code has in hand is what the host is to be told. Assumes nothing.
-use Rattle.std.specs.Prelude.{◌≡◌, refl, Bool, cond, ℕ, zero, suc, ◌+◌, ◌≤◌, ◌<◌, replicate}
+use Rattle.std.specs.Prelude.{◌≡◌, refl, Bool, cond, ℕ, zero, suc, ◌≤◌, ◌<◌, length, replicate}
 use Rattle.std.proofs.Math.Path.{sym, ap, subst}
 use Rattle.std.proofs.Common.{◌∙◌, arith, lt-ltb}
-use mathlib.Core.List.{List, [], ◌∷◌, ◌++◌, map, append_assoc}
-use Rattle.std.proofs.Math.ListN.{length, get_or, take, drop, get_or-append}
+use mathlib.Core.List.{List, [], ◌∷◌, ◌++◌, map}
+use Rattle.std.proofs.Math.ListN.{get_or, take, drop, get_or-append}
 use Rattle.std.proofs.Math.Seq.{take-length}
 use Rattle.spec_basics.specs.Lists.{get_d_map}
 use Rattle.relation.specs.Relation.{states, pairs}
 use Rattle.spec_file.specs.Refusals.{refuse, fault, by_number}
+use Rattle.spec_file.specs.Views.{rules_of, automaton_of}
 use Rattle.spec_order.specs.Journal.{absent, Row}
 use Rattle.spec_order.specs.Order.{Answer, Verdict, broken}
+use Rattle.spec_order.specs.Truth.{SaysBy, check-says}
 use Rattle.spec_calls.specs.Codes.{refused_by}
-use Rattle.spec_calls.specs.Checking.{Settings, journal_limit, journal_fault, above_on, check_of, kept_by, journal_after}
+use Rattle.spec_calls.specs.Base.{members_of, words}
+use Rattle.spec_calls.specs.BaseLaws.{base-laws, word-sizes}
+use Rattle.spec_calls.specs.Checking.{Settings, journal_limit, algebra_over, journal_fault, order_on, check_of, kept_by, journal_after}
+use Rattle.spec_calls.specs.Promising.{from-order}
 use Rattle.spec_calls.specs.Replies.{Reply, refused, answered}
 use Rattle.spec_calls.specs.Rows.{row_of, blank, Journal}
 use Rattle.spec_calls.specs.VerdictTruth.{head_at}
@@ -38,6 +43,16 @@ use Rattle.host_result.specs.declared.RowToWrite.{RowToWrite}
 use Rattle.host_result.specs.declared.CheckResult.{CheckResult}
 
 -- ---- the row of a broken answer
+
+-- it is one of those used, of which the journal has no fewer
+broken-used : (bs : List ℕ) (g : Settings) (a : Answer ℕ) → check_of bs g ≡ answered a → a.verdict ≡ broken → a.row < a.used
+unfolding order_on
+broken-used bs g a e v =
+    let order = (from-order bs g a e).2 in
+    let A = algebra_over states bs g in
+    let says = (check-says A (base-laws states (members_of g.starts) (automaton_of bs)) words word-sizes (rules_of bs) g.rows g.budget).verdict in
+    let s = subst (λ (x : Verdict). SaysBy A words (rules_of bs) x (order_on bs g)) (ap (λ (x : Answer ℕ). x.verdict) (sym order) ∙ v) says in
+    subst (λ (x : Answer ℕ). x.row < x.used) (sym order) s.2
 
 -- a row below the limit is shown itself
 place-low : (i : ℕ) → i < journal_limit → place_of i ≡ i
@@ -90,12 +105,8 @@ module _ (bs : List ℕ) (o : Options) (before after : Journal) (as_many : lengt
   abbrev said : Answer ℕ
   said = answer_of row_of (answer.Broken i n) after
 
-  -- what a drop left above the used rows
-  abbrev above : List (Row ℕ)
-  above = above_on bs (settings_over o before)
-
   used-there : i < n.used
-  used-there = omega (arith, (h.promises _ (sym h.answer)).counts.last_row refl)
+  used-there = broken-used bs (settings_over o before) _ (sym h.answer) refl
 
   -- the journal has its row
   pub row-there : i < length after
@@ -106,9 +117,8 @@ module _ (bs : List ℕ) (o : Options) (before after : Journal) (as_many : lengt
   unfolding journal_after
   head-there =
       ap (λ (x : Row ℕ). x.head)
-      (ap (λ (xs : List (Row ℕ)). row_after xs i)
-      (h.journal ∙ ap (kept_by above (map row_of before)) (sym h.answer) ∙ append_assoc said.journal above (drop (n.used + length above) (map row_of before)))
-      ∙ get_or-append said.journal (above ++ drop (n.used + length above) (map row_of before)) zero_row i (omega (arith, used-there, (h.promises _ (sym h.answer)).counts.used-rows)))
+      (ap (λ (xs : List (Row ℕ)). row_after xs i) (h.journal ∙ ap (kept_by (map row_of before)) (sym h.answer))
+      ∙ get_or-append said.journal (drop n.used (map row_of before)) zero_row i (omega (arith, used-there, (h.promises _ (sym h.answer)).counts.used-rows)))
       ∙ sym (head_at said.journal i zero_row)
 
 -- ---- the whole reply

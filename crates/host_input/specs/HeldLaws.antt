@@ -6,62 +6,47 @@ use Rattle.spec_file.specs.Records.{record_count}
 use Rattle.spec_file.specs.Refusals.{Refusal, refuse, or_next, fault_from, fault, fault_in, length_fault_in}
 use Rattle.spec_calls.specs.Checking.{Settings, check_of}
 use Rattle.spec_calls.specs.Printing.{refused_line, text_of, program_settings, program_room, program_text}
-use Rattle.host_input.specs.Held.{most, room, held_of, Handed}
+use Rattle.host_input.specs.Held.{most, held_of, Handed}
 
-pub held-short : (n : ℕ) → n < most → held_of n ≡ n
+held-short : (n : ℕ) → n < most → held_of n ≡ n
 unfolding held_of
 held-short n h = rw (lt-ltb n most h)
 
-pub held-long : (n : ℕ) → most ≤ n → held_of n ≡ most + (n - most) % 8
+held-long : (n : ℕ) → most ≤ n → held_of n ≡ most + (n - most) % 8
 unfolding held_of
 held-long n h = rw (le-ltb n most h)
 
 -- ---- more bytes
 
 -- where the place is below the most, it is the count of the whole input
-pub count-is : (n : ℕ) → held_of n < most → n ≡ held_of n
+count-is : (n : ℕ) → held_of n < most → n ≡ held_of n
 count-is n h = by (ltb n most) refl
   where
     by : (b : Bool) → ltb n most ≡ b → n ≡ held_of n
     by true e = sym (held-short n (ltb-true n most e))
     by false e = absurd (let l = held-long n (ltb-false n most e) in let z : ⊥ = omega arith in z)
 
-pub held_on : (at got : ℕ) → at < most → got < most - at → at + got ≡ held_of (at + got)
-held_on at got a g = sym (held-short (at + got) (omega arith))
+pub held_on : (at got n : ℕ) → at < most → got < most - at → at ≡ held_of n → at + got ≡ held_of (n + got)
+held_on at got n a g e =
+    let same : n ≡ held_of n = count-is n (omega arith) in
+    let f = held-short (n + got) (omega arith) in
+    omega arith
 
-pub held-over : (at got : ℕ) → (at < most → most - at ≤ got) → most + (at % 8 + got % 8) % 8 ≡ held_of (at + got)
-held-over at got g = by (ltb at most) refl
+pub held-over : (at got n : ℕ) → (at < most → most - at ≤ got) → at ≡ held_of n → most + (at % 8 + got % 8) % 8 ≡ held_of (n + got)
+held-over at got n g e = by (ltb n most) refl
   where
-    by : (b : Bool) → ltb at most ≡ b → most + (at % 8 + got % 8) % 8 ≡ held_of (at + got)
+    by : (b : Bool) → ltb n most ≡ b → most + (at % 8 + got % 8) % 8 ≡ held_of (n + got)
     by true q =
-        let m = g (ltb-true at most q) in
-        let f = held-long (at + got) (omega arith) in
+        let l = ltb-true n most q in
+        let s = held-short n l in
+        let m = g (omega arith) in
+        let f = held-long (n + got) (omega arith) in
         omega arith
-    by false q =
-        let l = ltb-false at most q in
-        let f = held-long (at + got) (omega arith) in
-        omega arith
-
--- bytes that come to those that are held of n are as many as those that come to n
-pub held_more : (n got : ℕ) → held_of (held_of n + got) ≡ held_of (n + got)
-held_more n got = by (ltb n most) refl
-  where
-    by : (b : Bool) → ltb n most ≡ b → held_of (held_of n + got) ≡ held_of (n + got)
-    by true q = ap (λ (k : ℕ). held_of (k + got)) (held-short n (ltb-true n most q))
     by false q =
         let l = ltb-false n most q in
         let s = held-long n l in
-        let e = held-long (held_of n + got) (omega arith) in
         let f = held-long (n + got) (omega arith) in
         omega arith
-
--- as many as there is room for
-pub held_fits : (n : ℕ) → held_of n ≤ room
-held_fits n = by (ltb n most) refl
-  where
-    by : (b : Bool) → ltb n most ≡ b → held_of n ≤ room
-    by true q = let l = ltb-true n most q in let e = held-short n l in omega arith
-    by false q = let e = held-long n (ltb-false n most q) in omega arith
 
 -- ---- refused alike
 

@@ -1,30 +1,19 @@
 -- What a read says, by the sign of what it answered. Assumes nothing.
-use Rattle.std.specs.Prelude.{◌≡◌, refl, Bool, true, false, cond, ℕ, zero, suc, min, ◌≤◌, ℤ, pos, negsuc}
-use Rattle.std.proofs.Common.{sym, ap, subst, arith, ltb-true}
+use Rattle.std.specs.Prelude.{◌≡◌, refl, Bool, true, false, cond, ℕ, zero, suc, ℤ, pos, negsuc}
+use Rattle.std.proofs.Common.{sym, ap, arith, ltb-true}
 use Rattle.std.specs.Int.Signed.{lt_z}
 use Rattle.io.specs.Counts.{clamp_len}
-use Rattle.host_input.specs.declared.Chunk.{Chunk}
 use Rattle.host_input.specs.declared.Chunk.TheVariants as chunk
-use Rattle.host_input.specs.Held.{held_by, came_in}
+use Rattle.host_input.specs.Held.{held_by}
 
 pub said-failed : (z : ℤ) (room : ℕ) → lt_z z (pos 0) ≡ true → chunk.Failed ≡ held_by z room
-unfolding held_by
 said-failed (pos n) room e = absurd (let l = ltb-true n 0 e in let y : ⊥ = omega arith in y)
 said-failed (negsuc n) room e = refl
 
 pub said-ended : (z : ℤ) (room : ℕ) → z ≡ pos 0 → chunk.Ended ≡ held_by z room
-unfolding held_by
 said-ended z room e = sym (ap (λ (x : ℤ). held_by x room) e)
 
 pub said-bytes : (z : ℤ) (room r : ℕ) → lt_z z (pos 0) ≡ false → (z ≡ pos 0 → ⊥) → r ≡ clamp_len z room → chunk.Bytes r ≡ held_by z room
-unfolding held_by
 said-bytes (pos zero) room r e u v = absurd (u refl)
 said-bytes (pos (suc n)) room r e u v = ap chunk.Bytes v
 said-bytes (negsuc n) room r e u v = absurd (let z : ◌≡◌ {A = ℕ} 0 1 = ap (λ (b : Bool). cond b 0 1) e in let y : ⊥ = omega arith in y)
-
--- no more bytes than were lent
-pub said-within : (z : ℤ) (room : ℕ) (said : Chunk) → said ≡ held_by z room → came_in said ≤ room
-unfolding held_by
-said-within (negsuc k) room said e = subst (λ (s : Chunk). came_in s ≤ room) (sym e) (omega arith)
-said-within (pos zero) room said e = subst (λ (s : Chunk). came_in s ≤ room) (sym e) (omega arith)
-said-within (pos (suc k)) room said e = subst (λ (s : Chunk). came_in s ≤ room) (sym e) (let z : min (suc k) room ≤ room = omega arith in z)

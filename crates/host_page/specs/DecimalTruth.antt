@@ -1,4 +1,4 @@
--- What is printed of a number reads as that number: no two numbers are printed alike. So a crew reads off line 3 the run that was printed (`host_report`). Assumes nothing.
+-- What is printed of a number reads as that number: no two numbers are printed alike. A theorem for the reader; nothing cites it. Assumes nothing.
 use Rattle.std.specs.Prelude.{◌≡◌, refl, Bool, true, false, List, [], ◌∷◌, ◌++◌, ℕ, zero, suc, ◌+◌, ◌*◌, ◌-◌, ◌/◌, ◌%◌, ◌≤◌, ltb}
 use Rattle.std.proofs.Common.{◌∙◌, arith, ltb-false}
 use Rattle.spec_calls.specs.Printing.{digit_byte, decimal_by, decimal_in, decimal}

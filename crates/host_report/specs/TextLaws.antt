@@ -1,9 +1,9 @@
 -- The lines that the code makes from the numbers of a check are the text of the check. Assumes nothing.
-use Rattle.std.specs.Prelude.{◌≡◌, Bool, true, false, cond, ℕ, zero, suc, ◌+◌, ◌≤◌, ◌<◌, leb, take, replicate}
+use Rattle.std.specs.Prelude.{◌≡◌, Bool, true, false, cond, ℕ, zero, suc, ◌≤◌, ◌<◌, leb, length, take, drop, replicate}
 use Rattle.std.proofs.Math.Path.{refl, sym, ap}
 use Rattle.std.proofs.Common.{◌∙◌, arith, length-take-le, lt-ltb, ne_eqb, leb-true, leb-false}
-use mathlib.Core.List.{List, [], ◌∷◌, ◌++◌, map, append_assoc}
-use Rattle.std.proofs.Math.ListN.{length, get_or, drop, length-replicate, length-take, get_or-append}
+use mathlib.Core.List.{List, [], ◌∷◌, ◌++◌, map}
+use Rattle.std.proofs.Math.ListN.{get_or, length-replicate, length-take, get_or-append}
 use Rattle.std.proofs.lemmas.List.{length-map}
 use Rattle.relation.specs.Relation.{states}
 use Rattle.spec_file.specs.Refusals.{refuse, fault}
@@ -11,7 +11,7 @@ use Rattle.spec_file.specs.Views.{automaton_of}
 use Rattle.spec_order.specs.Journal.{Row, no_row, capped}
 use Rattle.spec_order.specs.Order.{Answer, Verdict, holds, broken, full, spent, empty}
 use Rattle.spec_calls.specs.Base.{forms_on}
-use Rattle.spec_calls.specs.Checking.{Settings, journal_limit, journal_fault, above_on, check_of, kept_by, journal_after, shown}
+use Rattle.spec_calls.specs.Checking.{Settings, journal_limit, journal_fault, check_of, kept_by, journal_after, shown}
 use Rattle.spec_calls.specs.Printing.{verdict_word, numbers_line, word_line, refused_line, line_one, line_two, line_three, broken_lines, lines_by, text_by, text_of}
 use Rattle.spec_calls.specs.Promising.{promises, broken-word, broken-writes}
 use Rattle.spec_calls.specs.Replies.{Reply, refused, answered, unless}
@@ -80,10 +80,6 @@ module _ (bs : List ℕ) (n : ℕ) (x : LentRow) (o : Options) (p : ℕ) (old ne
   abbrev before : List (Row ℕ)
   before = map row_of (journal_of n x)
 
-  -- what a drop left above the used rows
-  abbrev above : List (Row ℕ)
-  above = above_on bs g
-
   abbrev rows : List (Row ℕ)
   rows = journal_after bs g before
 
@@ -102,8 +98,8 @@ module _ (bs : List ℕ) (n : ℕ) (x : LentRow) (o : Options) (p : ℕ) (old ne
       row_is : row_after rows a.row ≡ get_or a.journal a.row (no_row (forms_on states (automaton_of bs)))
       unfolding journal_after
       row_is =
-          ap (λ (r : List (Row ℕ)). row_after r a.row) (ap (kept_by above before) e ∙ append_assoc a.journal above (drop (a.used + length above) before))
-          ∙ get_or-append a.journal (above ++ drop (a.used + length above) before) zero_row a.row below
+          ap (λ (r : List (Row ℕ)). row_after r a.row) (ap (kept_by before) e)
+          ∙ get_or-append a.journal (drop a.used before) zero_row a.row below
           ∙ get_d_any zero_row (no_row (forms_on states (automaton_of bs))) a.journal a.row below
 
       length-is : (row_after rows a.row).len ≡ capped (length (shown bs a))

@@ -1,9 +1,8 @@
 // The answer of a check as document 01, "The check program", has it, rendered into a lent buffer.
 ghost use Rattle.spec_calls.specs.Rows.{settings_of};
-ghost use Rattle.spec_calls.specs.Printing.{text_of, program_room};
+ghost use Rattle.spec_calls.specs.Printing.{text_of, program_room, program_text};
 ghost use Rattle.host_page.specs.Clauses.{Printed};
 ghost use Rattle.host_lines.specs.Lines.{text_told};
-ghost use Rattle.host_report.specs.Crew.{Answered};
 
 use host_result::CheckResult;
 use spec_calls::{INITIAL_ALONE, Options, Row};
@@ -36,10 +35,9 @@ pub fn render(file: &[u8], rows: usize, old: Row, options: Options, text: &mut [
     put_whole(text, told, &buffer)
 }
 
-// Stores what the check program prints of `file` at the front of `text`, and returns its length. The contract says too what a crew may
-// conclude from this text alone.
+// Stores what the check program prints of `file` at the front of `text`, and returns its length.
 pub fn answer(file: &[u8], text: &mut [u8; TEXT]) -> usize
-    ensures { Answered file.now text.old text.new result }
+    ensures { Printed (program_text file.now) text.old text.new result }
 {
     let options = Options {
         budget: BUDGET,

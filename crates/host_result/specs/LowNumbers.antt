@@ -6,24 +6,18 @@ use Rattle.std.proofs.Common.{sym, ◌∙◌, subst, inr, arith, leb-false}
 use Rattle.std.proofs.Math.Logic.{inl}
 use Rattle.std.proofs.lemmas.Bool.{false≢true}
 use mathlib.Core.List.{List, [], ◌∷◌, map}
-use Prim.Native.Nat.{ℕ, zero, suc, ◌+◌, ◌≤◌, ◌<◌}
+use Prim.Native.Nat.{ℕ, zero, suc, ◌≤◌, ◌<◌}
 use Rattle.spec_basics.specs.Elements.{In, any}
 use Rattle.spec_basics.specs.Lists.{any_at}
-use Rattle.relation.specs.Relation.{states}
 use Rattle.spec_file.specs.Limits.{terminals}
 use Rattle.spec_file.specs.Forms.{Form, eight, sixteen}
 use Rattle.spec_file.specs.Records.{record_count_in, rule_kind, transition_kind, count_in}
-use Rattle.spec_file.specs.Refusals.{Refusal, refuse, or_next, first_holding, record_numbers, file_numbers, record_tests_in, length_tests_in, length_fault, fault_at, fault, by_number, fault_at_in, fault_by_in, fault_from_in, fault_in, length_fault_in}
-use Rattle.spec_file.specs.Views.{rules_of, automaton_of}
-use Rattle.spec_order.specs.Fitting.{all_rows_fit}
-use Rattle.spec_order.specs.Journal.{Row}
+use Rattle.spec_file.specs.Refusals.{Refusal, refuse, or_next, first_holding, record_numbers, file_numbers, record_tests_in, length_tests_in, fault, by_number, fault_at_in, fault_by_in, fault_from_in, fault_in, length_fault_in}
 use Rattle.spec_calls.specs.Checking.{Settings, journal_limit, journal_fault, check_refusals, check_of}
 use Rattle.spec_calls.specs.Judging.{word_limit, word_fault, judge_refusals, judge_of}
 use Rattle.spec_calls.specs.Recognizing.{run_limit, stretch_cells, run_fault, table_fault, recognize_refusals, recognize_of}
 use Rattle.spec_calls.specs.Listing.{list_bytes, list_fault, list_refusals, list_of}
 use Rattle.spec_calls.specs.Replies.{Reply, refused, answered, unless, reply}
-use Rattle.spec_calls.specs.Base.{forms_on}
-use Rattle.spec_calls.specs.Writing.{too_long, row_fault, room_fault, word_of, write_refusals, write_of}
 use Rattle.spec_records.specs.Blocks.{records_of}
 use Rattle.spec_unfold.specs.Moving.{widened, narrowed, has_long}
 use Rattle.spec_unfold.specs.Unfolding.{byte_rules, unfolded_file, too_many}
@@ -142,17 +136,6 @@ fault-low bs = form-low eight refl bs
 wide_low : (bs : List ℕ) → Low (fault_in sixteen bs)
 wide_low bs = form-low sixteen refl bs
 
--- of a record, and of the length
-some-low : (f : ℕ) (ns : List ℕ) → any (λ n. leb first_answer_code n) ns ≡ false → (f ≡ 0) ⊎ In f ns → f < first_answer_code
-some-low f ns none (inl e) = omega (arith, e)
-some-low f ns none (inr h) = among-low ns none f h
-
-pub at_low : (bs : List ℕ) (i : ℕ) → fault_at bs i < first_answer_code
-at_low bs i = some-low (fault_at bs i) record_numbers refl (at-number eight bs i)
-
-pub length-low : (bs : List ℕ) → length_fault bs < first_answer_code
-length-low bs = some-low (length_fault bs) (1 ∷ 2 ∷ []) refl (length-number eight bs)
-
 number-low : (b : Bool) (f : ℕ) → f < first_answer_code → cond b f 0 < first_answer_code
 number-low true f h = h
 number-low false f h = omega arith
@@ -219,13 +202,3 @@ unfolding unfold_of chain_fault
 unfold-low least bs room =
     reply-low (unfold_refusals least bs room) _
     (wide_low bs, (number-low (too_many least (byte_rules (records_of 16 bs))) 18 (omega arith), (output-low (unfolded_file least bs) room, tt)))
-
--- ---- writing
-
-pub write_low : (bs : List ℕ) (rows : List (Row ℕ)) (used i room : ℕ) → LowIn (write_of bs rows used i room)
-unfolding write_of journal_fault row_fault room_fault
-write_low bs rows used i room =
-    let eight = number-low (eqb (length rows) 0 || ltb journal_limit (length rows)) 8 (omega arith) in
-    let nine = number-low (not (ltb i used) || (ltb (length rows) used || not (all_rows_fit (forms_on states (automaton_of bs)) rows (rules_of bs) (i + 1)))) 9 (omega arith) in
-    let ten = number-low (too_long (length (word_of bs rows i)) room) 10 (omega arith) in
-    reply-low (write_refusals bs rows used i room) _ (fault-low bs, (eight, (nine, (ten, tt))))

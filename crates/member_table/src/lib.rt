@@ -48,8 +48,7 @@ fn derive(
     member_units::union(units, of_splits)
 }
 
-// Stores `value` in the cell of the stretch from step `i` up to step `j`. The stretches from step 0 have 65 cells, those from step 1 have 64, and
-// so on, so that `i * (131 - i) / 2` cells stand before those from step `i`.
+// Stores `value` in the cell of the stretch from step `i` up to step `j`.
 fn put(table: &mut [u64], i: usize, j: usize, value: u64)
     requires { (length table.old ≡ stretch_cells) × (i ≤ j) × (j ≤ run_limit) }
     ensures { table.new ≡ set table.old (cell i j) value }

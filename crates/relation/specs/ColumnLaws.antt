@@ -1,16 +1,15 @@
 -- A composition by columns. Assumes nothing.
-use Rattle.std.specs.Prelude.{◌≡◌, refl, ℕ, ◌+◌, ◌*◌, ◌/◌, ◌%◌, ◌^◌, ◌≤◌, ◌<◌, length}
+use Rattle.std.specs.Prelude.{◌≡◌, ℕ, ◌+◌, ◌*◌, ◌/◌, ◌%◌, ◌^◌, ◌<◌, ◌≤◌, length, bit_and}
 use Rattle.std.proofs.Common.{sym, ap₂, ◌∙◌, subst, lt_of_lt_of_le, shr-shr}
 use Rattle.std.proofs.Math.Path.{ap}
 use native.Mathlib.Omega.{arith}
-use Rattle.std.specs.Int.Bits.{bit_and}
 use Rattle.std.proofs.lemmas.Nat.{and_le_r}
 use Rattle.spec_basics.specs.Lists.{length-every, getD-every}
-use Rattle.relation_words.specs.Rows.{column_of, row_of, AreColumns, by_columns, by_lowest, column_cells, cell, cells_from, column}
 use Rattle.relation.specs.declared.Relation.{Relation}
-use Rattle.relation.specs.Columns.{columns_of, word_by}
+use Rattle.relation.specs.Columns.{column_of, row_of, AreColumns, by_columns, column_cells, columns_of, cell, cells_from, word_by}
+use Rattle.relation.specs.DigitLaws.{union-same}
 use Rattle.relation.specs.Parts.{product-words}
-use Rattle.relation.specs.Product.{product, through-times, union-through}
+use Rattle.relation.specs.Product.{column, product, through-times, union-through}
 use Rattle.relation.specs.Relation.{states}
 use Rattle.relation.specs.Representation.{rows_of_word, relation_words, word, word_lt, Fit, value}
 
@@ -21,8 +20,10 @@ by_product c z y h =
     union-through states rows_of_word rows_of_word z y (λ m. c m * row_of m y) (omega arith)
     (λ m l. ap (λ (u : ℕ). u * row_of m y) (h m l) ∙ through-times states rows_of_word m z y (omega arith))
 
-pub by-lowest : (z y : ℕ) → by_lowest z y ≡ product states rows_of_word rows_of_word z y
-by-lowest z y = by_product (λ m. column_of m z) z y (λ m l. refl)
+-- by columns that are equal
+pub by-same : (c d : ℕ → ℕ) (y : ℕ) → ((m : ℕ) → m < rows_of_word → c m ≡ d m) → by_columns c y ≡ by_columns d y
+unfolding by_columns
+by-same c d y h = union-same rows_of_word (λ m. c m * row_of m y) (λ m. d m * row_of m y) (λ m l. ap (λ (u : ℕ). u * row_of m y) (h m l))
 
 -- ---- the columns of a relation
 

@@ -1,12 +1,11 @@
 -- The ones of a word are the places in it; of a relation, its pairs. Assumes nothing.
-use Rattle.std.specs.Prelude.{◌≡◌, refl, Bool, true, false, ℕ, zero, suc, ◌+◌, ◌*◌, ◌/◌, ◌%◌, ◌^◌, ◌<◌}
+use Rattle.std.specs.Prelude.{◌≡◌, ℕ, zero, suc, ◌+◌, ◌*◌, ◌/◌, ◌%◌, ◌^◌, ◌<◌, Bool, true, false, refl}
 use Rattle.std.proofs.Common.{sym, ap, ap₂, ◌∙◌, subst, suc-le-suc, le_refl, le_of_lt, mod-lt, add_comm, arith, pow_pos}
 use Rattle.std.proofs.Math.Arith.{le-zero}
 use Rattle.std.specs.Int.Count.{ones, ones_in}
 use Rattle.std.proofs.lemmas.Nat.{ones_cat, ones-le}
 use Rattle.std.proofs.Math.Pow.{recompose}
-use Rattle.relation_words.specs.Rows.{pieces}
-use Rattle.relation.specs.Digits.{bit, digit, count, sum}
+use Rattle.relation.specs.Digits.{bit, digit, count, sum, pieces}
 use Rattle.relation.specs.DigitLaws.{digit-is, bit-mod}
 use Rattle.relation.specs.Pieces.{pieces-lt}
 use Rattle.relation.specs.Relation.{pairs}

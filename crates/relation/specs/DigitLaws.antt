@@ -1,15 +1,14 @@
 -- Laws of numbers as sets of places. Assumes nothing.
-use Rattle.std.specs.Prelude.{◌≡◌, refl, ◌⊎◌, Bool, true, false, ◌&&◌, ◌||◌, ℕ, zero, suc, ◌+◌, ◌-◌, ◌*◌, ◌/◌, ◌%◌, ◌^◌, ◌<◌, min, max, eqb, ltb}
+use Rattle.std.specs.Prelude.{◌≡◌, ℕ, zero, suc, ◌+◌, ◌-◌, ◌*◌, ◌/◌, ◌%◌, ◌^◌, ◌<◌, min, max, Bool, true, false, ◌&&◌, ◌||◌, ◌⊎◌, ◌==◌, bit_xor, nat_eq, nat_lt, refl}
 use Rattle.std.proofs.Common.{sym, ap, ap₂, ◌∙◌, subst, inl, inr, zero-le, suc-le-suc, le_refl, le_of_suc-le-suc, not-suc-le-zero, zero-lt-suc, mod-lt, pow-suc, eq-or-lt_of_le, mul_comm, lt_of_le_of_lt, le_of_lt, add-zero, zero-mul, one-mul, arith, pow_pos, shr-shr, eqb-true, eq-eqb, ltb-true, ltb-false}
 use Rattle.std.proofs.lemmas.Bool.{false≢true, eqb-false}
 use Rattle.std.proofs.Math.Nat.{mul-add-mod_self_right, div-eq_of_lt}
 use Rattle.std.proofs.Math.Arith.{digits_lt, lt-one, lt_of_le-ne}
 use Rattle.std.proofs.Math.Pow.{pow-lt, high, low, field, mod-mod-pow, recompose, ones_lt, ones_split}
-use Rattle.std.specs.Int.Bits.{bit_and, bit_or, bit_xor, and_step, and_zero_l, or_step, and_self, xor_self, or_add_and, xor_add_and}
+use Rattle.std.specs.Int.Bits.{bit_and, bit_or, and_step, and_zero_l, or_step, and_self, xor_self, or_add_and, xor_add_and}
 use Rattle.std.proofs.lemmas.Nat.{and_mask, and_shr, and_block, or_shr, and_le_l, and_le_r}
 use Rattle.spec_basics.specs.Tests.{and_intro, and-fst, and-snd, or_left, or_right, iff-equal}
-use Rattle.relation_words.specs.Rows.{union}
-use Rattle.relation.specs.Digits.{bit, digit, number, some, all, subset}
+use Rattle.relation.specs.Digits.{bit, digit, number, some, all, union, subset}
 
 -- ---- digits
 
@@ -21,7 +20,7 @@ pub digit-is : (e k : ℕ) → e / 2 ^ k % 2 ≡ digit (bit e k)
 unfolding bit
 digit-is e k = go (e / 2 ^ k % 2) (mod-lt (e / 2 ^ k) two_pos)
   where
-    go : (d : ℕ) → d < 2 → d ≡ digit (eqb d 1)
+    go : (d : ℕ) → d < 2 → d ≡ digit (d == 1)
     go zero h = refl
     go (suc zero) h = refl
     go (suc (suc d)) h = absurd (not-suc-le-zero (le_of_suc-le-suc (le_of_suc-le-suc h)))
@@ -30,7 +29,7 @@ digit_lt : (b : Bool) → digit b < 2
 digit_lt true = le_refl 2
 digit_lt false = two_pos
 
-digit-eqb : (b : Bool) → eqb (digit b % 2) 1 ≡ b
+digit-eqb : (b : Bool) → (digit b % 2 == 1) ≡ b
 digit-eqb true = refl
 digit-eqb false = refl
 
@@ -40,46 +39,46 @@ unfolding bit
 bit-mod e m k h =
     let j : ℕ = m - suc k in
     let em : m ≡ (j + 1) + k = omega arith in
-    ap (λ (x : ℕ). eqb (e % 2 ^ x / 2 ^ k % 2) 1) em
-    ∙ ap (λ (x : ℕ). eqb (x % 2) 1) (field e (j + 1) k)
-    ∙ ap (λ (x : ℕ). eqb x 1) (mod-mod-pow (e / 2 ^ k) j 1)
+    ap (λ (x : ℕ). nat_eq (e % 2 ^ x / 2 ^ k % 2) 1) em
+    ∙ ap (λ (x : ℕ). nat_eq (x % 2) 1) (field e (j + 1) k)
+    ∙ ap (λ (x : ℕ). nat_eq x 1) (mod-mod-pow (e / 2 ^ k) j 1)
 
 pub bit-low : (v m r k : ℕ) → r < 2 ^ m → k < m → bit (v * 2 ^ m + r) k ≡ bit r k
 bit-low v m r k hr h = sym (bit-mod (v * 2 ^ m + r) m k h) ∙ ap (λ (x : ℕ). bit x k) (low v m hr)
 
 pub bit_high : (b : Bool) (m r : ℕ) → r < 2 ^ m → bit (digit b * 2 ^ m + r) m ≡ b
 unfolding bit
-bit_high b m r hr = ap (λ (x : ℕ). eqb (x % 2) 1) (high (digit b) m hr) ∙ digit-eqb b
+bit_high b m r hr = ap (λ (x : ℕ). nat_eq (x % 2) 1) (high (digit b) m hr) ∙ digit-eqb b
 
 -- a shift moves the digits down
 pub bit-shr : (x c k : ℕ) → bit (x / 2 ^ c) k ≡ bit x (c + k)
 unfolding bit
-bit-shr x c k = ap (λ (z : ℕ). eqb (z % 2) 1) (shr-shr x c k)
+bit-shr x c k = ap (λ (z : ℕ). nat_eq (z % 2) 1) (shr-shr x c k)
 
 pub bit_up : (v m r k : ℕ) → r < 2 ^ m → bit (v * 2 ^ m + r) (m + k) ≡ bit v k
 bit_up v m r k h = sym (bit-shr (v * 2 ^ m + r) m k) ∙ ap (λ (z : ℕ). bit z k) (high v m h)
 
 -- the lowest digit after a shift
-pub digit-of : (x k : ℕ) → eqb (bit_and (x / 2 ^ k) 1) 1 ≡ bit x k
+pub digit-of : (x k : ℕ) → (bit_and (x / 2 ^ k) 1 == 1) ≡ bit x k
 unfolding bit
-digit-of x k = ap (λ (d : ℕ). eqb d 1) (and_mask (x / 2 ^ k) 1)
+digit-of x k = ap (λ (d : ℕ). nat_eq d 1) (and_mask (x / 2 ^ k) 1)
 
 -- a number has no digit beyond its size
 pub bit-beyond : (x k : ℕ) → x < 2 ^ k → bit x k ≡ false
 unfolding bit
-bit-beyond x k h = ap (λ (z : ℕ). eqb (z % 2) 1) (div-eq_of_lt h)
+bit-beyond x k h = ap (λ (z : ℕ). nat_eq (z % 2) 1) (div-eq_of_lt h)
 
 pub bit-zero : (k : ℕ) → bit 0 k ≡ false
 bit-zero k = bit-beyond 0 k (pow_pos k)
 
 -- a power of 2 has one digit
-pub bit-power : (m k : ℕ) → bit (2 ^ m) k ≡ eqb k m
-bit-power m k = go (eqb k m) refl (ltb k m) refl
+pub bit-power : (m k : ℕ) → bit (2 ^ m) k ≡ (k == m)
+bit-power m k = go (k == m) refl (nat_lt k m) refl
   where
     whole : 1 * 2 ^ m + 0 ≡ 2 ^ m
     whole = add-zero (1 * 2 ^ m) ∙ one-mul (2 ^ m)
 
-    go : (t : Bool) → eqb k m ≡ t → (u : Bool) → ltb k m ≡ u → bit (2 ^ m) k ≡ eqb k m
+    go : (t : Bool) → (k == m) ≡ t → (u : Bool) → nat_lt k m ≡ u → bit (2 ^ m) k ≡ (k == m)
     go true e u l = ap₂ bit (sym whole) (eqb-true k m e) ∙ bit_high true m 0 (pow_pos m) ∙ sym e
     go false e true l =
         ap (λ (z : ℕ). bit z k) (sym whole) ∙ bit-low 1 m 0 k (pow_pos m) (ltb-true k m l) ∙ bit-zero k ∙ sym e
@@ -91,7 +90,7 @@ pub bit-digit-mul : (t : Bool) (r k : ℕ) → bit (digit t * r) k ≡ (t && bit
 bit-digit-mul true r k = ap (λ (z : ℕ). bit z k) (one-mul r)
 bit-digit-mul false r k = ap (λ (z : ℕ). bit z k) (zero-mul r) ∙ bit-zero k
 
-pub bit-digit : (t : Bool) (k : ℕ) → bit (digit t) k ≡ (t && eqb k 0)
+pub bit-digit : (t : Bool) (k : ℕ) → bit (digit t) k ≡ (t && k == 0)
 bit-digit true k = bit-power 0 k
 bit-digit false k = bit-zero k
 
@@ -142,13 +141,13 @@ ext (suc m) a b ha hb h =
 
 -- ---- and, or, containment
 
-min-digit : (a b : Bool) → eqb (min (digit a) (digit b) % 2) 1 ≡ (a && b)
+min-digit : (a b : Bool) → (min (digit a) (digit b) % 2 == 1) ≡ (a && b)
 min-digit true true = refl
 min-digit true false = refl
 min-digit false true = refl
 min-digit false false = refl
 
-max-digit : (a b : Bool) → eqb (max (digit a) (digit b) % 2) 1 ≡ (a || b)
+max-digit : (a b : Bool) → (max (digit a) (digit b) % 2 == 1) ≡ (a || b)
 max-digit true true = refl
 max-digit true false = refl
 max-digit false true = refl
@@ -157,17 +156,17 @@ max-digit false false = refl
 pub bit-and : (a b k : ℕ) → bit (bit_and a b) k ≡ (bit a k && bit b k)
 unfolding bit
 bit-and a b k =
-    ap (λ (x : ℕ). eqb (x % 2) 1) (and_shr a b k ∙ and_step (a / 2 ^ k) (b / 2 ^ k))
-    ∙ ap (λ (x : ℕ). eqb x 1) (mul-add-mod_self_right (bit_and (a / 2 ^ k / 2) (b / 2 ^ k / 2)) 2 (min (a / 2 ^ k % 2) (b / 2 ^ k % 2)))
-    ∙ ap₂ (λ (x y : ℕ). eqb (min x y % 2) 1) (digit-is a k) (digit-is b k)
+    ap (λ (x : ℕ). nat_eq (x % 2) 1) (and_shr a b k ∙ and_step (a / 2 ^ k) (b / 2 ^ k))
+    ∙ ap (λ (x : ℕ). nat_eq x 1) (mul-add-mod_self_right (bit_and (a / 2 ^ k / 2) (b / 2 ^ k / 2)) 2 (min (a / 2 ^ k % 2) (b / 2 ^ k % 2)))
+    ∙ ap₂ (λ (x y : ℕ). nat_eq (min x y % 2) 1) (digit-is a k) (digit-is b k)
     ∙ min-digit (bit a k) (bit b k)
 
 pub bit-or : (a b k : ℕ) → bit (bit_or a b) k ≡ (bit a k || bit b k)
 unfolding bit
 bit-or a b k =
-    ap (λ (x : ℕ). eqb (x % 2) 1) (or_shr a b k ∙ or_step (a / 2 ^ k) (b / 2 ^ k))
-    ∙ ap (λ (x : ℕ). eqb x 1) (mul-add-mod_self_right (bit_or (a / 2 ^ k / 2) (b / 2 ^ k / 2)) 2 (max (a / 2 ^ k % 2) (b / 2 ^ k % 2)))
-    ∙ ap₂ (λ (x y : ℕ). eqb (max x y % 2) 1) (digit-is a k) (digit-is b k)
+    ap (λ (x : ℕ). nat_eq (x % 2) 1) (or_shr a b k ∙ or_step (a / 2 ^ k) (b / 2 ^ k))
+    ∙ ap (λ (x : ℕ). nat_eq x 1) (mul-add-mod_self_right (bit_or (a / 2 ^ k / 2) (b / 2 ^ k / 2)) 2 (max (a / 2 ^ k % 2) (b / 2 ^ k % 2)))
+    ∙ ap₂ (λ (x y : ℕ). nat_eq (max x y % 2) 1) (digit-is a k) (digit-is b k)
     ∙ max-digit (bit a k) (bit b k)
 
 -- a union without places is one of numbers without places
@@ -177,22 +176,39 @@ or-empty a b e =
     let m = and_le_r a b in
     (omega (arith, or_add_and a b), omega (arith, or_add_and a b))
 
-or-none : (a b : ℕ) → eqb (bit_or a b) 0 ≡ (eqb a 0 && eqb b 0)
+or-none : (a b : ℕ) → (bit_or a b == 0) ≡ (a == 0 && b == 0)
 or-none a b =
-    iff-equal (eqb (bit_or a b) 0) (eqb a 0 && eqb b 0)
+    iff-equal (bit_or a b == 0) (a == 0 && b == 0)
     (λ h.
     let e = or-empty a b (eqb-true (bit_or a b) 0 h) in
-    and_intro (eqb a 0) (eqb b 0) (eq-eqb a 0 e.0) (eq-eqb b 0 e.1))
+    and_intro (a == 0) (b == 0) (eq-eqb a 0 e.0) (eq-eqb b 0 e.1))
     (λ h.
-    let p : a ≡ 0 = eqb-true a 0 (and-fst (eqb a 0) (eqb b 0) h) in
-    let q : b ≡ 0 = eqb-true b 0 (and-snd (eqb a 0) (eqb b 0) h) in
+    let p : a ≡ 0 = eqb-true a 0 (and-fst (a == 0) (b == 0) h) in
+    let q : b ≡ 0 = eqb-true b 0 (and-snd (a == 0) (b == 0) h) in
     eq-eqb (bit_or a b) 0 (omega (arith, or_add_and a b)))
 
 -- of any count of numbers
-pub union-none : (m : ℕ) (f : ℕ → ℕ) → eqb (union m f) 0 ≡ all m (λ k. eqb (f k) 0)
+pub union-none : (m : ℕ) (f : ℕ → ℕ) → (union m f == 0) ≡ all m (λ k. nat_eq (f k) 0)
 unfolding union all
 union-none zero f = refl
-union-none (suc m) f = or-none (union m f) (f m) ∙ ap (λ (t : Bool). t && eqb (f m) 0) (union-none m f)
+union-none (suc m) f = or-none (union m f) (f m) ∙ ap (λ (t : Bool). t && f m == 0) (union-none m f)
+
+-- numbers that are equal have the same places together
+pub union-same : (m : ℕ) (f g : ℕ → ℕ) → ((k : ℕ) → k < m → f k ≡ g k) → union m f ≡ union m g
+unfolding union
+union-same zero f g h = refl
+union-same (suc m) f g h = ap₂ bit_or (union-same m f g (λ k l. h k (le_of_lt (suc-le-suc l)))) (h m (le_refl (suc m)))
+
+-- numbers that differ nowhere are equal
+pub xor-none : (a b : ℕ) → (bit_xor a b == 0) ≡ (a == b)
+xor-none a b =
+    iff-equal (bit_xor a b == 0) (a == b)
+    (λ h.
+    let e : bit_xor a b ≡ 0 = eqb-true (bit_xor a b) 0 h in
+    let l = and_le_l a b in
+    let m = and_le_r a b in
+    eq-eqb a b (omega (arith, xor_add_and a b)))
+    (λ h. eq-eqb (bit_xor a b) 0 (ap (bit_xor a) (sym (eqb-true a b h)) ∙ xor_self a))
 
 and_right : (a b : Bool) → (a && b) ≡ a → a ≡ true → b ≡ true
 and_right true b e h = e

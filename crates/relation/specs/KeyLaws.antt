@@ -1,6 +1,5 @@
 -- Keys of relations. Assumes nothing.
-use Rattle.std.specs.Prelude.{◌≡◌, true, ℕ, ◌*◌, ◌^◌}
-use Rattle.std.specs.Int.Bits.{bit_and}
+use Rattle.std.specs.Prelude.{◌≡◌, ℕ, ◌*◌, ◌^◌, true, bit_and}
 use Rattle.relation.specs.Digits.{piece, subset}
 use Rattle.relation.specs.DigitLaws.{subset-and, subset-shl, subset-or}
 use Rattle.relation.specs.Pieces.{subset-piece}

@@ -1,12 +1,11 @@
 -- Final states as a mask: state f is final where place f is in the mask. Assumes nothing.
-use Rattle.std.specs.Prelude.{◌≡◌, Bool, not, ◌&&◌, ℕ, ◌+◌, ◌^◌, ◌≤◌, ◌<◌, eqb}
+use Rattle.std.specs.Prelude.{◌≡◌, ℕ, ◌+◌, ◌^◌, ◌<◌, ◌≤◌, Bool, not, ◌&&◌, ◌==◌}
 use Rattle.std.proofs.Common.{sym, ap, ◌∙◌, lt_of_le_of_lt, lt_of_lt_of_le, zero-mul, zero-add, pow_pos, eqb-true, eq-eqb}
 use Rattle.std.proofs.lemmas.Bool.{false≢true}
 use Rattle.std.specs.Int.Bits.{bit_and}
 use Rattle.std.proofs.lemmas.Nat.{and_le_r}
 use Rattle.spec_basics.specs.Tests.{and_intro, and-not-both, iff-equal}
-use Rattle.relation_words.specs.Rows.{pieces}
-use Rattle.relation.specs.Digits.{bit, number}
+use Rattle.relation.specs.Digits.{bit, number, pieces}
 use Rattle.relation.specs.DigitLaws.{bit-number, bit-zero, bit-and, ext, some_same}
 use Rattle.relation.specs.Pieces.{bit-pieces}
 use Rattle.relation.specs.Relation.{has, rejects}
@@ -18,9 +17,9 @@ unfolding has
 row_zero n r f = ap (bit r) (ap (λ (z : ℕ). z + f) (zero-mul n) ∙ zero-add f)
 
 -- rejecting by one `and` with the mask
-pub rejects-mask : (n m r : ℕ) → m < 2 ^ n → eqb (bit_and r m) 0 ≡ rejects n (bit m) r
+pub rejects-mask : (n m r : ℕ) → m < 2 ^ n → (bit_and r m == 0) ≡ rejects n (bit m) r
 rejects-mask n m r hm =
-    iff-equal (eqb (bit_and r m) 0) (rejects n (bit m) r)
+    iff-equal (bit_and r m == 0) (rejects n (bit m) r)
     (λ h.
     none-rejects n (bit m) r
     (λ f l p q.

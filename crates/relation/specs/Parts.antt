@@ -1,14 +1,13 @@
 -- Composition in parts: a relation x of several words of rows, and a relation y of several words of rows, for any size and count of them.
 -- Each word of x is composed for itself, and each word of y brings its own middle states. Assumes nothing.
-use Rattle.std.specs.Prelude.{◌≡◌, refl, Bool, true, false, ◌&&◌, ◌||◌, ℕ, zero, suc, ◌+◌, ◌-◌, ◌*◌, ◌/◌, ◌%◌, ◌^◌, ◌≤◌, ◌<◌, ltb}
+use Rattle.std.specs.Prelude.{◌≡◌, ℕ, zero, suc, ◌+◌, ◌-◌, ◌*◌, ◌/◌, ◌%◌, ◌^◌, ◌<◌, ◌≤◌, Bool, true, false, ◌&&◌, ◌||◌, nat_lt, refl}
 use Rattle.std.proofs.Common.{sym, ap, ap₂, ◌∙◌, subst, suc-le-suc, le_refl, le_of_lt, add-zero, add-suc, add_comm, zero-mul, suc-mul, add-mul, mul_assoc, lt_of_lt_of_le, arith, add-one, pow-add, ltb-true, ltb-false}
 use Rattle.std.proofs.Math.Bool.{or-false}
 use Rattle.std.proofs.Math.Nat.{div-eq_of_lt}
 use Rattle.std.proofs.Math.Arith.{digits_lt, lt-one}
 use Rattle.std.specs.Int.Bits.{bit_or, or_zero_r}
 use Rattle.std.proofs.lemmas.Nat.{or_lt}
-use Rattle.relation_words.specs.Rows.{pieces, union}
-use Rattle.relation.specs.Digits.{bit, piece, some}
+use Rattle.relation.specs.Digits.{bit, pieces, piece, some, union}
 use Rattle.relation.specs.DigitLaws.{bit-or, bit-shr, bit-low, bit_up, bit-mod, some_same}
 use Rattle.relation.specs.Pieces.{pieces-lt, piece_of}
 use Rattle.relation.specs.Product.{product, product_lt, bit-product, product_is, product-none, product-empty}
@@ -106,9 +105,9 @@ product-above n k l c v r y hc hr =
     (subst (λ (z : ℕ). product n l c v y * 2 ^ (k * n) + product n k c r y < z)
     (sym (pow-add 2 (l * n) (k * n)) ∙ ap (λ (e : ℕ). 2 ^ e) (add_comm (l * n) (k * n) ∙ sym (add-mul k l n)))
     (digits_lt (product_lt n l c v y) (product_lt n k c r y)))
-    (λ a b ha hb. go a b ha hb (ltb a k) refl)
+    (λ a b ha hb. go a b ha hb (nat_lt a k) refl)
   where
-    go : (a b : ℕ) → a < k + l → b < n → (t : Bool) → ltb a k ≡ t
+    go : (a b : ℕ) → a < k + l → b < n → (t : Bool) → nat_lt a k ≡ t
         → bit (product n l c v y * 2 ^ (k * n) + product n k c r y) (a * n + b)
         ≡ some c (λ m. bit (v * 2 ^ (k * n) + r) (a * n + m) && bit y (m * n + b))
     go a b ha hb true e =

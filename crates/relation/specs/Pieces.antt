@@ -1,15 +1,13 @@
 -- Numbers made of k pieces of n digits, for any k and n: the words of a relation and the rows of a word are such pieces. Assumes nothing.
-use Rattle.std.specs.Prelude.{◌≡◌, ◌⊎◌, Bool, true, ◌&&◌, eqb}
+use Rattle.std.specs.Prelude.{◌≡◌, ℕ, zero, suc, ◌+◌, ◌*◌, ◌/◌, ◌%◌, ◌^◌, ◌<◌, Bool, true, ◌&&◌, ◌⊎◌, ◌==◌, bit_and, bit_or, nat_eq}
 use Rattle.std.proofs.Math.Path.{refl, sym, ap, ap₂, subst}
-use Rattle.std.proofs.Common.{◌∙◌, inl, inr, le_refl, le_of_lt, le_of_suc-le-suc, not-suc-le-zero, zero-lt-suc, mod-lt, div-lt_iff_lt-mul, div-add-mod', eq-or-lt_of_le, add_comm, mul-zero, suc-mul, mul_right_comm, pow-add, eqb-true, eq-eqb}
-use Prim.Native.Nat.{ℕ, zero, suc, ◌+◌, ◌*◌, ◌/◌, ◌%◌, ◌^◌, ◌<◌, suc-le-suc}
+use Rattle.std.proofs.Common.{◌∙◌, inl, inr, suc-le-suc, le_refl, le_of_lt, le_of_suc-le-suc, not-suc-le-zero, zero-lt-suc, mod-lt, div-lt_iff_lt-mul, div-add-mod', eq-or-lt_of_le, add_comm, mul-zero, suc-mul, mul_right_comm, pow-add, eqb-true, eq-eqb}
 use Rattle.std.proofs.Math.Nat.{zero-mul, add-mul}
 use Rattle.std.proofs.Math.Arith.{digits_lt, digits_div, digits_mod}
-use Rattle.std.specs.Int.Bits.{bit_and, bit_or, and_zero_l, or_zero_l, and_block, or_block}
+use Rattle.std.specs.Int.Bits.{and_zero_l, or_zero_l, and_block, or_block}
 use Rattle.std.proofs.Math.Pow.{pow_pos, high, low}
 use Rattle.spec_basics.specs.Tests.{and_intro, and-fst, and-snd, iff-equal}
-use Rattle.relation_words.specs.Rows.{pieces}
-use Rattle.relation.specs.Digits.{bit, number, piece, all, subset}
+use Rattle.relation.specs.Digits.{bit, number, pieces, piece, all, subset}
 use Rattle.relation.specs.DigitLaws.{bit-number, bit_up, bit-low, bit-mod, bit-shr, ext, subset-bit, bit-subset}
 
 -- ---- what is made of pieces
@@ -71,17 +69,17 @@ module _ (n : ℕ) where
 
 -- two numbers of as many pieces are equal where their pieces are
 pub pieces-eqb : (n k : ℕ) (f g : ℕ → ℕ) → ((a : ℕ) → f a < 2 ^ n) → ((a : ℕ) → g a < 2 ^ n)
-    → eqb (pieces n k f) (pieces n k g) ≡ all k (λ a. eqb (f a) (g a))
+    → (pieces n k f == pieces n k g) ≡ all k (λ a. nat_eq (f a) (g a))
 unfolding pieces all
 pieces-eqb n zero f g hf hg = refl
-pieces-eqb n (suc k) f g hf hg = block ∙ ap (λ (t : Bool). t && eqb (f k) (g k)) (pieces-eqb n k f g hf hg)
+pieces-eqb n (suc k) f g hf hg = block ∙ ap (λ (t : Bool). t && f k == g k) (pieces-eqb n k f g hf hg)
   where
-    block : eqb (f k * 2 ^ (k * n) + pieces n k f) (g k * 2 ^ (k * n) + pieces n k g) ≡ (eqb (pieces n k f) (pieces n k g) && eqb (f k) (g k))
+    block : nat_eq (f k * 2 ^ (k * n) + pieces n k f) (g k * 2 ^ (k * n) + pieces n k g) ≡ (pieces n k f == pieces n k g && f k == g k)
     block =
-        iff-equal (eqb (f k * 2 ^ (k * n) + pieces n k f) (g k * 2 ^ (k * n) + pieces n k g)) (eqb (pieces n k f) (pieces n k g) && eqb (f k) (g k))
+        iff-equal (f k * 2 ^ (k * n) + pieces n k f == g k * 2 ^ (k * n) + pieces n k g) (pieces n k f == pieces n k g && f k == g k)
         (λ h.
         let e = eqb-true (f k * 2 ^ (k * n) + pieces n k f) (g k * 2 ^ (k * n) + pieces n k g) h in
-        and_intro (eqb (pieces n k f) (pieces n k g)) (eqb (f k) (g k))
+        and_intro (pieces n k f == pieces n k g) (f k == g k)
         (eq-eqb (pieces n k f) (pieces n k g)
         (sym (low (f k) (k * n) (pieces-lt n k f hf)) ∙ ap (λ (z : ℕ). z % 2 ^ (k * n)) e ∙ low (g k) (k * n) (pieces-lt n k g hg)))
         (eq-eqb (f k) (g k)
@@ -89,8 +87,8 @@ pieces-eqb n (suc k) f g hf hg = block ∙ ap (λ (t : Bool). t && eqb (f k) (g 
         (λ h.
         eq-eqb (f k * 2 ^ (k * n) + pieces n k f) (g k * 2 ^ (k * n) + pieces n k g)
         (ap₂ (λ (u v : ℕ). u * 2 ^ (k * n) + v)
-        (eqb-true (f k) (g k) (and-snd (eqb (pieces n k f) (pieces n k g)) (eqb (f k) (g k)) h))
-        (eqb-true (pieces n k f) (pieces n k g) (and-fst (eqb (pieces n k f) (pieces n k g)) (eqb (f k) (g k)) h))))
+        (eqb-true (f k) (g k) (and-snd (pieces n k f == pieces n k g) (f k == g k) h))
+        (eqb-true (pieces n k f) (pieces n k g) (and-fst (pieces n k f == pieces n k g) (f k == g k) h))))
 
 -- ---- one piece
 

@@ -1,23 +1,38 @@
 -- Composition by words, for any count n of states and any k rows of n digits: for each middle state m, row m of y in each row of x that has
 -- the pair to m, or'ed. Assumes nothing.
-use Rattle.std.specs.Prelude.{◌≡◌, Bool, ◌&&◌, ◌||◌, ℕ, zero, suc, ◌+◌, ◌-◌, ◌*◌, ◌/◌, ◌%◌, ◌^◌, ◌≤◌, ◌<◌}
+use Rattle.std.specs.Prelude.{◌≡◌, ℕ, zero, suc, ◌+◌, ◌-◌, ◌*◌, ◌/◌, ◌%◌, ◌^◌, ◌<◌, ◌≤◌, Bool, true, false, ◌&&◌, ◌||◌, ◌==◌}
 use Rattle.std.proofs.Math.Path.{refl, sym, ap, ap₂, subst}
 use Rattle.std.proofs.Common.{◌∙◌, zero-le, suc-le-suc, le_refl, le_of_lt, add_comm, zero-mul, mul-one, add-one, pow_pos, eqb-true}
-use Rattle.std.proofs.Math.Bool.{true, false, and-false, and-true, or_comm}
+use Rattle.std.proofs.Math.Bool.{and-false, and-true, or_comm}
 use Rattle.std.proofs.Math.Nat.{lt_of_le_of_lt, add-zero, one-mul, mul_comm, mod-eq_of_lt}
-use Rattle.std.proofs.Math.Dec.{eqb}
 use Rattle.std.proofs.Math.Pow.{pow-lt, ones_lt}
 use Rattle.std.specs.Int.Bits.{bit_and, bit_or, and_comm, and_zero_l, and_mask, mask_lt}
 use Rattle.std.proofs.lemmas.Nat.{and_le_l, and_le_r, or_lt}
-use Rattle.relation_words.specs.Rows.{pieces, union, column, spread, repeated, crossed}
-use Rattle.relation.specs.Digits.{bit, digit, number, some}
+use Rattle.relation.specs.Digits.{bit, digit, number, pieces, some, union}
 use Rattle.relation.specs.DigitLaws.{number_lt, bit-digit, bit-shr, bit-mod, bit-zero, bit-power, bit-and, bit-or, bit-digit-mul, digit-mul-lt, bit-ones, some-none}
 use Rattle.relation.specs.Pieces.{pieces-lt, bit-pieces, pieces-mul, pieces-same, pieces-and, ext-pieces, bit-places}
 use Rattle.relation.specs.Relation.{has, table, compose}
 
+-- the lowest digit of each of k rows
+unfoldable pub column : ℕ → ℕ → ℕ
+unfolding pieces
+column n k = pieces n k (λ a. 1)
+
+-- in each of k rows all digits, where the row of x has its lowest
+unfoldable pub spread : ℕ → ℕ → ℕ → ℕ
+spread n k x = bit_and x (column n k) * (2 ^ n - 1)
+
+-- the lowest row of y, in each of k rows
+unfoldable pub repeated : ℕ → ℕ → ℕ → ℕ
+repeated n k y = bit_and y (2 ^ n - 1) * column n k
+
 -- the pairs of k rows with the middle state m: row m of y in each row with the pair to m
 unfoldable pub through : ℕ → ℕ → ℕ → ℕ → ℕ → ℕ
 through n k m x y = bit_and (spread n k (x / 2 ^ m)) (repeated n k (y / 2 ^ (m * n)))
+
+-- the same for the lowest c middle states, where r m is the row of m in each of k rows
+unfoldable pub crossed : ℕ → ℕ → ℕ → ℕ → (ℕ → ℕ) → ℕ
+crossed n k c x r = union c (λ m. bit_and (spread n k (x / 2 ^ m)) (r m))
 
 -- the pairs of k rows with a middle state below c
 unfoldable pub product : ℕ → ℕ → ℕ → ℕ → ℕ → ℕ
@@ -60,10 +75,10 @@ module _ (n k : ℕ) (hn : 0 < n) where
         (λ a b ha hb.
         bit-and x (column n k) (a * n + b)
         ∙ ap (λ (t : Bool). bit x (a * n + b) && t) (bit-pieces n k (λ z. 1) (λ z. one-lt) a b ha hb ∙ bit-power 0 b)
-        ∙ first a b (eqb b 0) refl
+        ∙ first a b (b == 0) refl
         ∙ sym (bit-pieces n k lowest lowest-lt a b ha hb ∙ bit-digit (bit x (a * n)) b))
       where
-        first : (a b : ℕ) (t : Bool) → eqb b 0 ≡ t → (bit x (a * n + b) && t) ≡ (bit x (a * n) && t)
+        first : (a b : ℕ) (t : Bool) → (b == 0) ≡ t → (bit x (a * n + b) && t) ≡ (bit x (a * n) && t)
         first a b true e = ap (λ (q : ℕ). bit x q && true) (ap (λ (z : ℕ). a * n + z) (eqb-true b 0 e) ∙ add-zero (a * n))
         first a b false e = and-false (bit x (a * n + b)) ∙ sym (and-false (bit x (a * n)))
 

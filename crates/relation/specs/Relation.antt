@@ -1,9 +1,7 @@
 -- Relations on n states (document 01: an effect, a set of pairs of stages), for any n, as numbers below 2 ^ (n * n):
 -- the pair (a, b) is the place a * n + b. Definitions only. Assumes nothing.
-use Rattle.std.specs.Prelude.{Bool, not, ◌&&◌, ◌||◌, ℕ, ◌+◌, ◌-◌, ◌*◌, ◌/◌, ◌%◌, ◌^◌, eqb}
-use Rattle.std.specs.Int.Bits.{bit_and, bit_or, bit_xor}
-use Rattle.relation_words.specs.Rows.{pieces, turned}
-use Rattle.relation.specs.Digits.{bit, number, piece, some, count, subset}
+use Rattle.std.specs.Prelude.{ℕ, ◌+◌, ◌-◌, ◌*◌, ◌/◌, ◌%◌, ◌^◌, Bool, not, ◌&&◌, ◌||◌, ◌==◌, bit_and, bit_or, bit_xor, nat_eq}
+use Rattle.relation.specs.Digits.{bit, number, pieces, piece, some, count, subset}
 
 -- how many states an automaton has (request C-14: stages 0 to 15; all sixteen always exist)
 abbrev pub states : ℕ
@@ -19,7 +17,7 @@ table n f = number (n * n) (λ k. f (k / n) (k % n))
 
 -- every (a, a) (document 01: the effect of the empty run)
 unfoldable pub identity : ℕ → ℕ
-identity n = table n (λ a b. eqb a b)
+identity n = table n (λ a b. nat_eq a b)
 
 -- relational composition (document 01: joining two effects)
 unfoldable pub compose : ℕ → ℕ → ℕ → ℕ
@@ -31,15 +29,19 @@ contained x y = subset x y
 
 -- the relation of the one pair (a, b), empty where one of them is no state
 unfoldable pub single : ℕ → ℕ → ℕ → ℕ
-single n a b = table n (λ x y. eqb x a && eqb y b)
+single n a b = table n (λ x y. (x == a) && y == b)
 
 -- r and the pair (a, b)
 unfoldable pub insert : ℕ → ℕ → ℕ → ℕ → ℕ
-insert n r a b = table n (λ x y. has n r x y || (eqb x a && eqb y b))
+insert n r a b = table n (λ x y. has n r x y || (x == a && y == b))
 
 -- the number of pairs
 unfoldable pub pairs : ℕ → ℕ → ℕ
 pairs n r = count (n * n) (bit r)
+
+-- a word x of 64 digits turned by k places: the digits that leave it above come in below
+abbrev pub turned : ℕ → ℕ → ℕ
+turned k x = bit_or (x * 2 ^ k % 2 ^ 64) (x / 2 ^ (64 - k))
 
 -- a small number of the relation, where a table is to be looked up: its words of 64 digits, each turned by other places so that rows do not
 -- meet, in one word, and the remainder of that by a prime, so that unlike relations seldom share one

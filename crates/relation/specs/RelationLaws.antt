@@ -1,5 +1,5 @@
 -- Laws of relations on n states, for every n. Assumes nothing.
-use Rattle.std.specs.Prelude.{◌≡◌, refl, Bool, true, false, ◌&&◌, ◌||◌, ℕ, ◌+◌, ◌*◌, ◌/◌, ◌%◌, ◌^◌, ◌<◌, eqb}
+use Rattle.std.specs.Prelude.{◌≡◌, ℕ, ◌+◌, ◌*◌, ◌/◌, ◌%◌, ◌^◌, ◌<◌, Bool, true, false, ◌&&◌, ◌||◌, ◌==◌, ◌≢◌, nat_eq, refl}
 use Rattle.std.proofs.Common.{sym, ap, ap₂, ◌∙◌, subst, pow_pos, eqb-true, eq-eqb}
 use Rattle.std.proofs.Math.Arith.{digits_lt, digits_div, digits_mod}
 use Rattle.std.proofs.Math.Pow.{pow-lt}
@@ -39,11 +39,11 @@ has-contained n x y hx h = bit-subset (n * n) x y hx (at_places n n (λ p. bit x
 
 pub identity-lt : (n : ℕ) → identity n < 2 ^ (n * n)
 unfolding identity
-identity-lt n = table-lt n (λ a b. eqb a b)
+identity-lt n = table-lt n (λ a b. nat_eq a b)
 
-pub has-identity : (n a b : ℕ) → a < n → b < n → has n (identity n) a b ≡ eqb a b
+pub has-identity : (n a b : ℕ) → a < n → b < n → has n (identity n) a b ≡ (a == b)
 unfolding identity
-has-identity n = has-table n (λ a b. eqb a b)
+has-identity n = has-table n (λ a b. nat_eq a b)
 
 pub compose-lt : (n x y : ℕ) → compose n x y < 2 ^ (n * n)
 unfolding compose
@@ -113,32 +113,32 @@ has-empty n a b = bit-zero (a * n + b)
 
 pub single-lt : (n a b : ℕ) → single n a b < 2 ^ (n * n)
 unfolding single
-single-lt n a b = table-lt n (λ x y. eqb x a && eqb y b)
+single-lt n a b = table-lt n (λ x y. (x == a) && y == b)
 
-pub has-single : (n a b x y : ℕ) → x < n → y < n → has n (single n a b) x y ≡ (eqb x a && eqb y b)
+pub has-single : (n a b x y : ℕ) → x < n → y < n → has n (single n a b) x y ≡ (x == a && y == b)
 unfolding single
-has-single n a b = has-table n (λ x y. eqb x a && eqb y b)
+has-single n a b = has-table n (λ x y. (x == a) && y == b)
 
 pub insert-lt : (n r a b : ℕ) → insert n r a b < 2 ^ (n * n)
 unfolding insert
-insert-lt n r a b = table-lt n (λ x y. has n r x y || (eqb x a && eqb y b))
+insert-lt n r a b = table-lt n (λ x y. has n r x y || (x == a && y == b))
 
-pub has-insert : (n r a b x y : ℕ) → x < n → y < n → has n (insert n r a b) x y ≡ (has n r x y || (eqb x a && eqb y b))
+pub has-insert : (n r a b x y : ℕ) → x < n → y < n → has n (insert n r a b) x y ≡ (has n r x y || (x == a && y == b))
 unfolding insert
-has-insert n r a b = has-table n (λ x y. has n r x y || (eqb x a && eqb y b))
+has-insert n r a b = has-table n (λ x y. has n r x y || (x == a && y == b))
 
 -- two pairs have the same place where they are the same
-same_place : (n a b x y : ℕ) → b < n → y < n → eqb (x * n + y) (a * n + b) ≡ (eqb x a && eqb y b)
+same_place : (n a b x y : ℕ) → b < n → y < n → (x * n + y == a * n + b) ≡ (x == a && y == b)
 same_place n a b x y hb hy =
-    iff-equal (eqb (x * n + y) (a * n + b)) (eqb x a && eqb y b)
+    iff-equal (x * n + y == a * n + b) (x == a && y == b)
     (λ h.
     let e = eqb-true (x * n + y) (a * n + b) h in
-    and_intro (eqb x a) (eqb y b)
+    and_intro (x == a) (y == b)
     (eq-eqb x a (sym (digits_div x hy) ∙ ap (λ (k : ℕ). k / n) e ∙ digits_div a hb))
     (eq-eqb y b (sym (digits_mod x hy) ∙ ap (λ (k : ℕ). k % n) e ∙ digits_mod a hb)))
     (λ h.
     eq-eqb (x * n + y) (a * n + b)
-    (ap₂ (λ (p q : ℕ). p * n + q) (eqb-true x a (and-fst (eqb x a) (eqb y b) h)) (eqb-true y b (and-snd (eqb x a) (eqb y b) h))))
+    (ap₂ (λ (p q : ℕ). p * n + q) (eqb-true x a (and-fst (x == a) (y == b) h)) (eqb-true y b (and-snd (x == a) (y == b) h))))
 
 -- one pair is one place
 pub single-place : (n a b : ℕ) → a < n → b < n → 2 ^ (a * n + b) ≡ single n a b
@@ -153,7 +153,7 @@ single-none n a b h =
     ext-has n 0 (single n a b) (pow_pos (n * n)) (single-lt n a b)
     (λ x y hx hy.
     has-empty n x y
-    ∙ sym (and-not-both (eqb x a) (eqb y b)
+    ∙ sym (and-not-both (x == a) (y == b)
     (λ p q. h (subst (λ (z : ℕ). z < n) (eqb-true x a p) hx) (subst (λ (z : ℕ). z < n) (eqb-true y b q) hy)))
     ∙ sym (has-single n a b x y hx hy))
 
@@ -170,12 +170,12 @@ insert-or n r a b hr =
 
 -- ---- rejects: a smaller relation rejects where a larger one does
 
-pub rejects-none : (n : ℕ) (final : ℕ → Bool) (e : ℕ) → rejects n final e ≡ true → (f : ℕ) → f < n → final f ≡ true → has n e 0 f ≡ true → ⊥
+pub rejects-none : (n : ℕ) (final : ℕ → Bool) (e : ℕ) → rejects n final e ≡ true → (f : ℕ) → f < n → final f ≡ true → has n e 0 f ≢ true
 unfolding rejects
 rejects-none n final e h f l p q =
     not-excludes (some n (λ g. final g && has n e 0 g)) h (some_at n (λ g. final g && has n e 0 g) f l (and_intro (final f) (has n e 0 f) p q))
 
-pub none-rejects : (n : ℕ) (final : ℕ → Bool) (e : ℕ) → ((f : ℕ) → f < n → final f ≡ true → has n e 0 f ≡ true → ⊥) → rejects n final e ≡ true
+pub none-rejects : (n : ℕ) (final : ℕ → Bool) (e : ℕ) → ((f : ℕ) → f < n → final f ≡ true → has n e 0 f ≢ true) → rejects n final e ≡ true
 unfolding rejects
 none-rejects n final e h =
     not-passes (some n (λ g. final g && has n e 0 g))

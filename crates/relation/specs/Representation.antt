@@ -1,17 +1,22 @@
 -- How the code holds a relation: as words of 64 bits, whose bits are the places, the first word lowest. The one file that says so. Assumes
 -- nothing.
-use Rattle.std.specs.Prelude.{◌≡◌, refl, ℕ, zero, suc, ◌*◌, ◌^◌, ◌<◌}
-use Rattle.std.proofs.Common.{Fits, pow_pos}
+use Rattle.std.specs.Prelude.{◌≡◌, ℕ, zero, suc, ◌*◌, ◌^◌, ◌<◌, refl}
+use Rattle.std.proofs.Common.{le_of_suc-le-suc, not-suc-le-zero, Fits, pow_pos}
 use Rattle.std.specs.Int.{w64}
-use Rattle.relation_words.specs.Rows.{pieces}
-pub use Rattle.relation_words.specs.Rows.{rows_of_word, relation_words}
 use Rattle.relation.specs.declared.Relation.{Relation}
+use Rattle.relation.specs.Digits.{pieces}
 use Rattle.relation.specs.Pieces.{pieces-lt}
 use Rattle.relation.specs.Relation.{states}
 
--- how many digits a word has
+-- how many digits a word has, how many rows of a relation stand in a word, and how many words hold one relation
 abbrev pub word_digits : ℕ
 word_digits = 64
+
+abbrev pub rows_of_word : ℕ
+rows_of_word = 4
+
+abbrev pub relation_words : ℕ
+relation_words = 4
 
 -- the code's value with the given words
 abbrev pub of_words : ℕ → ℕ → ℕ → ℕ → Relation
@@ -52,3 +57,12 @@ word_lt r h (suc (suc (suc (suc k)))) = pow_pos word_digits
 pub value-lt : (r : Relation) → Fit r → value r < 2 ^ (states * states)
 unfolding value
 value-lt r h = pieces-lt word_digits relation_words (word r) (word_lt r h)
+
+-- what holds of each word
+pub each_word : (P : ℕ → Type 0) → P 0 → P 1 → P 2 → P 3 → (k : ℕ) → k < relation_words → P k
+each_word P a b c d zero h = a
+each_word P a b c d (suc zero) h = b
+each_word P a b c d (suc (suc zero)) h = c
+each_word P a b c d (suc (suc (suc zero))) h = d
+each_word P a b c d (suc (suc (suc (suc k)))) h =
+    absurd (not-suc-le-zero (le_of_suc-le-suc (le_of_suc-le-suc (le_of_suc-le-suc (le_of_suc-le-suc h)))))

@@ -1,6 +1,5 @@
 -- What the steps of a composition do to the words of a relation. Definitions only. Assumes nothing.
-use Rattle.std.specs.Prelude.{◌≡◌, ℕ, ◌/◌, ◌^◌, ◌<◌}
-use Rattle.std.specs.Int.Bits.{bit_or}
+use Rattle.std.specs.Prelude.{◌≡◌, ℕ, ◌/◌, ◌^◌, ◌<◌, bit_or}
 use Rattle.relation.specs.declared.Relation.{Relation}
 use Rattle.relation.specs.Product.{product}
 use Rattle.relation.specs.Relation.{states}

@@ -1,21 +1,17 @@
 -- Containment and composition word by word, as the code holds a relation. Assumes nothing.
-use Rattle.std.specs.Prelude.{◌≡◌, false, ℕ, ◌+◌, ◌*◌, ◌^◌, ◌<◌}
+use Rattle.std.specs.Prelude.{◌≡◌, ℕ, ◌+◌, ◌*◌, ◌^◌, ◌<◌, false, bit_and, bit_or, nat_eq}
 use Rattle.std.proofs.Common.{sym, ap₂, ◌∙◌, subst, arith}
 use Rattle.std.proofs.Math.Path.{ap}
 use Rattle.std.proofs.Math.Nat.{lt_of_le_of_lt}
-use Rattle.std.specs.Int.Bits.{bit_and, bit_or}
 use Rattle.std.proofs.lemmas.Nat.{and_le_l}
-use Rattle.std.proofs.Math.Dec.{eqb}
-use Rattle.relation_words.specs.Rows.{pieces}
-use Rattle.relation_words.specs.RowLaws.{each_word}
 use Rattle.relation.specs.declared.Relation.{Relation}
-use Rattle.relation.specs.Digits.{all, subset}
+use Rattle.relation.specs.Digits.{pieces, all, subset}
 use Rattle.relation.specs.DigitLaws.{or-empty}
 use Rattle.relation.specs.Parts.{product-short, product-rows}
 use Rattle.relation.specs.Pieces.{pieces-lt, pieces-same, pieces-and, pieces-eqb}
 use Rattle.relation.specs.Product.{product, product-empty-left, product-all}
 use Rattle.relation.specs.Relation.{states, compose, contained}
-use Rattle.relation.specs.Representation.{word_digits, rows_of_word, relation_words, of_words, word, word_lt, Fit, value}
+use Rattle.relation.specs.Representation.{word_digits, rows_of_word, relation_words, of_words, word, word_lt, Fit, value, each_word}
 
 -- ---- containment
 
@@ -23,7 +19,7 @@ module _ (x y : Relation) (hx : Fit x) (hy : Fit y) where
   pub contained-words : contained (value x) (value y) ≡ all relation_words (λ k. subset (word x k) (word y k))
   unfolding value subset
   contained-words =
-      ap (λ (z : ℕ). eqb z (pieces word_digits relation_words (word x))) (pieces-and word_digits relation_words (word x) (word y) (word_lt x hx) (word_lt y hy))
+      ap (λ (z : ℕ). nat_eq z (pieces word_digits relation_words (word x))) (pieces-and word_digits relation_words (word x) (word y) (word_lt x hx) (word_lt y hy))
       ∙ pieces-eqb word_digits relation_words (λ k. bit_and (word x k) (word y k)) (word x) (λ k. lt_of_le_of_lt (and_le_l (word x k) (word y k)) (word_lt x hx k)) (word_lt x hx)
 
   -- where the first word is not, the relation is not

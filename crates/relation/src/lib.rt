@@ -1,23 +1,20 @@
 // Relations on the states of an automaton as four words of 64 bits: a row of 16 bits for each state, four rows to a word, so that the pair
-// (a, b) is bit a * 16 + b of the four together. No other crate knows that but `relation_words`, which has what is done with single words.
-// Definitions in specs/: Digits (binary digits), Relation (pairs, identity, composition, containment, rejecting), Representation (how the code
-// holds one), Stored (relations in a table), Turns (the steps of a composition), Columns (the columns of a relation, and a composition by
-// them). Laws, for every number of states and words: DigitLaws, Pieces (numbers made of pieces: words, rows), RelationLaws, Product
-// (composition by masks and by products, of any count of rows), Parts (composition word by word), Words (containment and composition in the
-// code's words), ColumnLaws, StoredLaws, Counting (pairs), Masks (final states), KeyLaws.
-ghost use Rattle.std.specs.Prelude.{◌≡◌, ◌+◌, ◌*◌, ◌≤◌, ◌<◌, eqb, length};
-ghost use Rattle.relation_words.specs.Rows.{column_cells, AreColumns, cell};
-ghost use Rattle.relation.specs.Columns.{word_by, columns_of};
+// (a, b) is bit a * 16 + b of the four together. No other crate knows that. Definitions in specs/: Digits (binary digits), Relation (pairs,
+// identity, composition, containment, rejecting), Representation (how the code holds one), Stored (relations in a table), Turns (the steps of
+// a composition), Columns (the columns of a relation, and a composition by them). Laws, for every number of states and words: DigitLaws, Pieces
+// (numbers made of pieces: words, rows), RelationLaws, Product (composition by masks and by products, of any count of rows), Parts (composition
+// word by word), Words (containment and composition in the code's words), ColumnLaws, StoredLaws, Counting (pairs), Masks (final states),
+// KeyLaws.
+ghost use Rattle.std.specs.Prelude.{◌≡◌, ◌+◌, ◌*◌, ◌/◌, ◌^◌, ◌<◌, ◌≤◌, length, ◌==◌, bit_or};
+ghost use Rattle.relation.specs.Columns.{column_cells, AreColumns, by_columns, cell, cells_from, word_by, columns_of};
 ghost use Rattle.relation.specs.Digits.{bit, subset};
-ghost use Rattle.relation.specs.Product.{product};
-ghost use Rattle.relation.specs.Relation.{states, identity, compose, contained, single, insert, pairs, digest, key_of, rejects};
-ghost use Rattle.relation.specs.Representation.{rows_of_word, relation_words, of_words, value, none};
+ghost use Rattle.relation.specs.Product.{product, spread, repeated, crossed};
+ghost use Rattle.relation.specs.Relation.{states, identity, compose, contained, single, insert, pairs, turned, digest, key_of, rejects};
+ghost use Rattle.relation.specs.Representation.{rows_of_word, relation_words, of_words, word, value, none};
 ghost use Rattle.relation.specs.Stored.{relation_in, with_relation};
 ghost use Rattle.relation.specs.Turns.{Moved, Joined};
 
-use relation_words::{
-    COLUMN, COLUMNS, block, by_columns, crossed_twice, outside, repeated, turned_8, turned_29,
-};
+use std::num::wrapping_sub_u64;
 
 // How many states an automaton has.
 pub const STATES: u8 = 16;
@@ -35,6 +32,14 @@ pub type StateSet = u16;
 pub type Letter = u64;
 
 pub const WORDS: usize = 4;
+
+// How many words the columns of a relation take: one for each middle state and each word of the relation.
+pub const COLUMNS: usize = 64;
+
+// The lowest bit of each row of a word, and the bits of its lowest row.
+const COLUMN: u64 = 0x0001_0001_0001_0001;
+
+const ROW: u64 = 0xffff;
 
 // The lower half of each row of a word: the pairs to the states below 8.
 const LOWER_HALVES: u64 = 0x00ff_00ff_00ff_00ff;
@@ -63,11 +68,104 @@ fn of_words(w0: u64, w1: u64, w2: u64, w3: u64) -> Relation
     Relation { w0, w1, w2, w3 }
 }
 
+// Returns the bits of `x` that `y` lacks.
+fn outside(x: u64, y: u64) -> u64
+    ensures { (result == 0) ≡ subset x y }
+{
+    (x & y) ^ x
+}
+
 // Tests whether every bit of `x` is one of `y`: of two keys, whether the second relation can have every pair of the first.
 pub fn within(x: u64, y: u64) -> bool
     ensures { result ≡ subset x y }
 {
     outside(x, y) == 0
+}
+
+// Returns the word `x` turned by 8 and by 29 places: the bits that leave it above come in below.
+fn turned_8(x: u64) -> u64
+    ensures { result ≡ turned 8 x }
+{
+    (x << 8) | (x >> 56)
+}
+
+fn turned_29(x: u64) -> u64
+    ensures { result ≡ turned 29 x }
+{
+    (x << 29) | (x >> 35)
+}
+
+// Returns all bits of each row of `x` whose lowest bit is set. A row's bits are the next row's lowest bit less its own, so one subtraction
+// makes all four rows; it wraps at the highest row only.
+fn spread(x: u64) -> u64
+    ensures { result ≡ spread states rows_of_word x }
+{
+    let lowest = x & COLUMN;
+    wrapping_sub_u64(lowest << 16, lowest)
+}
+
+// Returns the lowest row of `y` in each of four rows. A row has 16 bits, so no product of it with a bit of `COLUMN` meets another.
+fn repeated(y: u64) -> u64
+    ensures { result ≡ repeated states rows_of_word y }
+{
+    (y & ROW) * COLUMN
+}
+
+// Returns the pairs of the four rows `x` with the states of the four lowest columns in the middle: `r0` to `r3` have the row of each of these
+// states four times, and a row of `x` takes those whose state it leads to.
+fn block(x: u64, r0: u64, r1: u64, r2: u64, r3: u64) -> u64
+    ensures { result ≡ crossed states rows_of_word rows_of_word x (word (of_words r0 r1 r2 r3)) }
+{
+    (spread(x) & r0) | (spread(x >> 1) & r1) | (spread(x >> 2) & r2) | (spread(x >> 3) & r3)
+}
+
+// Returns the pairs of four rows with four states in the middle, to whose states the four rows of `y` belong: `c0` to `c3` are the columns of
+// these states, the lowest bit of each row that leads to the state, each times the row of its state. A column has at most one bit in each
+// row, so the product puts the row of `y` into the rows of the column, and nothing carries.
+fn crossed_by(c0: u64, c1: u64, c2: u64, c3: u64, y: u64) -> u64
+    requires { AreColumns rows_of_word (word (of_words c0 c1 c2 c3)) }
+    ensures { result ≡ by_columns (word (of_words c0 c1 c2 c3)) y }
+{
+    let first = c0 * (y & ROW);
+    let second = c1 * ((y >> 16) & ROW);
+    let third = c2 * ((y >> 32) & ROW);
+    let fourth = c3 * ((y >> 48) & ROW);
+    first | second | third | fourth
+}
+
+// Returns the pairs of the four rows `x` with the states of the four lowest columns in the middle, to whose states the four rows of `y` belong.
+fn crossed(x: u64, y: u64) -> u64
+    ensures { result ≡ product states rows_of_word rows_of_word x y }
+{
+    crossed_by(
+        x & COLUMN,
+        (x >> 1) & COLUMN,
+        (x >> 2) & COLUMN,
+        (x >> 3) & COLUMN,
+        y,
+    )
+}
+
+// Returns the pairs of the four rows `x` with the states below 8 in the middle, whose rows are those of `y0` and `y1`.
+fn crossed_twice(x: u64, y0: u64, y1: u64) -> u64
+    ensures { result ≡ bit_or (product states rows_of_word rows_of_word x y0) (product states rows_of_word rows_of_word (x / 2 ^ rows_of_word) y1) }
+{
+    crossed(x, y0) | crossed(x >> 4, y1)
+}
+
+// Returns the pairs of four rows with four states in the middle, to whose states the four rows of `y` belong. The columns of these states in
+// the four rows are in `columns` at `at` and 4, 8 and 12 places after it.
+fn by_columns(columns: &[u64; COLUMNS], at: usize, y: u64) -> u64
+    requires { (at + 12 < column_cells) × AreColumns column_cells (cell columns.now) }
+    ensures { result ≡ by_columns (cells_from columns.now at) y }
+{
+    crossed_by(
+        columns[at],
+        columns[at + 4],
+        columns[at + 8],
+        columns[at + 12],
+        y,
+    )
 }
 
 // Returns word `w` of a composition with `next`, where the states from 8 on have no rows in `next`: the columns of the relation before it are
@@ -277,7 +375,7 @@ impl Relation {
 
     // Tests the same as `contained`, but asks the first word alone before the others: where many relations are tested and few are contained,
     // that word decides nearly always.
-    pub fn contained_first_word(self, other: Relation) -> bool
+    pub fn contained_if_first(self, other: Relation) -> bool
         ensures { result ≡ contained (value self) (value other) }
     {
         if outside(self.w0, other.w0) != 0 {
@@ -288,7 +386,7 @@ impl Relation {
 
     // Tests whether both have the same pairs. Nothing calls it yet: request C-23 compares a row's effect with its run's.
     pub fn same(self, other: Relation) -> bool
-        ensures { result ≡ eqb (value self) (value other) }
+        ensures { result ≡ (value self == value other) }
     {
         ((self.w0 ^ other.w0) | (self.w1 ^ other.w1) | (self.w2 ^ other.w2) | (self.w3 ^ other.w3))
             == 0

@@ -5,7 +5,7 @@ use Rattle.relation.specs.Relation.{contained, key_of}
 use Rattle.relation.specs.Representation.{relation_words, value}
 use Rattle.relation.specs.Stored.{relation_in}
 use Rattle.spec_order.specs.Candidates.{Candidate}
-use Rattle.spec_order.specs.Journal.{Row, live}
+use Rattle.spec_order.specs.Journal.{Row}
 use Rattle.spec_order.specs.Order.{dropped}
 use Rattle.search_state.specs.Layout.{row_cells, heads}
 use Rattle.search_links.specs.Covers.{live_at, Cell}
@@ -65,12 +65,11 @@ effect_at w i = row_effect_at w (number_at w i)
 abbrev pub as_candidate : Row ℕ → Candidate ℕ
 as_candidate r = record { head = r.head; rule = r.rule; effect = r.effect; left = r.left; right = r.right; len = r.len }
 
--- the words have the effect of each row and the nonterminal of each live one. Of a row that has retired they have the nonterminal only where a
--- live row is below it, as one that retired it is; else a number that is none, as of a retired row that was given (request C-23)
+-- the words have the effect and the nonterminal of each row, of which a live row is below it: itself, or one that retired it
 pub record RowsIn (rows : List (Row ℕ)) (w : List ℕ) : Type 0 where
   pub effects : (d : Row ℕ) (i : ℕ) → i < length rows → row_effect_at w i ≡ (get_or rows i d).effect
-  pub heads-of : (d : Row ℕ) (i : ℕ) → i < length rows → live (get_or rows i d) ≡ true → row_head_at w i ≡ (get_or rows i d).head
-  pub under : (d : Row ℕ) (i : ℕ) → i < length rows → row_head_at w i < heads → (row_head_at w i ≡ (get_or rows i d).head) × (dropped contained (as_candidate (get_or rows i d)) rows ≡ true)
+  pub heads-of : (d : Row ℕ) (i : ℕ) → i < length rows → row_head_at w i ≡ (get_or rows i d).head
+  pub under : (d : Row ℕ) (i : ℕ) → i < length rows → dropped contained (as_candidate (get_or rows i d)) rows ≡ true
 
 -- the first n numbers are of rows below m of the nonterminal x, each beside its key
 pub record Numbers (x m n : ℕ) (w : List ℕ) : Type 0 where

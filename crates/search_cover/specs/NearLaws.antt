@@ -10,7 +10,7 @@ use Rattle.relation.specs.Representation.{relation_words}
 use Rattle.relation.specs.Stored.{with_relation}
 use Rattle.relation.specs.StoredLaws.{stored-length, stored-outside, stored_same, stored_other, value_same}
 use Rattle.spec_order.specs.Journal.{Row}
-use Rattle.search_state.specs.Layout.{row_cells, heads}
+use Rattle.search_state.specs.Layout.{row_cells}
 use Rattle.search_cover.specs.Near.{keys_from, numbers_from, heads_from, row_place, near_words, head_of, count_of, link_of, row_effect_at, row_head_at, number_at, key_at, effect_at, RowsIn, Numbers, Among}
 use Rattle.search_cover.specs.Steps.{with_number, noted, Ready, with_row, SameRows, with_last}
 
@@ -59,12 +59,7 @@ module _ {w w' : List ℕ} (s : SameAbove w w') where
   above-among a = record { place = a.place; inside = a.inside; is = above-number a.place ∙ a.is }
 
 pub rows_same : {rows : List (Row ℕ)} {w w' : List ℕ} → SameRows w w' → RowsIn rows w → RowsIn rows w'
-rows_same s g =
-    record {
-      effects = λ d i l. s.effects i ∙ g.effects d i l;
-      heads-of = λ d i l a. s.heads-of i ∙ g.heads-of d i l a;
-      under = λ d i l h. let u = g.under d i l (subst (λ (x : ℕ). x < heads) (s.heads-of i) h) in (s.heads-of i ∙ u.0, u.1);
-    }
+rows_same s g = record { effects = λ d i l. s.effects i ∙ g.effects d i l; heads-of = λ d i l. s.heads-of i ∙ g.heads-of d i l; under = g.under }
 
 pub rows-twice : {w w' w'' : List ℕ} → SameRows w w' → SameRows w' w'' → SameRows w w''
 rows-twice a b = record { effects = λ i. b.effects i ∙ a.effects i; heads-of = λ i. b.heads-of i ∙ a.heads-of i }

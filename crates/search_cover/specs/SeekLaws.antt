@@ -10,7 +10,7 @@ use Rattle.spec_basics.specs.Tests.{and_intro, and-fst, and-snd}
 use Rattle.relation.specs.DigitLaws.{subset-trans}
 use Rattle.relation.specs.Relation.{contained}
 use Rattle.spec_order.specs.Candidates.{Candidate}
-use Rattle.spec_order.specs.Journal.{Row, live, live_of}
+use Rattle.spec_order.specs.Journal.{Row, live_of}
 use Rattle.spec_order.specs.Order.{dropped, larger}
 use Rattle.search_state.specs.Layout.{row_cells, heads, head_cell, lists_from, end}
 use Rattle.search_links.specs.Covers.{live_at, Cell, Reach, covers_at}
@@ -35,14 +35,10 @@ unfolding live_of
 live-head x rows d v e =
     eqb-true (get_or rows v d).head x (and-fst _ _ (sym (is_at d rows v (live_inside x rows v e) (live_of x)) ∙ e))
 
-live-there : (x : ℕ) (rows : List (Row ℕ)) (d : Row ℕ) (v : ℕ) → live_at x rows v ≡ true → live (get_or rows v d) ≡ true
-unfolding live_of
-live-there x rows d v e = and-snd (eqb (get_or rows v d).head x) (live (get_or rows v d)) (sym (is_at d rows v (live_inside x rows v e) (live_of x)) ∙ e)
-
--- a row that the words have under the candidate's nonterminal with a smaller effect, live or retired, tells that a live one covers the candidate
-pub below-dropped : {rows : List (Row ℕ)} {w : List ℕ} → RowsIn rows w → (c : Candidate ℕ) → c.head < heads → (v : ℕ) → v < length rows → row_head_at w v ≡ c.head → contained (row_effect_at w v) c.effect ≡ true → dropped contained c rows ≡ true
+-- a row of the candidate's nonterminal with a smaller effect, live or retired, tells that a live one covers the candidate
+pub below-dropped : {rows : List (Row ℕ)} {w : List ℕ} → RowsIn rows w → (c : Candidate ℕ) (v : ℕ) → v < length rows → row_head_at w v ≡ c.head → contained (row_effect_at w v) c.effect ≡ true → dropped contained c rows ≡ true
 unfolding dropped
-below-dropped {rows} {w} g c hc v l h e = by rows l
+below-dropped {rows} {w} g c v l h e = by rows l
   where
     covers : Candidate ℕ → Row ℕ → Bool
     covers a r = live_of a.head r && contained r.effect a.effect
@@ -50,9 +46,8 @@ below-dropped {rows} {w} g c hc v l h e = by rows l
     with-row : (d : Row ℕ) → any (covers c) rows ≡ true
     with-row d =
         let r = get_or rows v d in
-        let u = g.under d v l (subst (λ (x : ℕ). x < heads) (sym h) hc) in
-        let z = any_of (covers (as_candidate r)) rows u.1 in
-        let head : r.head ≡ c.head = sym u.0 ∙ h in
+        let z = any_of (covers (as_candidate r)) rows (g.under d v l) in
+        let head : r.head ≡ c.head = sym (g.heads-of d v l) ∙ h in
         let alive = subst (λ (x : ℕ). live_of x z.0 ≡ true) head (and-fst (live_of r.head z.0) (contained z.0.effect r.effect) z.2) in
         let below = and-snd (live_of r.head z.0) (contained z.0.effect r.effect) z.2 in
         any_at (covers c) z.0 rows z.1 (and_intro _ _ alive (subset-trans z.0.effect r.effect c.effect below (subst (λ (y : ℕ). contained y c.effect ≡ true) (g.effects d v l) e)))
@@ -129,7 +124,7 @@ module _ {rows : List (Row ℕ)} {u : ℕ} {t : List ℕ} (d : Leads rows u t) (
 
           by : (xs : List (Row ℕ)) → v < length xs → row_head_at w v ≡ x
           by [] l = absurd (omega (arith, l))
-          by (r ∷ xs) l = z.rows_in.heads-of r v inside (live-there x rows r v copy_live) ∙ live-head x rows r v copy_live
+          by (r ∷ xs) l = z.rows_in.heads-of r v inside ∙ live-head x rows r v copy_live
 
       pub copy-next : length w ≡ near_words → Copies x rows t (get_or t v 0) v (n + 1) (with_number w n v)
       copy-next size =
@@ -250,7 +245,7 @@ module _ {rows : List (Row ℕ)} {u : ℕ} {t : List ℕ} (d : Leads rows u t) (
             let covers : r.covers ≡ true = h.covers ∙ e in
             let inside = n.numbers.inside h.place l in
             record {
-              found = covers ∙ sym (below-dropped g.rows_in c hh (number_at w h.place) inside (n.numbers.heads-of h.place l) (h.first.here l));
+              found = covers ∙ sym (below-dropped g.rows_in c (number_at w h.place) inside (n.numbers.heads-of h.place l) (h.first.here l));
               row = λ _. omega (arith, h.row covers, inside, d.size);
               free = λ z. absurd (true≢false (sym covers ∙ z));
             }

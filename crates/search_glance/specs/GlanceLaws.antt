@@ -34,7 +34,6 @@ use Rattle.search_laws.specs.OnRelations.{problem_in, NearIn, Running}
 use Rattle.search_laws.specs.Passing.{InPass, pass-covered}
 use Rattle.search_laws.specs.ProblemLaws.{problem-laws}
 use Rattle.search_laws.specs.Problems.{RuleBytes, Problem, algebra_of, first_rows}
-use Rattle.search_laws.specs.Passes.{Aim}
 use Rattle.search_laws.specs.RunLaws.{works-on, started, stands_on, goes_on, used-fits, limit, rule-inside, rule-there, formed-there}
 use Rattle.search_laws.specs.Running.{Goes, SearchAt, Onward, candidates_left}
 use Rattle.search_laws.specs.RunningLaws.{stand-on}
@@ -123,9 +122,8 @@ module _ (letters w : List ℕ) (u : ℕ) (rows : List (Row ℕ)) (size : length
   known-dropped c k =
       let h : k.row < length rows = omega (arith, k.used, size) in
       let r = get_or rows k.row (row_of blank) in
-      let under = g.under (row_of blank) k.row h (subst (λ (x : ℕ). x < heads) (sym k.head) k.real) in
-      let v = dropped-covered (algebra_of (problem_in 0 0 [] [])) (as_candidate r) rows under.1 in
-      let head : r.head ≡ c.head = sym under.0 ∙ k.head in
+      let v = dropped-covered (algebra_of (problem_in 0 0 [] [])) (as_candidate r) rows (g.under (row_of blank) k.row h) in
+      let head : r.head ≡ c.head = sym (g.heads-of (row_of blank) k.row h) ∙ k.head in
       covered-dropped (algebra_of (problem_in 0 0 [] [])) c rows (record {
         row = v.row;
         listed = v.listed;
@@ -139,7 +137,7 @@ module _ (letters w : List ℕ) (u : ℕ) (rows : List (Row ℕ)) (size : length
 
 -- ---- the candidate at which a search stands
 
-module _ {letters : List ℕ} {rules : RuleBytes} {aim : Aim ℕ} {start : State} {j₀ : Journal} {s : State} {j : Journal} {t w : List ℕ} (r : Running letters rules aim start j₀ s j t) (going : T s.going) (near : NearIn s j w) where
+module _ {letters : List ℕ} {rules : RuleBytes} {start : State} {j₀ : Journal} {s : State} {j : Journal} {t w : List ℕ} (r : Running letters rules start j₀ s j t) (going : T s.going) (near : NearIn s j w) where
   size_is : length (rows_read row_of s.counts.used j) ≡ s.counts.used
   size_is = rows-length row_of s.counts.used j (used-fits r.search going)
 
@@ -160,14 +158,14 @@ module _ {letters : List ℕ} {rules : RuleBytes} {aim : Aim ℕ} {start : State
 
 -- ---- the search after a glance
 
-module _ {letters : List ℕ} {rules : RuleBytes} {aim : Aim ℕ} {start : State} {j₀ : Journal} {s : State} {j : Journal} {t w : List ℕ} (r : Running letters rules aim start j₀ s j t) (going : T s.going) (near : NearIn s j w) where
+module _ {letters : List ℕ} {rules : RuleBytes} {start : State} {j₀ : Journal} {s : State} {j : Journal} {t w : List ℕ} (r : Running letters rules start j₀ s j t) (going : T s.going) (near : NearIn s j w) where
   abbrev P : Problem ℕ LentRow
   P = problem_in start.terms.starts start.terms.finals letters rules
 
   abbrev Q : Problem ℕ LentRow
   Q = works-on r.search going
 
-  go : Goes Q start.terms.budget aim j₀ s j t
+  go : Goes Q start.terms.budget j₀ s j t
   go = goes_on r.search going
 
   budget-is : s.terms.budget ≡ start.terms.budget
@@ -186,7 +184,7 @@ module _ {letters : List ℕ} {rules : RuleBytes} {aim : Aim ℕ} {start : State
 
   -- a place of the state's rule and left that the pass has reached, with no row more: the invariant of the pass holds there
   record Here (y : Reached) : Type 0 where
-    in-pass : InPass s.terms Q go.begun.all go.first go.journal t y.counts j y.place
+    in-pass : InPass s.terms Q go.first go.journal t y.counts j y.place
     form : y.place ≡ first_at s.place.rule s.place.left y.place.right
     used : y.counts.used ≡ s.counts.used
     joins : s.counts.joins ≤ y.counts.joins
@@ -219,20 +217,19 @@ module _ {letters : List ℕ} {rules : RuleBytes} {aim : Aim ℕ} {start : State
     reached : Here (right_at s x.joins x.right)
     reached = moves-keep Here here-next x.passes here-first
 
-    on : Onward Q start.terms.budget aim j₀ (right_at s x.joins x.right).counts (standing s s.terms (right_at s x.joins x.right).counts (right_at s x.joins x.right).place) j t
-    on = stand-on Q start.terms.budget aim j₀ s (stands_on r.search going).rows (stands_on r.search going).count go.begun reached.in-pass (rule-in reached)
+    on : Onward Q start.terms.budget j₀ (right_at s x.joins x.right).counts (standing s s.terms (right_at s x.joins x.right).counts (right_at s x.joins x.right).place) j t
+    on = stand-on Q start.terms.budget j₀ s (stands_on r.search going).rows (stands_on r.search going).count go.begun reached.in-pass (rule-in reached)
 
-    passed-running : Running letters rules aim start j₀ r' j t
+    passed-running : Running letters rules start j₀ r' j t
     passed-running =
         record {
           all = r.all;
           search =
               record {
                 idle = λ z. absurd (both start.going (started r.search going) z);
-                some = r.search.some;
                 sized = r.search.sized;
                 whole = r.search.whole;
-                stands = λ _. subst (λ (v : State). SearchAt Q start.terms.budget aim j₀ v j t) (sym x.is) on.stands;
+                stands = λ _. subst (λ (v : State). SearchAt Q start.terms.budget j₀ v j t) (sym x.is) on.stands;
               };
         }
       where
@@ -250,7 +247,7 @@ module _ {letters : List ℕ} {rules : RuleBytes} {aim : Aim ℕ} {start : State
 
   -- the search goes on after a glance, at the same rule, with no row more and no more candidates left
   record Onwards (v : State) : Type 0 where
-    runs : Running letters rules aim start j₀ v j t
+    runs : Running letters rules start j₀ v j t
     goes : T v.going
     fewer : candidates_left v ≤ candidates_left s
     used : v.counts.used ≡ s.counts.used
@@ -269,7 +266,7 @@ module _ {letters : List ℕ} {rules : RuleBytes} {aim : Aim ℕ} {start : State
 
   -- and what is returned is the effect of the candidate there, which a live row covers where the hints say so, and a cell of the hints
   pub record Glanced (r' : Tried) : Type 0 where
-    pub runs : Running letters rules aim start j₀ r'.state j t
+    pub runs : Running letters rules start j₀ r'.state j t
     pub goes : T r'.state.going
     pub beside : NearIn r'.state j w
     pub fewer : candidates_left r'.state ≤ candidates_left s

@@ -48,9 +48,8 @@ after_left w u e k = compose states e (used_effect w u k)
 
 -- ---- the hints
 
--- the words have one of the u rows under the nonterminal x, and its effect is contained in e
+-- one of the u rows is of the nonterminal x, and its effect is contained in e
 pub record KnownBelow (w : List ℕ) (u x e : ℕ) : Type 0 where
-  pub real : x < heads
   pub row : ℕ
   pub used : row < u
   pub head : row_head_at w row ≡ x

@@ -45,7 +45,7 @@ fn is_below(near: &[Letter], used: usize, head: u8, row: usize, effect: Effect) 
         return false;
     }
     let held = Effect::read(near, ROW_PLACES + row);
-    held.contained_first_word(effect)
+    held.contained_if_first(effect)
 }
 
 // Tries the two rows that hints name for a candidate of `head` with this `effect`: the one that covered last, and the one noted for the effect. Where

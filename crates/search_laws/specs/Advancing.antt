@@ -1,5 +1,5 @@
 -- One candidate: what became of it is what the working order makes of it, and the invariant of the search holds after it. Assumes nothing.
-use Rattle.std.specs.Prelude.{◌≡◌, refl, Bool, true, false, not, cond, List, [], map, ◌⊎◌, ℕ, suc, ◌+◌, ◌-◌, ◌≤◌, ◌<◌, T, eqb, length, take}
+use Rattle.std.specs.Prelude.{◌≡◌, refl, Bool, true, false, not, cond, List, map, ◌⊎◌, ℕ, suc, ◌+◌, ◌-◌, ◌≤◌, ◌<◌, T, eqb, length, take}
 use Rattle.std.proofs.Common.{sym, ap, ◌∙◌, subst, subst₂, true≢false, inl, inr, arith, length-take, length-take-le, eqb-true}
 use Rattle.std.proofs.Math.Arith.{lt_of_le-ne}
 use Rattle.std.proofs.lemmas.List.{length-map}
@@ -7,7 +7,6 @@ use Rattle.std.proofs.lemmas.Bool.{eqb-false}
 use Rattle.spec_order.specs.Algebra.{Laws}
 use Rattle.spec_order.specs.Candidates.{Candidate}
 use Rattle.spec_order.specs.Journal.{Row}
-use Rattle.spec_calls.specs.Codes.{full_code}
 use Rattle.spec_order.specs.Order as order
 use Rattle.spec_order.specs.Order.{dropped}
 use Rattle.search_state.specs.Layout.{row_cells, table_cells}
@@ -28,46 +27,36 @@ use Rattle.search_laws.specs.Clauses.{Answers, Checked}
 use Rattle.search_laws.specs.Deciding.{answers-dropped, answers-full, answers-new}
 use Rattle.search_laws.specs.Meanings.{progress_of, counts_in, with_join, with_row, born_by, full_by, decided_by, decided_in, totals_of, answer_to, answer_in}
 use Rattle.search_laws.specs.Problems.{RuleBytes, Problem, algebra_of, first_rows, terms_of}
-use Rattle.search_laws.specs.Passes.{Aim}
 use Rattle.search_laws.specs.Steps.{MayAdvance, Remembers}
-use Rattle.search_laws.specs.Running.{problem_at, Goes, WantsAt, SearchAt, Running, fate_for, Considered, GoesOn, GoesOnOver, Onward, candidates_left}
+use Rattle.search_laws.specs.Running.{problem_at, target, Goes, SearchAt, Running, fate_for, Considered, GoesOn, GoesOnOver, Onward, candidates_left}
 use Rattle.search_laws.specs.RunLaws.{started, stands_on, goes_on, sized, used-fits, limit}
 use Rattle.search_laws.specs.RunningLaws.{unbroken-back, stops}
-use Rattle.search_laws.specs.States.{stopped_in, taken_back}
-use Rattle.search_laws.specs.PassCame.{pass-joins}
-use Rattle.search_laws.specs.Passing.{InPass, pass-stopped, pass-going}
-use Rattle.search_laws.specs.PassingOver.{pass-remembers}
+use Rattle.search_laws.specs.States.{stopped_in}
+use Rattle.search_laws.specs.Passing.{pass-stopped, pass-going}
 use Rattle.search_laws.specs.Remaining.{EndsFrom}
-use Rattle.search_laws.specs.Walks.{consider_in, walk_from}
+use Rattle.search_laws.specs.Walks.{consider_in, pass_in}
 use Rattle.search_laws.specs.declared.Outcome.TheVariants as outcome
 use Rattle.search_laws.specs.declared.Outcome.{Outcome}
 use Rattle.search_laws.specs.declared.Stop.TheVariants as stop
 use Rattle.search_laws.specs.declared.Stop.{Stop}
-use Rattle.search_laws.specs.declared.Unbroken.{Unbroken}
 
 stopped-answer : (s : State) (p : Stop) → answer_in (stopped_in s p) ≡ answer_to s.terms.pass p
 stopped-answer s (stop.Ended v w) = unbroken-back v (totals_of w s.terms.pass)
 stopped-answer s (stop.Broken i w) = refl
 
 -- nothing is considered after it
-stopped-going : {w : Counts} {p : Stop} → outcome.Going w ≡ outcome.Stopped p → ⊥
-stopped-going e = let z : ◌≡◌ {A = ℕ} 0 1 = cc in omega arith
-
-ended-broken : {v : Unbroken} {i : ℕ} {w y : Counts} → outcome.Stopped (stop.Ended v w) ≡ outcome.Stopped (stop.Broken i y) → ⊥
-ended-broken e = let z : ◌≡◌ {A = ℕ} 0 1 = cc in omega arith
-
 stop-ends : {E R : Type 0} (row_of : R → Row E) (p : Stop) → EndsFrom row_of (outcome.Stopped p)
 stop-ends row_of (stop.Ended v w) = λ j K. refl
 stop-ends row_of (stop.Broken i w) = λ j K. refl
 
-module _ {E R : Type 0} {P : Problem E R} {rules : RuleBytes} {aim : Aim E} {start : State} {j₀ : List R} {s : State} {c : Candidate E} {f : Fate} {l : CoverAnswer} {j : List R} {t : List ℕ} (x : Considered P rules aim start j₀ s c f l j t) where
+module _ {E R : Type 0} {P : Problem E R} {rules : RuleBytes} {start : State} {j₀ : List R} {s : State} {c : Candidate E} {f : Fate} {l : CoverAnswer} {j : List R} {t : List ℕ} (x : Considered P rules start j₀ s c f l j t) where
   abbrev Q : Problem E R
   Q = problem_at P rules start
 
   abbrev u : ℕ
   u = s.counts.used
 
-  go : Goes Q start.terms.budget aim j₀ s x.before x.table
+  go : Goes Q start.terms.budget j₀ s x.before x.table
   go = goes_on x.running x.going
 
   room : u ≤ length x.before
@@ -75,9 +64,6 @@ module _ {E R : Type 0} {P : Problem E R} {rules : RuleBytes} {aim : Aim E} {sta
 
   budget-is : s.terms.budget ≡ start.terms.budget
   budget-is = ap (λ (b : _). b.budget) go.begun.terms
-
-  pass-is : s.terms.pass ≡ go.begun.pass
-  pass-is = ap (λ (b : Terms). b.pass) go.begun.terms
 
   unspent : s.counts.joins < s.terms.budget
   unspent = omega (arith, go.unspent, budget-is)
@@ -165,12 +151,12 @@ module _ {E R : Type 0} {P : Problem E R} {rules : RuleBytes} {aim : Aim E} {sta
       record {
         full = ap (λ (z : Fate). z.full) x.fate;
         remember = record { used = omega (arith, room, few); table = cells; above = x.found.slot.0; below = x.found.slot.1; row = finds.row };
-        decide = record { used = omega (arith, room, few); joins = unspent; added = pass-joins go.begun.at-pass go.in-pass pass-is budget-is };
+        decide = record { used = omega (arith, room, few); joins = unspent; added = omega (arith, go.in-pass.left.adds, go.begun.at-pass.none-added) };
         here = omega (arith, go.here, at.count);
         passes = record {
           table = cells;
           count = omega (arith, at.count, length-take start.rules rules);
-          old = omega (arith, ap (λ (b : Terms). b.old) go.begun.terms, go.begun.earlier, go.begun.inside, go.in-pass.left.grows, room, few);
+          old = omega (arith, ap (λ (b : Terms). b.old) go.begun.terms, go.begun.fits);
           measured = subst (Measured s.terms.old) (sym x.inserted.lists) go.in-pass.measured;
           places = subst₂ (λ (lists : List ℕ) (k : ℕ). PassFrom lists (take k rules) s.place) (sym x.inserted.lists) (sym rules-same) go.in-pass.places;
         };
@@ -179,31 +165,34 @@ module _ {E R : Type 0} {P : Problem E R} {rules : RuleBytes} {aim : Aim E} {sta
           size = length-map (first_rows P (counts_in became).used j) without_effect ∙ rows-length P.row_of (counts_in became).used j (omega (arith, used, x.inserted.size)) ∙ ap (λ (o : Outcome). (counts_in o).used) (sym decided-so);
           covering = covering-without (first_rows P (counts_in became).used j) t decided-right.1;
         };
-        start = omega (arith, ap (λ (b : Terms). b.present) go.begun.terms, go.begun.inside, go.in-pass.left.grows, room, few);
-        pass = omega (arith, ap (λ (b : _). b.pass) go.begun.terms, go.begun.at-pass.count, go.begun.at-pass.room, (sized x.running x.going).past, (sized x.running x.going).limit);
+        start = omega (arith, ap (λ (b : Terms). b.present) go.begun.terms, go.in-pass.left.grows, room, few);
+        pass = omega (arith, ap (λ (b : _). b.pass) go.begun.terms, go.begun.at-pass.count, go.begun.at-pass.room, (sized x.running x.going).limit);
         room = omega (arith, room, at.rows, at.size);
         limit = omega (arith, at.rows, (sized x.running x.going).limit);
       }
 
   -- ---- it stops the search
 
-  stopped-right : (o : Outcome) → EndsFrom P.row_of o → Right o → Answers P.row_of start.terms.budget (walk_from Q (terms_of Q start.terms.budget go.begun.pass go.begun.present go.begun.before) go.begun.all go.first go.journal) go.first go.journal j o
+  stopped-right : (o : Outcome) → EndsFrom P.row_of o → Right o → Answers P.row_of start.terms.budget (pass_in Q (terms_of Q start.terms.budget go.begun.pass go.first.used go.begun.before) go.first go.journal) go.first go.journal j o
   stopped-right o e a =
-      subst (λ (b : Terms). Answers P.row_of b.budget (walk_from Q b go.begun.all go.first go.journal) go.first go.journal j o) go.begun.terms
+      subst (λ (b : Terms). Answers P.row_of b.budget (pass_in Q b go.first go.journal) go.first go.journal j o) go.begun.terms
       (pass-stopped go.in-pass go.here x.formed x.inserted.size a.0 e)
+
+  pass-is : s.terms.pass ≡ go.begun.pass
+  pass-is = ap (λ (b : Terms). b.pass) go.begun.terms
 
   size-first : length j ≡ length go.journal
   size-first = x.inserted.size ∙ go.in-pass.left.same
 
-  pub stopped-checked : (p : Stop) → Right (outcome.Stopped p) → Checked P.row_of aim.answer j₀ j (answer_in (stopped_in s p))
+  pub stopped-checked : (p : Stop) → Right (outcome.Stopped p) → Checked P.row_of (target Q start.terms.budget j₀) j₀ j (answer_in (stopped_in s p))
   stopped-checked p a =
-      subst (Checked P.row_of aim.answer j₀ j) (ap (λ (k : ℕ). answer_to k p) (sym pass-is) ∙ sym (stopped-answer s p))
-      (stops Q start.terms.budget aim j₀ s (stands_on x.running x.going).rows (stands_on x.running x.going).count go.begun.at-pass go.begun.present go.begun.before size-first (outcome.Stopped p) (stopped-right (outcome.Stopped p) (stop-ends P.row_of p) a) refl)
+      subst (Checked P.row_of (target Q start.terms.budget j₀) j₀ j) (ap (λ (k : ℕ). answer_to k p) (sym pass-is) ∙ sym (stopped-answer s p))
+      (stops Q start.terms.budget j₀ s (stands_on x.running x.going).rows (stands_on x.running x.going).count go.begun.at-pass go.begun.before size-first (outcome.Stopped p) (stopped-right (outcome.Stopped p) (stop-ends P.row_of p) a) refl)
 
   -- ---- the search stands on
 
-  resumes : {r : State} {t' : List ℕ} → SearchAt Q start.terms.budget aim j₀ r j t' → Running P rules aim start j₀ r j t'
-  resumes st = record { idle = λ z. absurd (both start.going (started x.running x.going) z); some = x.running.some; sized = x.running.sized; whole = x.running.whole; stands = λ _. st }
+  resumes : {r : State} {t' : List ℕ} → SearchAt Q start.terms.budget j₀ r j t' → Running P rules start j₀ r j t'
+  resumes st = record { idle = λ z. absurd (both start.going (started x.running x.going) z); sized = x.running.sized; whole = x.running.whole; stands = λ _. st }
     where
       both : (b : Bool) → T b → T (not b) → ⊥
       both true y n = n
@@ -213,73 +202,14 @@ module _ {E R : Type 0} {P : Problem E R} {rules : RuleBytes} {aim : Aim E} {sta
   left_is true y n = refl
   left_is false y n = absurd y
 
-  -- ---- it ends full: nothing was inserted, and the search stands before its candidate
-
-  full-so : (v : Unbroken) (w : Counts) (d h b : Bool) → outcome.Stopped (stop.Ended v w) ≡ decided_by d h b (with_join s.counts) → (w ≡ with_join s.counts) × (d ≡ false) × (h ≡ true)
-  full-so v w true h b e = absurd (stopped-going (sym e))
-  full-so v w false true b e = (ap (λ (o : Outcome). counts_in o) e, refl, refl)
-  full-so v w false false true e = absurd (ended-broken e)
-  full-so v w false false false e = absurd (stopped-going (sym e))
-
-  untouched : l.covers ≡ false → eqb u s.rows ≡ true → (j ≡ x.before) × (t ≡ x.table)
-  untouched e h = by x.inserted.outcome
-    where
-      by : Ending P.below P.row_of P.blank s.terms.pass c u l x.before x.table j t → (j ≡ x.before) × (t ≡ x.table)
-      by (inl z) = (z.1, z.2)
-      by (inr z) = absurd (omega (arith, z.0.room, eqb-true u s.rows h, rows_are))
-
-  full-wants : (t' : List ℕ) → Remembers t t' → (v : Unbroken) (w : Counts) → outcome.Stopped (stop.Ended v w) ≡ became → WantsAt Q start.terms.budget aim j₀ (stopped_in s (stop.Ended v w)) j t'
-  full-wants t' m v w e =
-      let y = full-so v w l.covers (eqb u s.rows) (P.breaks c.head c.effect) e in
-      let z = untouched y.1 y.2 in
-      let m' : Remembers x.table t' = subst (λ (i : List ℕ). Remembers i t') z.1 m in
-      subst₂ (λ (i : List R) (w : Counts). WantsAt Q start.terms.budget aim j₀ (stopped_in s (stop.Ended v w)) i t') (sym z.0) (sym y.0)
-      (record {
-        before = by m';
-        counted = omega arith;
-        used-up = eqb-true u s.rows y.2 ∙ rows_are;
-        uncovered = subst (λ (d : Candidate E). dropped P.below d (first_rows P u x.before) ≡ false) x.formed (sym finds.found ∙ y.1);
-      })
-    where
-      back : s.counts.joins + 1 - 1 ≡ s.counts.joins
-      back = omega arith
-
-      by : Remembers x.table t' → Goes Q start.terms.budget aim j₀ (taken_back (stopped_in s (stop.Ended v (with_join s.counts)))) x.before t'
-      by m' =
-          record {
-            first = go.first;
-            journal = go.journal;
-            begun = record {
-              pass = go.begun.pass;
-              before = go.begun.before;
-              present = go.begun.present;
-              all = go.begun.all;
-              began = go.begun.began;
-              at-pass = go.begun.at-pass;
-              earlier = go.begun.earlier;
-              inside = go.begun.inside;
-              terms = go.begun.terms;
-            };
-            in-pass = subst (λ (n : ℕ). InPass s.terms Q go.begun.all go.first go.journal t' (record { used = u; joins = n; added = s.counts.added }) x.before s.place) (sym back)
-                (pass-remembers go.in-pass (omega (arith, room, limit x.running x.going)) m');
-            here = go.here;
-            left = refl;
-            right = refl;
-            unspent = subst (λ (n : ℕ). n < start.terms.budget) (sym back) go.unspent;
-          }
-
-  pub stopped-running : (p : Stop) → outcome.Stopped p ≡ became → (t' : List ℕ) → Remembers t t'
-      → Running P rules aim start j₀ (stopped_in s p) j t' × (candidates_left (stopped_in s p) < candidates_left s) × (T (stopped_in s p).going → (stopped_in s p).counts.used ≡ (counts_in (decided_in s f)).used)
-  stopped-running p e t' m = (
-    resumes (record { wants = wants-row p e; size = x.inserted.size ∙ (stands_on x.running x.going).size; rows = rows_of p; count = count_of p; goes = λ y. absurd (ended_so p y); ends = λ _. stopped-checked p (subst Right (sym e) decided-right) }),
+  pub stopped-running : (p : Stop) → Right (outcome.Stopped p) → (t' : List ℕ)
+      → Running P rules start j₀ (stopped_in s p) j t' × (candidates_left (stopped_in s p) < candidates_left s) × (T (stopped_in s p).going → (stopped_in s p).counts.used ≡ (counts_in (decided_in s f)).used)
+  stopped-running p a t' = (
+    resumes (record { size = x.inserted.size ∙ (stands_on x.running x.going).size; rows = rows_of p; count = count_of p; goes = λ y. absurd (ended_so p y); ends = λ _. stopped-checked p a }),
     subst (λ (n : ℕ). candidates_left (stopped_in s p) < n) (sym (left_is s.going x.going (s.terms.budget - s.counts.joins))) (none_left p),
     λ y. absurd (ended_so p y),
   )
     where
-      wants-row : (p : Stop) → outcome.Stopped p ≡ became → (stopped_in s p).verdict ≡ full_code → WantsAt Q start.terms.budget aim j₀ (stopped_in s p) j t'
-      wants-row (stop.Ended v w) e z = full-wants t' m v w e
-      wants-row (stop.Broken i w) e z = absurd (omega (arith, z))
-
       rows_of : (p : Stop) → (stopped_in s p).rows ≡ length j₀
       rows_of (stop.Ended v w) = (stands_on x.running x.going).rows
       rows_of (stop.Broken i w) = (stands_on x.running x.going).rows
@@ -308,13 +238,13 @@ module _ {E R : Type 0} {P : Problem E R} {rules : RuleBytes} {aim : Aim E} {sta
       by false false false = refl
 
   pub going-running : Laws (algebra_of P) → (tn : List ℕ) → Remembers t tn → {w : Counts} → outcome.Going w ≡ became → {t' : List ℕ} {r : State} → GoesOn P rules tn s w t' r
-      → Running P rules aim start j₀ r j t' × (candidates_left r < candidates_left s) × (T r.going → r.counts.used ≡ (counts_in (decided_in s f)).used)
+      → Running P rules start j₀ r j t' × (candidates_left r < candidates_left s) × (T r.going → r.counts.used ≡ (counts_in (decided_in s f)).used)
   going-running L tn nt {w} e {t'} {r} g =
       let a = decided-right in
       let n : (counts_in became).used ≤ row_cells = omega (arith, a.0.room, limit x.running x.going) in
       let cov : Covering (first_rows P (counts_in became).used j) tn = covering-links (first_rows P (counts_in became).used j) t tn (omega (arith, n, rows-length P.row_of (counts_in became).used j (omega (arith, a.0.room, x.inserted.size)))) nt.size nt.links a.1 in
-      let on : Onward Q start.terms.budget aim j₀ w r j t' =
-      subst (λ (k : ℕ). GoesOnOver P (take k rules) tn s w t' r) rules-same g start.terms.budget aim j₀ go.first go.journal j (sized x.running x.going) (stands_on x.running x.going).rows go.here go.begun
+      let on : Onward Q start.terms.budget j₀ w r j t' =
+      subst (λ (k : ℕ). GoesOnOver P (take k rules) tn s w t' r) rules-same g start.terms.budget j₀ go.first go.journal j (sized x.running x.going) (stands_on x.running x.going).rows go.here go.begun
       (λ q f. pass-going go.in-pass go.here x.formed x.inserted.size a.0 L (sym e) (nt.lists ∙ x.inserted.lists) cov f)
       in
       let m : w.joins ≡ s.counts.joins + 1 = ap (λ (o : Outcome). (counts_in o).joins) e ∙ joins-more in (

@@ -1,11 +1,11 @@
 -- What a candidate, a pass and the whole search ask and ensure, each in one record. Definitions only. Assumes nothing.
 use Rattle.std.specs.Prelude.{◌≡◌, List, ℕ, ◌+◌, ◌≤◌, ◌<◌, length}
-use Rattle.spec_order.specs.Journal.{Row, KeptBeyond}
+use Rattle.spec_order.specs.Journal.{Row}
 use Rattle.spec_order.specs.Order as order
-use Rattle.spec_order.specs.Order.{pass_limit, passes, check}
+use Rattle.spec_order.specs.Order.{check}
 use Rattle.spec_calls.specs.Checking.{journal_limit}
 use Rattle.search_links.specs.Covers.{Covering}
-use Rattle.search_links.specs.Rows.{rows_read}
+use Rattle.search_links.specs.Rows.{KeptBeyond, rows_read}
 use Rattle.search_state.specs.declared.Counts.{Counts}
 use Rattle.search_state.specs.declared.Terms.{Terms}
 use Rattle.search_laws.specs.Problems.{Problem, algebra_of, rules_in}
@@ -41,7 +41,3 @@ module _ {E R : Type 0} (row_of : R → Row E) where
 -- the working order on a problem, with J rows and a budget of B joins
 unfoldable pub order_of : {E R : Type 0} → Problem E R → ℕ → ℕ → order.Answer E
 order_of P J B = check (algebra_of P) (rules_in P) J B
-
--- and from pass k on, over the first u rows of the journal j, before any join
-unfoldable pub order_from : {E R : Type 0} → Problem E R → ℕ → ℕ → ℕ → List R → order.Answer E
-order_from P B k u j = passes (algebra_of P) (rules_in P) (length j) B (pass_limit (length j) B) k (record { rows = rows_read P.row_of u j; joins = 0 })

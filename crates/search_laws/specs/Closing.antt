@@ -44,10 +44,10 @@ end_used (Again w) = w.used
 end_used (Done a) = (totals_in a).used
 
 -- of n used rows m are added since there were u
-pub added_none : (n u m : ℕ) → n ≡ u + m → eqb m 0 ≡ eqb n u
+added_none : (n u m : ℕ) → n ≡ u + m → eqb m 0 ≡ eqb n u
 added_none n u m e = iff-equal (eqb m 0) (eqb n u) (λ p. eq-eqb n u (omega (arith, e, eqb-true m 0 p))) (λ p. eq-eqb m 0 (omega (arith, e, eqb-true n u p)))
 
--- pass k began with u rows, or is compared with u
+-- pass k began with u rows
 module _ {E R : Type 0} (row_of : R → Row E) (starts : List ℕ) (u k : ℕ) (j : List R) (N : order.Progress E → order.Answer E) where
   answer-given : (v : Verdict) (i : ℕ) (w : Counts) → w.used ≤ length j → answer_by row_of v i (totals_of w k) j ≡ answer_with v k i (progress_of row_of w j)
   unfolding answer_with
@@ -58,14 +58,14 @@ module _ {E R : Type 0} (row_of : R → Row E) (starts : List ℕ) (u k : ℕ) (
   finish-given true w h = answer-given (finish_by true) absent w h
   finish-given false w h = answer-given (finish_by false) absent w h
 
-  -- that it added no row is that it uses u rows
-  pub close-end : (r : Outcome) → (counts_in r).used ≤ length j → eqb (counts_in r).added 0 ≡ eqb (counts_in r).used u
+  -- that it added no row is that it used no row more
+  pub close-end : (r : Outcome) → (counts_in r).used ≤ length j → (counts_in r).used ≡ u + (counts_in r).added
       → end_answer row_of (end_of (each (has_row (rows_read row_of (counts_in r).used j)) starts) k r) j N ≡ close starts k u N (outcome_of row_of r j)
   close-end (outcome.Stopped (stop.Ended v w)) h a = answer-given (verdict_of v) absent w h
   close-end (outcome.Stopped (stop.Broken i w)) h a = answer-given broken i w h
   close-end (outcome.Going w) h a =
       split (eqb w.added 0)
-      ∙ ap (λ (b : Bool). close_by starts b k N (progress_of row_of w j)) a
+      ∙ ap (λ (b : Bool). close_by starts b k N (progress_of row_of w j)) (added_none w.used u w.added a)
       ∙ ap (λ (n : ℕ). close_by starts (eqb n u) k N (progress_of row_of w j)) (sym (rows-length row_of w.used j h))
     where
       split : (b : Bool) → end_answer row_of (end_by b (each (has_row (rows_read row_of w.used j)) starts) w k) j N ≡ close_by starts b k N (progress_of row_of w j)

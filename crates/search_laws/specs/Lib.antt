@@ -8,12 +8,10 @@ pub mod StepLaws
 pub mod Clauses
 pub mod Deciding
 pub mod Remaining
-pub mod PassNumbers
 pub mod Passing
 pub mod Closing
 pub mod Passes
 pub mod Running
-pub mod PassCame
 pub mod PassingOver
 pub mod RunningLaws
 pub mod RunLaws
@@ -22,8 +20,3 @@ pub mod Nearing
 pub mod OnRelations
 pub mod ProblemLaws
 pub mod OnAutomaton
-pub mod Turning
-pub mod CandidateMoved
-pub mod Dropping
-pub mod Resuming
-pub mod CheckLegs

@@ -1,12 +1,12 @@
 -- The words keep each row, and the live rows of their nonterminal, when a candidate becomes a row. Assumes nothing.
-use Rattle.std.specs.Prelude.{◌≡◌, Bool, ◌&&◌, ◌||◌, cond, ◌⊎◌, get_or, set}
+use Rattle.std.specs.Prelude.{◌≡◌, Bool, ◌&&◌, ◌||◌, not, cond, ◌⊎◌, eqb, get_or, set}
 use Rattle.std.proofs.Math.Path.{refl, sym, ap, subst}
 use Rattle.std.proofs.Common.{ap₂, ◌∙◌, true≢false, inl, inr, arith, length-set, get_or-set_same}
-use Rattle.std.proofs.Math.Bool.{true, false, not}
+use Rattle.std.proofs.Math.Bool.{true, false}
 use Rattle.std.proofs.lemmas.Bool.{false≢true}
 use mathlib.Core.List.{List, [], ◌∷◌, ◌++◌, map}
 use Prim.Native.Nat.{ℕ, suc, ◌+◌, ◌*◌, ◌≤◌, ◌<◌, ◌^◌}
-use Rattle.std.proofs.Math.Dec.{eqb, ltb}
+use Rattle.std.proofs.Math.Dec.{ltb}
 use Rattle.std.proofs.Math.ListN.{length, length-map, length-append, get_or-append}
 use Rattle.std.proofs.Math.Seq.{get_or_at}
 use borrow.Author.Tests.{eqb-true, eq-eqb, ne_eqb, ltb-true, ltb-false}
@@ -49,17 +49,6 @@ module _ (k : ℕ) (c : Candidate ℕ) (rows : List (Row ℕ)) (u : ℕ) (w : Li
   unfolding added
   new_row d = get_or_at (map (retire contained k c) rows) (born k c) [] d u (length-map rows (retire contained k c) ∙ size)
 
-  -- a row that is live afterwards was live
-  still-live : (r : Row ℕ) → live (retire contained k c r) ≡ true → live r ≡ true
-  unfolding retire live larger live_of
-  still-live r a = split (larger contained c r) refl a
-    where
-      split : (b : Bool) → larger contained c r ≡ b → eqb (cond b k r.retired) 0 ≡ true → eqb r.retired 0 ≡ true
-      split true e z =
-          let alive = eqb r.head c.head && eqb r.retired 0 in
-          and-snd (eqb r.head c.head) (eqb r.retired 0) (and-fst alive (contained c.effect r.effect && not (contained r.effect c.effect)) e)
-      split false e z = z
-
   pub rows_then : ((e : Candidate ℕ) → dropped contained e rows ≡ true → dropped contained e then ≡ true) → ((e : Candidate ℕ) → e.head ≡ c.head → e.effect ≡ c.effect → dropped contained e then ≡ true) → RowsIn then (with_row w u c.head c.effect)
   unfolding retire born
   rows_then keeps self =
@@ -67,24 +56,12 @@ module _ (k : ℕ) (c : Candidate ℕ) (rows : List (Row ℕ)) (u : ℕ) (w : Li
         effects = λ d i l. by i l (λ (j : ℕ). row_effect_at (with_row w u c.head c.effect) j ≡ (get_or then j d).effect)
             (λ h. (row_before w u c.head c.effect long room i h).0 ∙ g.effects d i (omega (arith, size, h)) ∙ sym (ap (λ (r : Row ℕ). r.effect) (old_row d i h)))
             ((row_here w u c.head c.effect long room fits).0 ∙ sym (ap (λ (r : Row ℕ). r.effect) (new_row d)));
-        heads-of = λ d i l. by i l (λ (j : ℕ). live (get_or then j d) ≡ true → row_head_at (with_row w u c.head c.effect) j ≡ (get_or then j d).head)
-            (λ h a. (row_before w u c.head c.effect long room i h).1
-            ∙ g.heads-of d i (omega (arith, size, h)) (still-live (get_or rows i d) (subst (λ (r : Row ℕ). live r ≡ true) (old_row d i h) a))
-            ∙ sym (ap (λ (r : Row ℕ). r.head) (old_row d i h)))
-            (λ a. (row_here w u c.head c.effect long room fits).1 ∙ sym (ap (λ (r : Row ℕ). r.head) (new_row d)));
-        under = λ d i l. by i l
-            (λ (j : ℕ). row_head_at (with_row w u c.head c.effect) j < heads
-            → (row_head_at (with_row w u c.head c.effect) j ≡ (get_or then j d).head) × (dropped contained (as_candidate (get_or then j d)) then ≡ true))
-            (λ h m.
-            let same = (row_before w u c.head c.effect long room i h).1 in
-            let z = g.under d i (omega (arith, size, h)) (subst (λ (x : ℕ). x < heads) same m) in (
-              same ∙ z.0 ∙ sym (ap (λ (r : Row ℕ). r.head) (old_row d i h)),
-              subst (λ (r : Row ℕ). dropped contained (as_candidate r) then ≡ true) (sym (old_row d i h)) (keeps (as_candidate (get_or rows i d)) z.1),
-            ))
-            (λ m. (
-              (row_here w u c.head c.effect long room fits).1 ∙ sym (ap (λ (r : Row ℕ). r.head) (new_row d)),
-              subst (λ (r : Row ℕ). dropped contained (as_candidate r) then ≡ true) (sym (new_row d)) (self (as_candidate (born k c)) refl refl),
-            ));
+        heads-of = λ d i l. by i l (λ (j : ℕ). row_head_at (with_row w u c.head c.effect) j ≡ (get_or then j d).head)
+            (λ h. (row_before w u c.head c.effect long room i h).1 ∙ g.heads-of d i (omega (arith, size, h)) ∙ sym (ap (λ (r : Row ℕ). r.head) (old_row d i h)))
+            ((row_here w u c.head c.effect long room fits).1 ∙ sym (ap (λ (r : Row ℕ). r.head) (new_row d)));
+        under = λ d i l. by i l (λ (j : ℕ). dropped contained (as_candidate (get_or then j d)) then ≡ true)
+            (λ h. subst (λ (r : Row ℕ). dropped contained (as_candidate r) then ≡ true) (sym (old_row d i h)) (keeps (as_candidate (get_or rows i d)) (g.under d i (omega (arith, size, h)))))
+            (subst (λ (r : Row ℕ). dropped contained (as_candidate r) then ≡ true) (sym (new_row d)) (self (as_candidate (born k c)) refl refl));
       }
     where
       by : (i : ℕ) → i < length then → (P : ℕ → Type 0) → (i < u → P i) → P u → P i
@@ -235,7 +212,7 @@ pub near_first : (w : List ℕ) → length w ≡ near_words → Beside [] (set w
 near_first w size =
     record {
       size = length-set w 0 0 ∙ size;
-      rows_in = record { effects = λ d i l. absurd (omega (arith, l)); heads-of = λ d i l a. absurd (omega (arith, l)); under = λ d i l h. absurd (omega (arith, l)) };
+      rows_in = record { effects = λ d i l. absurd (omega (arith, l)); heads-of = λ d i l. absurd (omega (arith, l)); under = λ d i l. absurd (omega (arith, l)) };
       near = λ y hy q. absurd (omega (arith, eqb-true _ (y + 1) q, get_or-set_same w 0 0 0 (omega (arith, size))));
     }
 

@@ -17,7 +17,6 @@ use Rattle.search_state.specs.declared.Terms.{Terms}
 use Rattle.search_links.specs.Rows.{rows_read}
 use Rattle.search_cover.specs.Near.{is_near, Beside}
 use Rattle.search_cover.specs.declared.CoverAnswer.{CoverAnswer}
-use Rattle.search_laws.specs.Passes.{Aim}
 use Rattle.search_laws.specs.Problems.{RuleBytes, Problem, algebra_of}
 use Rattle.search_laws.specs.Running as running
 use Rattle.search_laws.specs.declared.Reached.{Reached}
@@ -68,24 +67,16 @@ CandidateInserted s c l j t j' t' = running.CandidateInserted (problem_in s.term
 -- ---- the loop
 
 -- the invariant of the loop; the table of letters is whole
-pub record Running (letters : Letters) (rules : RuleBytes) (aim : Aim ℕ) (start : State) (j₀ : Journal) (s : State) (j : Journal) (t : List ℕ) : Type 0 where
+pub record Running (letters : Letters) (rules : RuleBytes) (start : State) (j₀ : Journal) (s : State) (j : Journal) (t : List ℕ) : Type 0 where
   pub all : T start.going → letter_words ≤ length letters
-  pub search : running.Running (problem_in start.terms.starts start.terms.finals letters rules) rules aim start j₀ s j t
-
--- a search may run from s over j and t: there is something to come to
-abbrev pub MayRun : Letters → RuleBytes → State → Journal → List ℕ → Type 0
-MayRun letters rules s j t = (aim : Aim ℕ) × Running letters rules aim s j s j t
+  pub search : running.Running (problem_in start.terms.starts start.terms.finals letters rules) rules start j₀ s j t
 
 -- the search has run to its end
-abbrev pub Ran : Letters → RuleBytes → Aim ℕ → State → Journal → Journal → List ℕ → State → Type 0
-Ran letters rules aim start j₀ j t r = T (not r.going) × Running letters rules aim start j₀ r j t
+abbrev pub Ran : Letters → RuleBytes → State → Journal → Journal → List ℕ → State → Type 0
+Ran letters rules start j₀ j t r = T (not r.going) × Running letters rules start j₀ r j t
 
--- whatever it had to come to when it began, over j₀ and t₀
-abbrev pub HasRun : Letters → RuleBytes → State → Journal → List ℕ → Journal → List ℕ → State → Type 0
-HasRun letters rules start j₀ t₀ j t r = (aim : Aim ℕ) → Running letters rules aim start j₀ start j₀ t₀ → Ran letters rules aim start j₀ j t r
-
-abbrev pub Considered : Letters → RuleBytes → Aim ℕ → State → Journal → State → Candidate → Fate → CoverAnswer → Journal → List ℕ → Type 0
-Considered letters rules aim start j₀ s c f l j t = running.Considered (problem_in start.terms.starts start.terms.finals letters rules) rules aim start j₀ s (candidate_of c) f l j t
+abbrev pub Considered : Letters → RuleBytes → State → Journal → State → Candidate → Fate → CoverAnswer → Journal → List ℕ → Type 0
+Considered letters rules start j₀ s c f l j t = running.Considered (problem_in start.terms.starts start.terms.finals letters rules) rules start j₀ s (candidate_of c) f l j t
 
 -- ---- the steps between candidates
 

@@ -1,9 +1,9 @@
 -- One pass, place by place: the candidates left from the place give the answer, and the rows that the pass began with still form what they
 -- formed then. Assumes nothing.
-use Rattle.std.specs.Prelude.{◌≡◌, Bool, true, false, ◌&&◌, ◌||◌, ◌⊎◌, ℕ, suc, ◌≤◌, ◌<◌, eqb, ltb, get_or}
+use Rattle.std.specs.Prelude.{◌≡◌, Bool, true, false, ◌&&◌, ◌||◌, ℕ, suc, ◌≤◌, ◌<◌, eqb, ltb, get_or}
 use Rattle.std.proofs.Math.Path.{refl, ap, ap₂}
 use Rattle.std.proofs.Common.{sym, ◌∙◌, subst, inl, le_refl, arith, eqb-true, ltb-true}
-use mathlib.Core.List.{List, [], ◌∷◌, ◌++◌, map, append_assoc}
+use mathlib.Core.List.{List, [], ◌∷◌, map}
 use Rattle.std.proofs.Math.Logic.{inr}
 use Rattle.std.proofs.Math.ListN.{length, length-map, length-append, get_or-append, get_or-eq_default}
 use Rattle.spec_basics.specs.Elements.{In}
@@ -12,20 +12,19 @@ use Rattle.spec_basics.specs.Tests.{and-fst, and-snd}
 use Rattle.spec_language.specs.Grammar.{Symbol, terminal, nonterminal, Body, empty, one, two}
 use Rattle.spec_order.specs.Algebra.{Laws}
 use Rattle.spec_order.specs.Candidates.{Choice, Candidate, sole, paired, bare}
-use Rattle.spec_order.specs.Coverage.{dropped-added, covered-dropped, added-covered}
+use Rattle.spec_order.specs.Coverage.{dropped-added}
 use Rattle.spec_order.specs.Journal.{Row, absent}
 use Rattle.spec_order.specs.Order as order
 use Rattle.spec_order.specs.Order.{Progress, Verdict, going, and_then, dropped, walk, retire, born, added}
-use Rattle.spec_order.specs.Repeating.{PointsBelow, Repeats, pass-points, grown-refl, grown-added, pass-before}
-use Rattle.spec_order.specs.Truth.{length-added}
-use Rattle.spec_order.specs.Walking.{Post, step-post, walk-append}
+use Rattle.spec_order.specs.Repeating.{PointsBelow, Repeats, pass-points}
+use Rattle.spec_order.specs.Walking.{Post, step-post}
 use Rattle.spec_calls.specs.Checking.{journal_limit}
 use Rattle.search_state.specs.Forming.{Part, none, some, left_part, right_part, entry_at, Composing, row_choice, symbol_choice, part_choice, joined, combined}
 use Rattle.search_state.specs.declared.Place.{Place}
 use Rattle.search_state.specs.Layout.{lists_in}
 use Rattle.search_order.specs.Candidates.{candidate_at, LeftFrom}
 use Rattle.search_order.specs.CandidateLaws.{left-first, left-next}
-use Rattle.search_order.specs.Lists.{live_numbers, Listed}
+use Rattle.search_order.specs.Lists.{Listed}
 use Rattle.search_order.specs.Places.{FirstPlace, NextPlace}
 use Rattle.search_order.specs.PlacesLeft.{PassFrom}
 use Rattle.search_order.specs.PlacesLeftLaws.{places-next, places-first}
@@ -34,9 +33,8 @@ use Rattle.search_links.specs.Covers.{Covering}
 use Rattle.search_links.specs.RowLaws.{rows-length}
 use Rattle.search_laws.specs.Meanings.{progress_of, counts_in, with_join}
 use Rattle.search_laws.specs.Problems.{RuleBytes, Problem, algebra_of, rules_in, first_rows, unread}
-use Rattle.search_laws.specs.PassNumbers.{start_numbers}
 use Rattle.search_laws.specs.Steps.{is_before, repeats_at}
-use Rattle.search_laws.specs.Walks.{consider_in, walk_in, candidates_in, candidate_in, walk_from, Known, KnownFrom, Formed}
+use Rattle.search_laws.specs.Walks.{consider_in, walk_in, candidates_in, candidate_in, pass_in, Known, KnownFrom}
 use Rattle.search_laws.specs.Clauses.{PassReady, Answers}
 use Rattle.search_laws.specs.Deciding.{answers-dropped}
 use Rattle.search_laws.specs.Remaining.{Remaining, EndsFrom, remaining-start, remaining-going, remaining-stopped, remaining-none}
@@ -66,10 +64,10 @@ module _ {E : Type 0} (unread : Row E) where
 
 -- a candidate that goes on is one join more, over the same rows or with one added
 consider-goes : {E R : Type 0} (P : Problem E R) (b : Terms) (J : ℕ) (I : Progress E → Type 0) (c : Candidate E) (s s' : Progress E) → going s' ≡ consider_in P b J c s
-    → (dropped P.below c s.rows ≡ true → I (record { rows = s.rows; joins = suc s.joins })) → I (record { rows = added P.below b.pass c s.rows; joins = suc s.joins }) → I s'
+    → I (record { rows = s.rows; joins = suc s.joins }) → I (record { rows = added P.below b.pass c s.rows; joins = suc s.joins }) → I s'
 consider-goes {E} P b J I c s s' e p q =
     subst (Post I Any) (sym e)
-    (step-post (algebra_of P) J b.budget b.pass I Any c s (λ e₁. tt) (λ e₁ e₂. p e₂) (λ e₁ e₂ e₃. tt) (λ e₁ e₂ e₃ e₄. tt) (λ e₁ e₂ e₃ e₄. q))
+    (step-post (algebra_of P) J b.budget b.pass I Any c s (λ e₁. tt) (λ e₁ e₂. p) (λ e₁ e₂ e₃. tt) (λ e₁ e₂ e₃ e₄. tt) (λ e₁ e₂ e₃ e₄. q))
   where
     Any : Verdict → ℕ → Progress E → Type 0
     Any v i u = Unit
@@ -127,12 +125,11 @@ module _ {E : Type 0} (F : Composing E) where
 
 -- ---- the loop
 
--- the invariant: the pass under the terms b, in which the candidates `all` were to come at the counts `first` over the journal j₁, where it or the
--- search began, is at the place p, with the counts w over the journal j and the table t
-pub record InPass {E R : Type 0} (b : Terms) (P : Problem E R) (all : List (Candidate E)) (first : Counts) (j₁ : List R) (t : List ℕ) (w : Counts) (j : List R) (p : Place) : Type 0 where
+-- the invariant: the pass under the terms b, which began with the counts `first` over the journal j₁, is at the place p, with the counts w over
+-- the journal j and the table t
+pub record InPass {E R : Type 0} (b : Terms) (P : Problem E R) (first : Counts) (j₁ : List R) (t : List ℕ) (w : Counts) (j : List R) (p : Place) : Type 0 where
   -- the rows that the pass began with: the lists have those that were live, and are measured, the place is one of theirs, and all are kept
   pub rows : List (Row E)
-  pub numbers : (x : ℕ) → live_numbers 0 rows x ≡ start_numbers b.pass (first_rows P first.used j₁) x
   pub listed : Listed rows (lists_in t)
   pub measured : Measured b.old (lists_in t)
   pub places : PassFrom (lists_in t) P.rules p
@@ -142,26 +139,16 @@ pub record InPass {E R : Type 0} (b : Terms) (P : Problem E R) (all : List (Cand
   pub stands : LeftFrom P.composing (unread P) rows P.rules (lists_in t) p candidates
   pub points : (c : Candidate E) → In c candidates → Repeats (length rows) c
   pub known : Known P b.old candidates (first_rows P w.used j)
-  pub left : Remaining P.row_of b.budget (walk_from P b all first j₁) (walk_in P b (length j₁) candidates (progress_of P.row_of w j)) first j₁ w j
-  -- and what is done
-  pub before : List (Candidate E)
-  pub split : all ≡ before ++ candidates
-  pub came : walk_from P b before first j₁ ≡ going (progress_of P.row_of w j)
-  -- what the pass forms is known in the next one
-  pub formed : Formed P b.present candidates (first_rows P w.used j)
-  pub inside : b.present ≤ first.used
+  pub left : Remaining P.row_of b.budget (pass_in P b first j₁) (walk_in P b (length j₁) candidates (progress_of P.row_of w j)) first j₁ w j
   pub limit : length j₁ ≤ journal_limit
   pub covering : Covering (first_rows P w.used j) t
 
 pub pass-start : {E R : Type 0} {b : Terms} {P : Problem E R} {first : Counts} {j₁ : List R} {t : List ℕ} {p : Place} → Listed (first_rows P first.used j₁) (lists_in t) → Measured b.old (lists_in t) → PassReady P.row_of b first j₁ t
-    → KnownFrom P b.old first.used j₁ → FirstPlace (lists_in t) P.rules 0 p → b.present ≤ first.used
-    → ((x : ℕ) → live_numbers 0 (first_rows P first.used j₁) x ≡ start_numbers b.pass (first_rows P first.used j₁) x) → InPass b P (candidates_in P (first_rows P first.used j₁)) first j₁ t first j₁ p
-unfolding walk
-pass-start {E} {R} {b} {P} {first} {j₁} {t} {p} l m r k o n s =
+    → KnownFrom P b.old first.used j₁ → FirstPlace (lists_in t) P.rules 0 p → InPass b P first j₁ t first j₁ p
+pass-start {E} {R} {b} {P} {first} {j₁} {t} {p} l m r k o =
     let A = first_rows P first.used j₁ in
     record {
       rows = A;
-      numbers = s;
       listed = l;
       measured = m;
       places = places-first A (omega (arith, rows-length P.row_of first.used j₁ r.room, r.room, r.limit)) l o;
@@ -171,16 +158,11 @@ pass-start {E} {R} {b} {P} {first} {j₁} {t} {p} l m r k o n s =
       points = pass-points (algebra_of P) A (rules_in P) 0;
       known = k;
       left = remaining-start r.room r.paid;
-      before = [];
-      split = refl;
-      came = refl;
-      formed = λ c i h. inl i;
-      inside = n;
       limit = r.limit;
       covering = r.covering;
     }
 
-module _ {E R : Type 0} {b : Terms} {P : Problem E R} {all : List (Candidate E)} {first : Counts} {j₁ : List R} {t : List ℕ} {w : Counts} {j : List R} {p : Place} (g : InPass b P all first j₁ t w j p) where
+module _ {E R : Type 0} {b : Terms} {P : Problem E R} {first : Counts} {j₁ : List R} {t : List ℕ} {w : Counts} {j : List R} {p : Place} (g : InPass b P first j₁ t w j p) where
   abbrev used : List (Row E)
   used = first_rows P w.used j
 
@@ -189,24 +171,15 @@ module _ {E R : Type 0} {b : Terms} {P : Problem E R} {all : List (Candidate E)}
 
   -- these candidates are left
   abbrev Rest : List (Candidate E) → Type 0
-  Rest cs = Remaining P.row_of b.budget (walk_from P b all first j₁) (walk_in P b (length j₁) cs at) first j₁ w j
+  Rest cs = Remaining P.row_of b.budget (pass_in P b first j₁) (walk_in P b (length j₁) cs at) first j₁ w j
 
-  pub pass-end : length P.rules ≤ p.rule → Answers P.row_of b.budget (walk_from P b all first j₁) first j₁ j (Going w)
+  pub pass-end : length P.rules ≤ p.rule → Answers P.row_of b.budget (pass_in P b first j₁) first j₁ j (Going w)
   unfolding walk
   pass-end h = by g.candidates g.stands g.left
     where
-      by : (cs : List (Candidate E)) → LeftFrom P.composing (unread P) g.rows P.rules (lists_in t) p cs → Rest cs → Answers P.row_of b.budget (walk_from P b all first j₁) first j₁ j (Going w)
+      by : (cs : List (Candidate E)) → LeftFrom P.composing (unread P) g.rows P.rules (lists_in t) p cs → Rest cs → Answers P.row_of b.budget (pass_in P b first j₁) first j₁ j (Going w)
       by [] s l = remaining-none l
       by (c ∷ cs) s l = absurd (omega (arith, h, s.0))
-
-  -- what it formed is known where the next one begins
-  pub pass-formed : length P.rules ≤ p.rule → KnownFrom P b.present w.used j
-  pass-formed h z c i r = by g.candidates g.stands (g.formed c i r)
-    where
-      by : (cs : List (Candidate E)) → LeftFrom P.composing (unread P) g.rows P.rules (lists_in t) p cs → In c cs ⊎ (dropped P.below c used ≡ true) → dropped P.below c used ≡ true
-      by cs s (inr d) = d
-      by [] s (inl m) = absurd m
-      by (d ∷ ds) s (inl m) = absurd (omega (arith, h, s.0))
 
   -- the candidate is formed from the used rows
   module _ (h : p.rule < length P.rules) {c : Candidate E} (e : c ≡ candidate_in P used p) where
@@ -216,8 +189,6 @@ module _ {E R : Type 0} {b : Terms} {P : Problem E R} {all : List (Candidate E)}
         × Rest (d ∷ ds)
         × Known P b.old (d ∷ ds) used
         × ((f : Candidate E) → In f (d ∷ ds) → Repeats (length g.rows) f)
-        × (all ≡ g.before ++ (d ∷ ds))
-        × Formed P b.present (d ∷ ds) used
 
     -- what the working order makes of it
     abbrev given : order.Outcome E
@@ -227,11 +198,11 @@ module _ {E R : Type 0} {b : Terms} {P : Problem E R} {all : List (Candidate E)}
     few = omega (arith, rows-length P.row_of w.used j (omega (arith, g.left.room, g.left.same)), g.left.room, g.limit)
 
     next : (d : Candidate E) × (ds : List (Candidate E)) × Next d ds
-    next = by g.candidates g.stands g.left g.known g.points g.split g.formed
+    next = by g.candidates g.stands g.left g.known g.points
       where
-        by : (cs : List (Candidate E)) → LeftFrom P.composing (unread P) g.rows P.rules (lists_in t) p cs → Rest cs → Known P b.old cs used → ((f : Candidate E) → In f cs → Repeats (length g.rows) f) → all ≡ g.before ++ cs → Formed P b.present cs used → (d : Candidate E) × (ds : List (Candidate E)) × Next d ds
-        by [] z l k m v o = absurd (z h)
-        by (d ∷ ds) z l k m v o = (
+        by : (cs : List (Candidate E)) → LeftFrom P.composing (unread P) g.rows P.rules (lists_in t) p cs → Rest cs → Known P b.old cs used → ((f : Candidate E) → In f cs → Repeats (length g.rows) f) → (d : Candidate E) × (ds : List (Candidate E)) × Next d ds
+        by [] z l k m = absurd (z h)
+        by (d ∷ ds) z l k m = (
           d,
           ds,
           (
@@ -242,21 +213,7 @@ module _ {E R : Type 0} {b : Terms} {P : Problem E R} {all : List (Candidate E)}
             l,
             k,
             m,
-            v,
-            o,
           ),
-        )
-
-    -- it comes first
-    pub first-left : (ds : List (Candidate E)) × (g.candidates ≡ c ∷ ds)
-    first-left = by g.candidates g.stands g.points
-      where
-        by : (cs : List (Candidate E)) → LeftFrom P.composing (unread P) g.rows P.rules (lists_in t) p cs → ((f : Candidate E) → In f cs → Repeats (length g.rows) f) → (ds : List (Candidate E)) × (cs ≡ c ∷ ds)
-        by [] z m = absurd (z h)
-        by (d ∷ ds) z m = (
-          ds,
-          ap (λ (y : Candidate E). y ∷ ds)
-              (z.1 ∙ sym (formed-same P.composing (unread P) g.rows used few g.kept P.rules p (subst (Repeats (length g.rows)) z.1 (m d (inl refl)))) ∙ sym e),
         )
 
     -- it would be dropped, if the pass before formed it
@@ -272,83 +229,34 @@ module _ {E R : Type 0} {b : Terms} {P : Problem E R} {all : List (Candidate E)}
       unfolding walk
       split = ap₂ (λ (n : ℕ) (d : Candidate E). and_then (consider_in P b n d at) (walk_in P b (length j₁) next.1)) (sym g.left.same) next.2.0
 
-      pub pass-stopped : EndsFrom P.row_of r → Answers P.row_of b.budget (walk_from P b all first j₁) first j₁ j' r
+      pub pass-stopped : EndsFrom P.row_of r → Answers P.row_of b.budget (pass_in P b first j₁) first j₁ j' r
       pass-stopped z = remaining-stopped next.2.2 given (walk_in P b (length j₁) next.1) split j' s r z a
 
       gone : {w' : Counts} → r ≡ Going w' → Answers P.row_of b.budget given w j j' (Going w')
       gone z = subst (λ (o : Outcome). Answers P.row_of b.budget given w j j' o) z a
 
-      -- what is done then
-      came-on : {w' : Counts} → r ≡ Going w' → walk_from P b (g.before ++ (next.0 ∷ [])) first j₁ ≡ going (progress_of P.row_of w' j')
-      unfolding walk
-      came-on {w'} z =
-          walk-append (algebra_of P) (length j₁) b.budget b.pass g.before (next.0 ∷ []) (progress_of P.row_of first j₁)
-          ∙ ap (λ (o : order.Outcome E). and_then o (walk_in P b (length j₁) (next.0 ∷ []))) g.came
-          ∙ ap₂ (λ (n : ℕ) (d : Candidate E). and_then (consider_in P b n d at) (walk_in P b (length j₁) [])) (sym g.left.same) next.2.0
-          ∙ ap (λ (o : order.Outcome E). and_then o (walk_in P b (length j₁) [])) (sym (gone z).answer)
-
-      split-on : all ≡ (g.before ++ (next.0 ∷ [])) ++ next.1
-      split-on = next.2.5 ∙ sym (append_assoc g.before (next.0 ∷ []) next.1)
-
-      -- and what is formed
-      formed-covered : dropped P.below c used ≡ true → Formed P b.present next.1 used
-      formed-covered u d i h = by (next.2.6 d i h)
-        where
-          by : In d (next.0 ∷ next.1) ⊎ (dropped P.below d used ≡ true) → In d next.1 ⊎ (dropped P.below d used ≡ true)
-          by (inl (inl z)) = inr (subst (λ (y : Candidate E). dropped P.below y used ≡ true) (sym (z ∙ next.2.0)) u)
-          by (inl (inr m)) = inl m
-          by (inr y) = inr y
-
-      formed-added : Laws (algebra_of P) → Formed P b.present next.1 (added P.below b.pass c used)
-      formed-added L d i h =
-          by (next.2.6 d (pass-before (algebra_of P) used new (grown-added (algebra_of P) b.pass c used used (grown-refl used)) fits (rules_in P) 0 d i (below_more d.left h.0, below_more d.right h.1)) h)
-        where
-          new : List (Row E)
-          new = added P.below b.pass c used
-
-          size : length used ≡ w.used
-          size = rows-length P.row_of w.used j (omega (arith, g.left.room, g.left.same))
-
-          fits : length new ≤ absent
-          fits = omega (arith, length-added (algebra_of P) b.pass c used, size, g.left.room, g.limit)
-
-          below_more : (i : ℕ) → PointsBelow b.present i → PointsBelow (length used) i
-          below_more i (inl l) = inl (omega (arith, l, size, g.inside, g.left.grows))
-          below_more i (inr e) = inr e
-
-          by : In d (next.0 ∷ next.1) ⊎ (dropped P.below d used ≡ true) → In d next.1 ⊎ (dropped P.below d new ≡ true)
-          by (inl (inl z)) = inr (subst (λ (y : Candidate E). dropped P.below y new ≡ true) (sym (z ∙ next.2.0)) (covered-dropped (algebra_of P) c new (added-covered (algebra_of P) L b.pass c used)))
-          by (inl (inr m)) = inl m
-          by (inr y) = inr (dropped-added (algebra_of P) L b.pass c d used y)
-
       -- the pass goes on at the next place, over a table with the same lists
-      pub pass-going : Laws (algebra_of P) → {w' : Counts} → r ≡ Going w' → {t' : List ℕ} → lists_in t' ≡ lists_in t → Covering (first_rows P (counts_in r).used j') t' → {q : Place} → NextPlace (lists_in t') P.rules p q → InPass b P all first j₁ t' w' j' q
+      pub pass-going : Laws (algebra_of P) → {w' : Counts} → r ≡ Going w' → {t' : List ℕ} → lists_in t' ≡ lists_in t → Covering (first_rows P (counts_in r).used j') t' → {q : Place} → NextPlace (lists_in t') P.rules p q → InPass b P first j₁ t' w' j' q
       pass-going L {w'} z {t'} u v {q} f =
           let x = gone z in
           record {
             rows = g.rows;
-            numbers = g.numbers;
             listed = subst (Listed g.rows) (sym u) g.listed;
             measured = subst (Measured b.old) (sym u) g.measured;
             places = subst (λ (lists : List ℕ). PassFrom lists P.rules q) (sym u) (places-next h (subst (λ (lists : List ℕ). NextPlace lists P.rules p q) u f) g.places).0;
-            kept = consider-goes P b (length j) (λ y. Kept (unread P) g.rows y.rows) c at (progress_of P.row_of w' j') x.answer (λ _. g.kept) (kept-added (unread P) P.below b.pass c g.rows used g.kept);
+            kept = consider-goes P b (length j) (λ y. Kept (unread P) g.rows y.rows) c at (progress_of P.row_of w' j') x.answer g.kept (kept-added (unread P) P.below b.pass c g.rows used g.kept);
             candidates = next.1;
             stands = subst (λ (lists : List ℕ). LeftFrom P.composing (unread P) g.rows P.rules lists q next.1) (sym u) (next.2.1 q (subst (λ (lists : List ℕ). NextPlace lists P.rules p q) u f));
             points = λ d m. next.2.4 d (inr m);
-            known = consider-goes P b (length j) (λ y. Known P b.old next.1 y.rows) c at (progress_of P.row_of w' j') x.answer (λ _. others) (λ z d m e. dropped-added (algebra_of P) L b.pass c d used (others z d m e));
+            known = consider-goes P b (length j) (λ y. Known P b.old next.1 y.rows) c at (progress_of P.row_of w' j') x.answer others (λ z d m e. dropped-added (algebra_of P) L b.pass c d used (others z d m e));
             left = remaining-going next.2.2 given (walk_in P b (length j₁) next.1) split j' s w' x;
-            before = g.before ++ (next.0 ∷ []);
-            split = split-on;
-            came = came-on z;
-            formed = consider-goes P b (length j) (λ y. Formed P b.present next.1 y.rows) c at (progress_of P.row_of w' j') x.answer formed-covered (formed-added L);
-            inside = g.inside;
             limit = g.limit;
             covering = subst (λ (o : Outcome). Covering (first_rows P (counts_in o).used j') t') z v;
           }
 
   -- a candidate that a live row covers is one join, and nothing else
   pub pass-covered : Laws (algebra_of P) → p.rule < length P.rules → w.joins < b.budget → dropped P.below (candidate_in P used p) used ≡ true → {q : Place} → NextPlace (lists_in t) P.rules p q
-      → InPass b P all first j₁ t (with_join w) j q
+      → InPass b P first j₁ t (with_join w) j q
   pass-covered L h paid e {q} f =
       let c : Candidate E = candidate_in P used p in
       let room : w.used ≤ length j = omega (arith, g.left.room, g.left.same) in
@@ -356,7 +264,7 @@ module _ {E R : Type 0} {b : Terms} {P : Problem E R} {all : List (Candidate E)}
 
   -- a candidate that the pass before formed is one join, and nothing else
   pub pass-over : Laws (algebra_of P) → p.rule < length P.rules → w.joins < b.budget → repeats_at b.old p ≡ true → {q : Place} → NextPlace (lists_in t) P.rules p q
-      → InPass b P all first j₁ t (with_join w) j q
+      → InPass b P first j₁ t (with_join w) j q
   pass-over L h paid e {q} f =
       let c : Candidate E = candidate_in P used p in
       let z = formed-repeats P.composing (unread P) b.old used P.rules p e in

@@ -35,14 +35,13 @@ use Rattle.search_cover.specs.declared.CoverAnswer.{CoverAnswer}
 use Rattle.search_laws.specs.Meanings.{counts_in, with_join, decided_by, decided_in}
 use Rattle.search_laws.specs.Nearing.{beside-after}
 use Rattle.search_laws.specs.OnRelations.{Letters, problem_in, CoverFound, NearIn, Looked, fate_for, MayInsert, CandidateInserted, Running, Considered}
-use Rattle.search_laws.specs.Passes.{Aim}
 use Rattle.search_laws.specs.Problems.{RuleBytes, algebra_of}
 use Rattle.search_laws.specs.RunLaws.{started, may-find, stands_on, goes_on, used-fits, limit, pass-some, rule-inside, formed-there}
 
 pub problem-laws : (starts finals : ℕ) (letters : Letters) (rules : RuleBytes) → Laws (algebra_of (problem_in starts finals letters rules))
 problem-laws starts finals letters rules = base-by-laws states (members_of starts) (λ c. value (relation_in letters c)) (bit finals)
 
-module _ {letters : Letters} {rules : RuleBytes} {aim : Aim ℕ} {start : State} {j₀ : Journal} {s : State} {j : Journal} {t : List ℕ} (r : Running letters rules aim start j₀ s j t) (g : T s.going) where
+module _ {letters : Letters} {rules : RuleBytes} {start : State} {j₀ : Journal} {s : State} {j : Journal} {t : List ℕ} (r : Running letters rules start j₀ s j t) (g : T s.going) where
   pub may-form : s.place.rule < length rules
   may-form = rule-inside r.search g
 
@@ -60,7 +59,7 @@ module _ {letters : Letters} {rules : RuleBytes} {aim : Aim ℕ} {start : State}
         }
 
     pub considered : candidate_of c ≡ formed_in letters rules s (get_or j s.left_row blank) (get_or j s.right_row blank) → {j' : Journal} {t' : List ℕ} → CandidateInserted s c l j t j' t'
-        → Considered letters rules aim start j₀ s c f l j' t'
+        → Considered letters rules start j₀ s c f l j' t'
     considered formed inserted =
         record {
           before = j;

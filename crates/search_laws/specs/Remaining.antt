@@ -2,9 +2,10 @@
 use Rattle.std.specs.Prelude.{◌≡◌, refl, List, ℕ, ◌+◌, ◌≤◌, length}
 use Rattle.std.proofs.Common.{sym, ap, ◌∙◌, subst, le_refl, le_trans, arith}
 use Rattle.spec_basics.specs.Lists.{drop-later-same}
-use Rattle.spec_order.specs.Journal.{Row, KeptBeyond}
+use Rattle.spec_order.specs.Journal.{Row}
 use Rattle.spec_order.specs.Order.{going, and_then}
 use Rattle.spec_order.specs.Order as order
+use Rattle.search_links.specs.Rows.{KeptBeyond}
 use Rattle.search_laws.specs.Meanings.{progress_of, outcome_of, counts_in}
 use Rattle.search_laws.specs.Clauses.{Answers}
 use Rattle.search_state.specs.declared.Counts.{Counts}

@@ -10,11 +10,10 @@ use Rattle.search_state.specs.PositionLaws.{position-inside, position-row}
 use Rattle.search_state.specs.Positions.{position_row}
 use Rattle.search_state.specs.declared.State.{State}
 use Rattle.search_laws.specs.Problems.{RuleBytes, Problem, first_rows, unread}
-use Rattle.search_laws.specs.Passes.{Aim}
 use Rattle.search_laws.specs.Walks.{candidate_in}
 use Rattle.search_laws.specs.Running.{InLimits, Goes, SearchAt, MayFind, problem_at, Running}
 
-module _ {E R : Type 0} {P : Problem E R} {rules : RuleBytes} {aim : Aim E} {start : State} {j₀ : List R} {s : State} {j : List R} {t : List ℕ} (r : Running P rules aim start j₀ s j t) (g : T s.going) where
+module _ {E R : Type 0} {P : Problem E R} {rules : RuleBytes} {start : State} {j₀ : List R} {s : State} {j : List R} {t : List ℕ} (r : Running P rules start j₀ s j t) (g : T s.going) where
   -- what it works on
   abbrev pub works-on : Problem E R
   works-on = problem_at P rules start
@@ -26,13 +25,13 @@ module _ {E R : Type 0} {P : Problem E R} {rules : RuleBytes} {aim : Aim E} {sta
       by true e = tt
       by false e = subst T (ap (λ (x : State). x.going) (r.idle (subst (λ (b : Bool). T (not b)) (sym e) tt)).0 ∙ e) g
 
-  pub stands_on : SearchAt works-on start.terms.budget aim j₀ s j t
+  pub stands_on : SearchAt works-on start.terms.budget j₀ s j t
   stands_on = r.stands started
 
-  pub goes_on : Goes works-on start.terms.budget aim j₀ s j t
+  pub goes_on : Goes works-on start.terms.budget j₀ s j t
   goes_on = stands_on.goes g
 
-  pub sized : InLimits aim j₀
+  pub sized : InLimits j₀
   sized = r.sized started
 
   pub used-fits : s.counts.used ≤ length j
@@ -42,7 +41,7 @@ module _ {E R : Type 0} {P : Problem E R} {rules : RuleBytes} {aim : Aim E} {sta
   limit = omega (arith, sized.limit, stands_on.size)
 
   some-row : 0 < length j
-  some-row = omega (arith, r.some started, stands_on.size)
+  some-row = omega (arith, sized.some, stands_on.size)
 
   pub left-inside : s.left_row < length j
   left-inside = subst (λ (n : ℕ). n < length j) (sym goes_on.left) (position-inside s.place.left s.counts.used (length j) used-fits some-row)

@@ -1,9 +1,8 @@
 -- The invariant of the search between candidates, and what each step keeps of it, for every journal, whatever an effect is. The letters are
 -- those at the head of src/lib.rt. Definitions only. Assumes nothing.
-use Rattle.std.specs.Prelude.{◌≡◌, Bool, false, not, cond, List, ℕ, suc, ◌-◌, ◌≤◌, ◌<◌, T, length, take}
+use Rattle.std.specs.Prelude.{◌≡◌, Bool, not, cond, List, ℕ, suc, ◌-◌, ◌≤◌, ◌<◌, T, length, take}
 use Rattle.spec_order.specs.Candidates.{Candidate}
-use Rattle.spec_order.specs.Order.{dropped}
-use Rattle.spec_calls.specs.Codes.{full_code}
+use Rattle.spec_order.specs.Order as order
 use Rattle.search_state.specs.declared.Place.{Place}
 use Rattle.search_state.specs.Layout.{row_cells, lists_in}
 use Rattle.search_order.specs.Places as places
@@ -17,37 +16,37 @@ use Rattle.search_state.specs.declared.Counts.{Counts}
 use Rattle.search_state.specs.declared.Fate.{Fate}
 use Rattle.search_state.specs.declared.State.{State}
 use Rattle.search_state.specs.declared.Terms.{Terms}
-use Rattle.search_laws.specs.Clauses.{Answers, Checked}
+use Rattle.search_laws.specs.Clauses.{Answers, Checked, order_of}
 use Rattle.search_laws.specs.Meanings.{counts_in, decided_in, answer_in}
-use Rattle.search_laws.specs.Passes.{Aim, AtPass, WithinPass, aim_from}
+use Rattle.search_laws.specs.Passes.{AtPass}
 use Rattle.search_laws.specs.Passing.{InPass}
 use Rattle.search_laws.specs.Problems.{RuleBytes, Problem, first_rows, with_rules, terms_of}
-use Rattle.search_laws.specs.States.{taken_back, all_linked, opening}
-use Rattle.search_laws.specs.Walks.{candidate_in, walk_from, KnownFrom}
+use Rattle.search_laws.specs.States.{all_linked, opening}
+use Rattle.search_laws.specs.Walks.{candidate_in, pass_in, KnownFrom}
 use Rattle.search_laws.specs.declared.Outcome.TheVariants.{Going}
 use Rattle.search_laws.specs.declared.Reached.{Reached}
 
 -- ---- the invariant
 
--- the journal has not too many rows, and not too many passes lie before the first one: passes are counted in 16 bits
-pub record InLimits {E R : Type 0} (aim : Aim E) (j₀ : List R) : Type 0 where
+-- the journal has a row and not too many
+pub record InLimits {R : Type 0} (j₀ : List R) : Type 0 where
+  pub some : 0 < length j₀
   pub limit : length j₀ ≤ row_cells
-  pub past : aim.past ≤ row_cells
 
--- of a search on the problem P, with a budget of B joins, that must come to `aim` and began over the journal j₀
-module _ {E R : Type 0} (P : Problem E R) (B : ℕ) (aim : Aim E) (j₀ : List R) where
-  -- the search is in pass `pass`; it, or the search, began there with the counts w over the journal j, and `all` was to come. `before` is the rows
-  -- used when the pass before began, and `present` those when this one did
+-- of a search on the problem P, with a budget of B joins, that began over the journal j₀
+module _ {E R : Type 0} (P : Problem E R) (B : ℕ) (j₀ : List R) where
+  -- the answer that the search must come to
+  abbrev pub target : order.Answer E
+  target = order_of P (length j₀) B
+
+  -- the search is in pass `pass`, which began with the counts w over the journal j; `before` is the rows used when the pass before began
   pub record PassBegun (s : State) (w : Counts) (j : List R) : Type 0 where
     pub pass : ℕ
     pub before : ℕ
-    pub present : ℕ
-    pub all : List (Candidate E)
-    pub began : ℕ
-    pub at-pass : WithinPass P B aim j₀ all began w j pass
-    pub earlier : before ≤ present
-    pub inside : present ≤ w.used
-    pub terms : s.terms ≡ terms_of P B pass present before
+    pub at-pass : AtPass P B target j₀ w j pass
+    pub fits : before ≤ row_cells
+    pub known : KnownFrom P before w.used j
+    pub terms : s.terms ≡ terms_of P B pass w.used before
 
   -- the search is at a place of the pass: `first` and `journal` are the counts and the journal when the pass began, the candidates from the
   -- place on give the answer, and the budget leaves a join
@@ -55,18 +54,11 @@ module _ {E R : Type 0} (P : Problem E R) (B : ℕ) (aim : Aim E) (j₀ : List R
     pub first : Counts
     pub journal : List R
     pub begun : PassBegun s first journal
-    pub in-pass : InPass s.terms P begun.all first journal t s.counts j s.place
+    pub in-pass : InPass s.terms P first journal t s.counts j s.place
     pub here : s.place.rule < length P.rules
     pub left : s.left_row ≡ position_row s.place.left s.counts.used
     pub right : s.right_row ≡ position_row s.place.right s.counts.used
     pub unspent : s.counts.joins < B
-
-  -- the search has ended full: it stands before the candidate of its place, with the join taken back; no row is unused, and none covers it
-  pub record WantsAt (s : State) (j : List R) (t : List ℕ) : Type 0 where
-    pub before : Goes (taken_back s) j t
-    pub counted : 1 ≤ s.counts.joins
-    pub used-up : s.counts.used ≡ length j
-    pub uncovered : dropped P.below (candidate_in P (first_rows P s.counts.used j) s.place) (first_rows P s.counts.used j) ≡ false
 
   -- the search is at a place, or has ended with the answer that it must come to
   pub record SearchAt (s : State) (j : List R) (t : List ℕ) : Type 0 where
@@ -74,8 +66,7 @@ module _ {E R : Type 0} (P : Problem E R) (B : ℕ) (aim : Aim E) (j₀ : List R
     pub rows : s.rows ≡ length j₀
     pub count : s.rules ≡ length P.rules
     pub goes : T s.going → Goes s j t
-    pub ends : T (not s.going) → Checked P.row_of aim.answer j₀ j (answer_in s)
-    pub wants : s.verdict ≡ full_code → WantsAt s j t
+    pub ends : T (not s.going) → Checked P.row_of target j₀ j (answer_in s)
 
   -- what every step between candidates keeps: the invariant `SearchAt`, at least the joins of `w`, its rows, the same budget
   pub record Onward (w : Counts) (r : State) (j : List R) (t : List ℕ) : Type 0 where
@@ -125,25 +116,19 @@ module _ {E R : Type 0} (P : Problem E R) (rules : RuleBytes) where
   abbrev pub problem_at : State → Problem E R
   problem_at start = with_rules P (take start.rules rules)
 
-  -- what a search must come to that begins with the pass of the state `start`, over its used rows of the journal j₀
-  abbrev pub aim_at : State → List R → Aim E
-  aim_at start j₀ = aim_from (problem_at start) start.terms.budget start.terms.pass start.counts.used j₀
-
-  -- the invariant of the loop: the search that began in the state `start` over the journal j₀ and must come to `aim` is now in s, over j and t
-  pub record Running (aim : Aim E) (start : State) (j₀ : List R) (s : State) (j : List R) (t : List ℕ) : Type 0 where
+  -- the invariant of the loop: the search that began in the state `start` over the journal j₀ is now in s, over j and t
+  pub record Running (start : State) (j₀ : List R) (s : State) (j : List R) (t : List ℕ) : Type 0 where
     -- a search that had ended before it began leaves all as it is
     pub idle : T (not start.going) → (s ≡ start) × (j ≡ j₀)
-    -- the journal has a row to read
-    pub some : T start.going → 0 < length j₀
-    pub sized : T start.going → InLimits aim j₀
+    pub sized : T start.going → InLimits j₀
     pub whole : T start.going → start.rules ≤ length rules
-    pub stands : T start.going → SearchAt (problem_at start) start.terms.budget aim j₀ s j t
+    pub stands : T start.going → SearchAt (problem_at start) start.terms.budget j₀ s j t
 
   -- the candidate c of the place has been looked for, and inserted where no row covers it and there is room
-  pub record Considered (aim : Aim E) (start : State) (j₀ : List R) (s : State) (c : Candidate E) (f : Fate) (l : CoverAnswer) (j : List R) (t : List ℕ) : Type 0 where
+  pub record Considered (start : State) (j₀ : List R) (s : State) (c : Candidate E) (f : Fate) (l : CoverAnswer) (j : List R) (t : List ℕ) : Type 0 where
     pub before : List R
     pub table : List ℕ
-    pub running : Running aim start j₀ s before table
+    pub running : Running start j₀ s before table
     pub going : T s.going
     pub formed : c ≡ candidate_in (problem_at start) (first_rows P s.counts.used before) s.place
     pub found : CoverFound P s c before table l
@@ -152,40 +137,40 @@ module _ {E R : Type 0} (P : Problem E R) (rules : RuleBytes) where
 
 -- ---- the steps between candidates
 
--- P: any problem; Q: the same with the rules of the search. B: the budget; aim: what the search must come to. j₀: the journal when the search
--- began; j₁, first: the journal and the counts when the pass began; j, w: those now. k: the pass; m: the rows used when the pass before began.
--- t, t': the table before and after the step; s, r: the state
+-- P: any problem; Q: the same with the rules of the search. B: the budget. j₀: the journal when the search began; j₁, first: the journal and
+-- the counts when the pass began; j, w: those now. k: the pass; m: the rows used when the pass before began. t, t': the table before and after
+-- the step; s, r: the state
 
 -- under the terms b the candidate of x is done, with its counts: the invariant of the pass holds at the place after it
-abbrev pub DoneAt : {E R : Type 0} → Terms → Problem E R → List (Candidate E) → Counts → List R → List ℕ → List R → Reached → Type 0
-DoneAt b Q all first j₁ t j x = (q : Place) → places.NextPlace (lists_in t) Q.rules x.place q → InPass b Q all first j₁ t x.counts j q
+abbrev pub DoneAt : {E R : Type 0} → Terms → Problem E R → Counts → List R → List ℕ → List R → Reached → Type 0
+DoneAt b Q first j₁ t j x = (q : Place) → places.NextPlace (lists_in t) Q.rules x.place q → InPass b Q first j₁ t x.counts j q
 
 module _ {E R : Type 0} (P : Problem E R) where
   -- opening a pass over the first n rules with the counts w, which has come to x: the invariant holds of the state there
   abbrev pub OpensPass : RuleBytes → List ℕ → ℕ → Terms → Counts → List ℕ → Reached → Type 0
   OpensPass rules t n b w t' x =
-      (B : ℕ) (aim : Aim E) (j₀ j : List R) (k m : ℕ) (s : State) → let Q = with_rules P (take n rules) in s.rules ≡ n → InLimits aim j₀ → s.rows ≡ length j₀
-      → AtPass Q B aim j₀ w j k → b ≡ terms_of P B k w.used m → m ≤ w.used
-      → KnownFrom Q m w.used j → Covering (first_rows Q w.used j) t → Onward Q B aim j₀ w (opening s b x (all_linked b.starts t')) j t'
+      (B : ℕ) (j₀ j : List R) (k m : ℕ) (s : State) → let Q = with_rules P (take n rules) in s.rules ≡ n → InLimits j₀ → s.rows ≡ length j₀
+      → AtPass Q B (target Q B j₀) j₀ w j k → b ≡ terms_of P B k w.used m
+      → KnownFrom Q m w.used j → Covering (first_rows Q w.used j) t → Onward Q B j₀ w (opening s b x (all_linked b.starts t')) j t'
 
   -- closing the pass of s, which is over with the counts w: the invariant holds of r, in the next pass or at the end
   abbrev pub Closes : RuleBytes → List ℕ → State → Counts → List ℕ → State → Type 0
   Closes rules t s w t' r =
-      (B : ℕ) (aim : Aim E) (j₀ : List R) (first : Counts) (j₁ j : List R) → let Q = with_rules P (take s.rules rules) in InLimits aim j₀ → s.rows ≡ length j₀
-      → (y : PassBegun Q B aim j₀ s first j₁) → length j ≡ length j₁ → Answers Q.row_of B (walk_from Q s.terms y.all first j₁) first j₁ j (Going w)
-      → KnownFrom Q s.terms.present w.used j → Covering (first_rows Q w.used j) t → Onward Q B aim j₀ w r j t'
+      (B : ℕ) (j₀ : List R) (first : Counts) (j₁ j : List R) → let Q = with_rules P (take s.rules rules) in InLimits j₀ → s.rows ≡ length j₀
+      → PassBegun Q B j₀ s first j₁ → length j ≡ length j₁ → Answers Q.row_of B (pass_in Q s.terms first j₁) first j₁ j (Going w)
+      → Covering (first_rows Q w.used j) t → Onward Q B j₀ w r j t'
 
   -- from the place x that the pass of s has come to: the invariant holds of r, at x, at a later place or past the pass
   abbrev pub GoesFrom : RuleBytes → List ℕ → State → Reached → List ℕ → State → Type 0
   GoesFrom rules t s x t' r =
-      (B : ℕ) (aim : Aim E) (j₀ : List R) (first : Counts) (j₁ j : List R) → let Q = with_rules P (take s.rules rules) in InLimits aim j₀ → s.rows ≡ length j₀ → (y : PassBegun Q B aim j₀ s first j₁)
-      → InPass s.terms Q y.all first j₁ t x.counts j x.place → Onward Q B aim j₀ x.counts r j t'
+      (B : ℕ) (j₀ : List R) (first : Counts) (j₁ j : List R) → let Q = with_rules P (take s.rules rules) in InLimits j₀ → s.rows ≡ length j₀ → PassBegun Q B j₀ s first j₁
+      → InPass s.terms Q first j₁ t x.counts j x.place → Onward Q B j₀ x.counts r j t'
 
   -- after the candidate of s, which is done with the counts w: the invariant holds of r
   abbrev pub GoesOnOver : RuleBytes → List ℕ → State → Counts → List ℕ → State → Type 0
   GoesOnOver rules t s w t' r =
-      (B : ℕ) (aim : Aim E) (j₀ : List R) (first : Counts) (j₁ j : List R) → let Q = with_rules P rules in InLimits aim j₀ → s.rows ≡ length j₀ → s.place.rule < length rules → (y : PassBegun Q B aim j₀ s first j₁)
-      → DoneAt s.terms Q y.all first j₁ t j (record { counts = w; place = s.place }) → Onward Q B aim j₀ w r j t'
+      (B : ℕ) (j₀ : List R) (first : Counts) (j₁ j : List R) → let Q = with_rules P rules in InLimits j₀ → s.rows ≡ length j₀ → s.place.rule < length rules → PassBegun Q B j₀ s first j₁
+      → DoneAt s.terms Q first j₁ t j (record { counts = w; place = s.place }) → Onward Q B j₀ w r j t'
 
   abbrev pub GoesOn : RuleBytes → List ℕ → State → Counts → List ℕ → State → Type 0
   GoesOn rules t s w t' r = GoesOnOver (take s.rules rules) t s w t' r
@@ -193,5 +178,5 @@ module _ {E R : Type 0} (P : Problem E R) where
   -- after a candidate c that was considered: the invariant of the loop holds of r, its measure has fallen, and no row was used but for c
   abbrev pub Advances : RuleBytes → List ℕ → State → Fate → CoverAnswer → List ℕ → State → Type 0
   Advances rules t s f l t' r =
-      (aim : Aim E) (start : State) (j₀ j : List R) (c : Candidate E) → Considered P rules aim start j₀ s c f l j t
-      → Running P rules aim start j₀ r j t' × (candidates_left r < candidates_left s) × (T r.going → r.counts.used ≡ (counts_in (decided_in s f)).used)
+      (start : State) (j₀ j : List R) (c : Candidate E) → Considered P rules start j₀ s c f l j t
+      → Running P rules start j₀ r j t' × (candidates_left r < candidates_left s) × (T r.going → r.counts.used ≡ (counts_in (decided_in s f)).used)

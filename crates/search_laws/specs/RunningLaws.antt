@@ -3,9 +3,9 @@ use Rattle.std.specs.Prelude.{◌≡◌, refl, Bool, true, false, List, ℕ, ◌
 use Rattle.std.proofs.Common.{sym, ap, ◌∙◌, subst, le_refl, le_trans, arith, leb-true, leb-false, eq-eqb, ne_eqb, ltb-true, ltb-false}
 use Rattle.spec_order.specs.Algebra.{Laws}
 use Rattle.spec_order.specs.Candidates.{Candidate}
-use Rattle.spec_order.specs.Journal.{Row, no_row}
+use Rattle.spec_order.specs.Journal.{Row}
 use Rattle.spec_order.specs.Order.{has_row}
-use Rattle.spec_calls.specs.Codes.{full_code, spent_code}
+use Rattle.spec_calls.specs.Codes.{spent_code}
 use Rattle.search_state.specs.declared.Place.{Place}
 use Rattle.search_state.specs.Layout.{row_cells, lists_in}
 use Rattle.spec_basics.specs.Lists.{each_same}
@@ -29,15 +29,14 @@ use Rattle.search_laws.specs.Clauses.{PassReady, Answers, Checked}
 use Rattle.search_laws.specs.Deciding.{answers-spent}
 use Rattle.search_laws.specs.Meanings.{counts_in, in_next_pass, totals_of, answer_at, finished_by, code_of, answer_in}
 use Rattle.search_laws.specs.Problems.{RuleBytes, Problem, algebra_of, first_rows, terms_of}
-use Rattle.search_laws.specs.Passes.{Aim, AtPass, WithinPass, at-within, pass-done, pass-again}
-use Rattle.search_laws.specs.PassNumbers.{numbers-before}
+use Rattle.search_laws.specs.Passes.{AtPass, pass-done, pass-again, pass-known}
 use Rattle.search_laws.specs.Passing.{InPass, pass-start, pass-end, pass-stopped}
 use Rattle.search_laws.specs.Steps.{MeasuresIn, LinksAlong, PassesOver}
 use Rattle.search_laws.specs.StepLaws.{over-counted}
 use Rattle.search_laws.specs.PassingOver.{over-stands}
-use Rattle.search_laws.specs.Running.{InLimits, PassBegun, Onward}
+use Rattle.search_laws.specs.Running.{target, InLimits, PassBegun, Onward}
 use Rattle.search_laws.specs.States.{ended, standing_by, standing, all_linked, finished, opening_by, opening}
-use Rattle.search_laws.specs.Walks.{candidate_in, candidates_in, walk_from, nonempty_in, KnownFrom}
+use Rattle.search_laws.specs.Walks.{candidate_in, pass_in, nonempty_in, KnownFrom}
 use Rattle.search_laws.specs.declared.Answer.TheVariants as answer
 use Rattle.search_laws.specs.declared.Answer.{Answer}
 use Rattle.search_laws.specs.declared.Outcome.TheVariants as outcome
@@ -61,25 +60,8 @@ unbroken-back unbroken.Full n = refl
 unbroken-back unbroken.Spent n = refl
 unbroken-back unbroken.Empty n = refl
 
--- the last pass does not end a search full
-last_code : (nonempty : Bool) → code_of (finished_by nonempty) ≡ full_code → ⊥
-last_code true z = omega (arith, z)
-last_code false z = omega (arith, z)
-
--- a pass is opened under its terms
-pub opening-terms : (s : State) (b : Terms) (x : Reached) (nonempty : Bool) → (opening s b x nonempty).terms ≡ b
-opening-terms s b x nonempty = by (ltb x.place.rule s.rules)
-  where
-    stands : (q : Bool) → (standing_by q s b x.counts x.place).terms ≡ b
-    stands true = refl
-    stands false = refl
-
-    by : (p : Bool) → (opening_by p s b x nonempty).terms ≡ b
-    by true = stands (is_spent b.budget x.counts.joins)
-    by false = refl
-
 -- the lists are measured, and the links as they were
-pub measures-covering : {E : Type 0} {A : List (Row E)} {b : ℕ} {t t' : List ℕ} → length A ≤ row_cells → MeasuresIn b t t' → Covering A t → Covering A t'
+measures-covering : {E : Type 0} {A : List (Row E)} {b : ℕ} {t t' : List ℕ} → length A ≤ row_cells → MeasuresIn b t t' → Covering A t → Covering A t'
 measures-covering {E} {A} {b} {t} {t'} few m c = covering-links A t t' few m.size (λ i l. m.links i (omega (arith, l))) c
 
 -- the first place along the lists of the links is one of the pass
@@ -88,47 +70,43 @@ opens-place {u} {b} {t} {t'} {t''} l h g m o =
     let few : length l.rows ≤ row_cells = omega (arith, l.size, h) in
     places-first l.rows few (measures-listed (live_numbers 0 l.rows) m.lists (gathered-listed l.rows few t t' l.covering (subst (λ (n : ℕ). Gathered n t t') (sym l.size) g))) o
 
-module _ {E R : Type 0} (P : Problem E R) (B : ℕ) (aim : Aim E) (j₀ : List R) (s : State) (rows : s.rows ≡ length j₀) (count : s.rules ≡ length P.rules) where
+module _ {E R : Type 0} (P : Problem E R) (B : ℕ) (j₀ : List R) (s : State) (rows : s.rows ≡ length j₀) (count : s.rules ≡ length P.rules) where
   -- the terms of pass k, which began at w, after one that began with n rows
   abbrev pub at : ℕ → ℕ → Counts → Terms
   at k n w = terms_of P B k w.used n
 
-  -- an end, but not where a row is wanted
-  over : (w : Counts) (b : Terms) (v i : ℕ) (j : List R) (t : List ℕ) → length j ≡ length j₀ → b.budget ≡ B → (v ≡ full_code → ⊥) → Checked P.row_of aim.answer j₀ j (answer_in (ended s b w v i)) → Onward P B aim j₀ w (ended s b w v i) j t
-  over w b v i j t e f n c = record { stands = record { size = e; rows = rows; count = count; goes = λ z. absurd z; ends = λ _. c; wants = λ z. absurd (n z) }; joins = le_refl w.joins; used = refl; budget = f }
+  -- an end
+  over : (w : Counts) (b : Terms) (v i : ℕ) (j : List R) (t : List ℕ) → length j ≡ length j₀ → b.budget ≡ B → Checked P.row_of (target P B j₀) j₀ j (answer_in (ended s b w v i)) → Onward P B j₀ w (ended s b w v i) j t
+  over w b v i j t e f c = record { stands = record { size = e; rows = rows; count = count; goes = λ z. absurd z; ends = λ _. c }; joins = le_refl w.joins; used = refl; budget = f }
 
-  pub onward-from : {w₀ w : Counts} {r : State} {j : List R} {t : List ℕ} → w₀.joins ≤ w.joins → w.used ≡ w₀.used → Onward P B aim j₀ w r j t → Onward P B aim j₀ w₀ r j t
+  pub onward-from : {w₀ w : Counts} {r : State} {j : List R} {t : List ℕ} → w₀.joins ≤ w.joins → w.used ≡ w₀.used → Onward P B j₀ w r j t → Onward P B j₀ w₀ r j t
   onward-from h e o = record { stands = o.stands; joins = le_trans h o.joins; used = o.used ∙ e; budget = o.budget }
 
-  module _ {first : Counts} {j₁ : List R} {k : ℕ} {all : List (Candidate E)} {began : ℕ} (a : WithinPass P B aim j₀ all began first j₁ k) (m n : ℕ) where
-    -- the terms, where m rows were there when the pass began, and n when the one before did
-    abbrev on : Terms
-    on = terms_of P B k m n
-
+  module _ {first : Counts} {j₁ : List R} {k : ℕ} (a : AtPass P B (target P B j₀) j₀ first j₁ k) (n : ℕ) where
     -- an outcome that ends everything
-    pub stops : {j : List R} → length j ≡ length j₁ → (o : Outcome) {y : Answer} → Answers P.row_of B (walk_from P on all first j₁) first j₁ j o
-        → end_of (nonempty_in P (counts_in o).used j) k o ≡ Done y → Checked P.row_of aim.answer j₀ j y
+    pub stops : {j : List R} → length j ≡ length j₁ → (o : Outcome) {y : Answer} → Answers P.row_of B (pass_in P (at k n first) first j₁) first j₁ j o
+        → end_of (nonempty_in P (counts_in o).used j) k o ≡ Done y → Checked P.row_of (target P B j₀) j₀ j y
     stops e o x d = pass-done a e {r = o} x d
 
     -- ---- at a place
 
-    module _ (earlier : n ≤ m) (inside : m ≤ first.used) {t : List ℕ} {w : Counts} {j : List R} {p : Place} (g : InPass on P all first j₁ t w j p) where
+    module _ (fits : n ≤ row_cells) (known : KnownFrom P n first.used j₁) {t : List ℕ} {w : Counts} {j : List R} {p : Place} (g : InPass (at k n first) P first j₁ t w j p) where
       size : length j ≡ length j₀
       size = g.left.same ∙ a.same
 
       -- the budget is spent there
-      spent-there : p.rule < length P.rules → w.joins ≡ B → Checked P.row_of aim.answer j₀ j (answer.Ended unbroken.Spent (totals_of w k))
+      spent-there : p.rule < length P.rules → w.joins ≡ B → Checked P.row_of (target P B j₀) j₀ j (answer.Ended unbroken.Spent (totals_of w k))
       spent-there h e =
           let c : Candidate E = candidate_in P (first_rows P w.used j) p in
           stops g.left.same (outcome.Stopped (stop.Ended unbroken.Spent w))
           (pass-stopped g h {c = c} refl refl {r = outcome.Stopped (stop.Ended unbroken.Spent w)}
-          (answers-spent P on c w j (omega (arith, g.left.room, g.left.same)) g.left.paid e) (λ i K. refl)) refl
+          (answers-spent P (at k n first) c w j (omega (arith, g.left.room, g.left.same)) g.left.paid e) (λ i K. refl)) refl
 
-      pub stand-there : p.rule < length P.rules → Onward P B aim j₀ w (standing s on w p) j t
+      pub stand-there : p.rule < length P.rules → Onward P B j₀ w (standing s (at k n first) w p) j t
       stand-there h = by (is_spent B w.joins) refl
         where
-          by : (b : Bool) → is_spent B w.joins ≡ b → Onward P B aim j₀ w (standing_by b s on w p) j t
-          by true e = over w on spent_code 0 j t size refl (λ z. omega (arith, z)) (spent-there h (omega (arith, leb-true B w.joins e, g.left.paid)))
+          by : (b : Bool) → is_spent B w.joins ≡ b → Onward P B j₀ w (standing_by b s (at k n first) w p) j t
+          by true e = over w (at k n first) spent_code 0 j t size refl (spent-there h (omega (arith, leb-true B w.joins e, g.left.paid)))
           by false e =
               record {
                 stands = record {
@@ -138,7 +116,7 @@ module _ {E R : Type 0} (P : Problem E R) (B : ℕ) (aim : Aim E) (j₀ : List R
                   goes = λ _. record {
                     first = first;
                     journal = j₁;
-                    begun = record { pass = k; before = n; present = m; all = all; began = began; at-pass = a; earlier = earlier; inside = inside; terms = refl };
+                    begun = record { pass = k; before = n; at-pass = a; fits = fits; known = known; terms = refl };
                     in-pass = g;
                     here = h;
                     left = refl;
@@ -146,7 +124,6 @@ module _ {E R : Type 0} (P : Problem E R) (B : ℕ) (aim : Aim E) (j₀ : List R
                     unspent = leb-false B w.joins e;
                   };
                   ends = λ z. absurd z;
-                  wants = λ z. absurd (omega (arith, z));
                 };
                 joins = le_refl w.joins;
                 used = refl;
@@ -155,34 +132,37 @@ module _ {E R : Type 0} (P : Problem E R) (B : ℕ) (aim : Aim E) (j₀ : List R
 
     -- ---- after the last place
 
-    module _ {j : List R} (e : length j ≡ length j₁) {w : Counts} (x : Answers P.row_of B (walk_from P on all first j₁) first j₁ j (outcome.Going w)) where
+    module _ {j : List R} (e : length j ≡ length j₁) {w : Counts} (x : Answers P.row_of B (pass_in P (at k n first) first j₁) first j₁ j (outcome.Going w)) where
       abbrev nonempty : Bool
       nonempty = nonempty_in P w.used j
 
-      pub close-last : length j₀ ≤ row_cells → (t : List ℕ) → Covering (first_rows P w.used j) t → w.added ≡ 0 → Onward P B aim j₀ w (finished s on w (all_linked P.starts t)) j t
+      pub close-last : length j₀ ≤ row_cells → (t : List ℕ) → Covering (first_rows P w.used j) t → w.added ≡ 0 → Onward P B j₀ w (finished s (at k n first) w (all_linked P.starts t)) j t
       close-last few t c u =
           let fits : length (first_rows P w.used j) ≤ row_cells = omega (arith, rows-length P.row_of w.used j (omega (arith, x.room, e)), x.room, a.same, few) in
           let done : end_of nonempty k (outcome.Going w) ≡ Done (answer.Ended (finished_by nonempty) (totals_of w k)) = ap (λ (b : Bool). end_by b nonempty w k) (eq-eqb w.added 0 u) in
-          subst (λ (b : Bool). Onward P B aim j₀ w (finished s on w b) j t) (sym (all-linked P w.used j t fits c))
-          (over w on (code_of (finished_by nonempty)) 0 j t (e ∙ a.same) refl (last_code nonempty)
-          (subst (Checked P.row_of aim.answer j₀ j) (sym (unbroken-back (finished_by nonempty) (totals_of w k))) (stops e (outcome.Going w) x done)))
+          subst (λ (b : Bool). Onward P B j₀ w (finished s (at k n first) w b) j t) (sym (all-linked P w.used j t fits c))
+          (over w (at k n first) (code_of (finished_by nonempty)) 0 j t (e ∙ a.same) refl
+          (subst (Checked P.row_of (target P B j₀) j₀ j) (sym (unbroken-back (finished_by nonempty) (totals_of w k))) (stops e (outcome.Going w) x done)))
 
       again : (w.added ≡ 0 → ⊥) → end_of nonempty k (outcome.Going w) ≡ Again w
       again z = ap (λ (b : Bool). end_by b nonempty w k) (ne_eqb w.added 0 z)
 
-      pub close-again : (w.added ≡ 0 → ⊥) → AtPass P B aim j₀ (in_next_pass w) j (k + 1)
+      pub close-again : (w.added ≡ 0 → ⊥) → AtPass P B (target P B j₀) j₀ (in_next_pass w) j (k + 1)
       close-again z = pass-again a e {r = outcome.Going w} x (again z)
 
+      pub close-known : Laws (algebra_of P) → (w.added ≡ 0 → ⊥) → length j₀ ≤ row_cells → KnownFrom P first.used w.used j
+      close-known L z few = pass-known a e {r = outcome.Going w} x (again z) L few
+
   -- where the pass has begun
-  pub stand-on : {first : Counts} {j₁ : List R} (y : PassBegun P B aim j₀ s first j₁) {t : List ℕ} {w : Counts} {j : List R} {p : Place}
-      → InPass s.terms P y.all first j₁ t w j p → p.rule < length P.rules → Onward P B aim j₀ w (standing s s.terms w p) j t
+  pub stand-on : {first : Counts} {j₁ : List R} (y : PassBegun P B j₀ s first j₁) {t : List ℕ} {w : Counts} {j : List R} {p : Place}
+      → InPass s.terms P first j₁ t w j p → p.rule < length P.rules → Onward P B j₀ w (standing s s.terms w p) j t
   stand-on {first} {j₁} y {t} {w} {j} {p} g h =
-      subst (λ (b : Terms). Onward P B aim j₀ w (standing s b w p) j t) (sym y.terms)
-      (stand-there y.at-pass y.present y.before y.earlier y.inside (subst (λ (b : Terms). InPass b P y.all first j₁ t w j p) y.terms g) h)
+      subst (λ (b : Terms). Onward P B j₀ w (standing s b w p) j t) (sym y.terms)
+      (stand-there y.at-pass y.before y.fits y.known (subst (λ (b : Terms). InPass b P first j₁ t w j p) y.terms g) h)
 
   -- ---- a pass begins
 
-  module _ (L : Laws (algebra_of P)) (z : InLimits aim j₀) {w : Counts} {j : List R} {k : ℕ} (a : AtPass P B aim j₀ w j k) (n : ℕ) (earlier : n ≤ w.used) (known : KnownFrom P n w.used j) {t t' t'' : List ℕ} (c : Covering (first_rows P w.used j) t) (g : Gathered w.used t t') (m : MeasuresIn n t' t'') where
+  module _ (L : Laws (algebra_of P)) (z : InLimits j₀) {w : Counts} {j : List R} {k : ℕ} (a : AtPass P B (target P B j₀) j₀ w j k) (n : ℕ) (fits : n ≤ row_cells) (known : KnownFrom P n w.used j) {t t' t'' : List ℕ} (c : Covering (first_rows P w.used j) t) (g : Gathered w.used t t') (m : MeasuresIn n t' t'') where
     size-first : length (first_rows P w.used j) ≡ w.used
     size-first = rows-length P.row_of w.used j (omega (arith, a.room, a.same))
 
@@ -201,12 +181,12 @@ module _ {E R : Type 0} (P : Problem E R) (B : ℕ) (aim : Aim E) (j₀ : List R
 
     -- at its first place, and then at one that is reached from there
     module _ (p : Place) (o : places.FirstPlace (lists_in t'') P.rules 0 p) {r : Reached} (v : PassesOver P.rules t'' (at k n w) (record { counts = w; place = p }) r) where
-      reached : InPass (at k n w) P (candidates_in P (first_rows P w.used j)) w j t'' r.counts j r.place
-      reached = over-stands L v (pass-start listed m.lists.measured ready known o (le_refl w.used) (λ x. numbers-before k x 0 (first_rows P w.used j) (no_row (algebra_of P).forms) a.rows_before.aged))
+      reached : InPass (at k n w) P w j t'' r.counts j r.place
+      reached = over-stands L v (pass-start listed m.lists.measured ready known o)
 
-      pub open-reached : Onward P B aim j₀ w (opening s (at k n w) r (all_linked P.starts t'')) j t''
+      pub open-reached : Onward P B j₀ w (opening s (at k n w) r (all_linked P.starts t'')) j t''
       open-reached = onward-from (over-counted P.rules t'' (at k n w) v).joins (over-counted P.rules t'' (at k n w) v).used (by (ltb r.place.rule s.rules) refl)
         where
-          by : (b : Bool) → ltb r.place.rule s.rules ≡ b → Onward P B aim j₀ r.counts (opening_by b s (at k n w) r (all_linked P.starts t'')) j t''
-          by true e = stand-there (at-within a) w.used n earlier (le_refl w.used) reached (omega (arith, ltb-true r.place.rule s.rules e, count))
-          by false e = close-last (at-within a) w.used n refl (pass-end reached (omega (arith, ltb-false r.place.rule s.rules e, count))) z.limit t'' reached.covering ((over-counted P.rules t'' (at k n w) v).added ∙ a.none-added)
+          by : (b : Bool) → ltb r.place.rule s.rules ≡ b → Onward P B j₀ r.counts (opening_by b s (at k n w) r (all_linked P.starts t'')) j t''
+          by true e = stand-there a n fits known reached (omega (arith, ltb-true r.place.rule s.rules e, count))
+          by false e = close-last a n refl (pass-end reached (omega (arith, ltb-false r.place.rule s.rules e, count))) z.limit t'' reached.covering ((over-counted P.rules t'' (at k n w) v).added ∙ a.none-added)

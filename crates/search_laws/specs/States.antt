@@ -1,5 +1,5 @@
 -- The states that a step leaves. Definitions only. Assumes nothing.
-use Rattle.std.specs.Prelude.{Bool, true, false, List, ℕ, ◌-◌, ltb}
+use Rattle.std.specs.Prelude.{Bool, true, false, List, ℕ, ltb}
 use Rattle.spec_basics.specs.Elements.{each}
 use Rattle.spec_calls.specs.Base.{members_of}
 use Rattle.spec_calls.specs.Codes.{broken_code, spent_code}
@@ -38,22 +38,6 @@ standing_by false s t w p =
 -- at a place, if the budget is not spent
 abbrev pub standing : State → Terms → Counts → Place → State
 standing s t w p = standing_by (is_spent t.budget w.joins) s t w p
-
--- a search that has ended at its candidate, with the candidate's join taken back: it stands before it again
-abbrev pub taken_back : State → State
-taken_back s =
-    record {
-      going = true;
-      left_row = position_row s.place.left s.counts.used;
-      right_row = position_row s.place.right s.counts.used;
-      terms = s.terms;
-      counts = record { used = s.counts.used; joins = s.counts.joins - 1; added = s.counts.added };
-      place = s.place;
-      rows = s.rows;
-      rules = s.rules;
-      verdict = 0;
-      broken = 0;
-    }
 
 -- the table has a row in the list of each of these nonterminals
 abbrev pub each_linked : List ℕ → List ℕ → Bool

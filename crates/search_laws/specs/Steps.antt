@@ -41,7 +41,7 @@ pub record MayRemember (s : State) (l : CoverAnswer) (t : List ℕ) : Type 0 whe
 pub record MayDecide (s : State) : Type 0 where
   pub used : s.counts.used ≤ row_cells
   pub joins : s.counts.joins < s.terms.budget
-  pub added : s.counts.added ≤ s.counts.joins
+  pub added : s.counts.added ≤ s.counts.used
 
 -- ---- over what the pass before formed
 

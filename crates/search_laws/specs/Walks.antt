@@ -1,6 +1,6 @@
 -- One candidate, candidates one after the other, and a pass, under the terms of the pass; and those that the pass before formed too.
 -- Definitions only. Assumes nothing.
-use Rattle.std.specs.Prelude.{◌≡◌, Bool, true, List, ◌⊎◌, ℕ, ◌<◌, length}
+use Rattle.std.specs.Prelude.{◌≡◌, Bool, true, List, ℕ, ◌<◌, length}
 use Rattle.spec_basics.specs.Elements.{In, each}
 use Rattle.spec_order.specs.Candidates.{Candidate, pass_candidates}
 use Rattle.spec_order.specs.Journal.{Row}
@@ -27,13 +27,9 @@ module _ {E R : Type 0} (P : Problem E R) where
   abbrev pub candidate_in : List (Row E) → Place → Candidate E
   candidate_in rows p = candidate_at P.composing (unread P) rows P.rules p
 
-  -- what is left of a pass, from w on over the journal j: these candidates
-  abbrev pub walk_from : Terms → List (Candidate E) → Counts → List R → Outcome E
-  walk_from b cs w j = walk_in b (length j) cs (progress_of P.row_of w j)
-
-  -- the whole pass that begins there
+  -- the whole pass that begins at w over the journal j
   abbrev pub pass_in : Terms → Counts → List R → Outcome E
-  pass_in b w j = walk_from b (candidates_in (first_rows P w.used j)) w j
+  pass_in b w j = walk_in b (length j) (candidates_in (first_rows P w.used j)) (progress_of P.row_of w j)
 
   -- among the first u rows of the journal j is a live one of each nonterminal whose words count
   abbrev pub nonempty_in : ℕ → List R → Bool
@@ -48,9 +44,3 @@ module _ {E R : Type 0} (P : Problem E R) where
   -- every candidate of a pass that begins with the first u rows of the journal j is
   abbrev pub KnownFrom : ℕ → ℕ → List R → Type 0
   KnownFrom n u j = Known n (candidates_in (first_rows P u j)) (first_rows P u j)
-
-  -- ---- what this pass has formed
-
-  -- every candidate of `rows` whose rows are all below n is still to come, or covered by a live row
-  abbrev pub Formed : ℕ → List (Candidate E) → List (Row E) → Type 0
-  Formed n cs rows = (c : Candidate E) → In c (candidates_in rows) → Repeats n c → In c cs ⊎ (dropped P.below c rows ≡ true)

@@ -6,9 +6,7 @@
 // of the loop, and what each step keeps of it), OnRelations. Laws: StepLaws, Deciding, Passing, PassingOver, Remaining, Passes, Closing,
 // Advancing (what is left to do gives the answer), LinkedLaws (which nonterminals of a set have a row), Nearing (the effects that stand
 // beside each other stay those of the live rows), RunLaws, RunningLaws; ProblemLaws (relations have the laws that an algebra must have),
-// OnAutomaton (a file's tables are its automaton). For rows that are used again (request C-19; no call uses them yet): PassNumbers, PassCame (the
-// rows of a pass, and which were live when it began), CandidateMoved, Dropping (a pass goes on after a drop), Turning, Resuming (so does a search),
-// CheckLegs (a check as searches one after the other).
+// OnAutomaton (a file's tables are its automaton).
 //
 // Letters, in every file: E is the type of effects, R that of the journal's rows. P is the problem, L the laws of its algebra, B the budget, b
 // the terms of a pass, k its number. j₀ is the journal when the search began, j₁ when the pass began, j now; t is the table, t' the table after

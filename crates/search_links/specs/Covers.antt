@@ -3,11 +3,11 @@
 use Rattle.std.specs.Prelude.{◌≡◌, Bool, true, false, not, List, ◌⊎◌, ℕ, suc, ◌≤◌, ◌<◌, eqb, length, get_or, drop}
 use Rattle.spec_basics.specs.Elements.{any}
 use Rattle.spec_order.specs.Candidates.{Candidate}
-use Rattle.spec_order.specs.Journal.{Row, live_of, KeptBeyond}
+use Rattle.spec_order.specs.Journal.{Row, live_of}
 use Rattle.spec_order.specs.Order.{larger, retire}
 use Rattle.search_state.specs.Comparing.{is_below}
 use Rattle.search_state.specs.Layout.{heads, head_cell, table_cells, end}
-use Rattle.search_links.specs.Rows.{holds_at, rows_read}
+use Rattle.search_links.specs.Rows.{holds_at, KeptBeyond, rows_read}
 
 module _ {E : Type 0} where
   -- row i is a live row of x

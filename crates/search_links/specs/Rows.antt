@@ -1,6 +1,6 @@
 -- The first rows of a journal of rows as the code has them, which `row_of` reads. Definitions only. Assumes nothing.
-use Rattle.std.specs.Prelude.{◌≡◌, Bool, false, List, [], ◌∷◌, map, ℕ, zero, suc, take}
-use Rattle.spec_order.specs.Journal.{Row, KeptBeyond}
+use Rattle.std.specs.Prelude.{◌≡◌, Bool, false, List, [], ◌∷◌, map, ℕ, zero, suc, take, drop}
+use Rattle.spec_order.specs.Journal.{Row}
 
 module _ {X : Type 0} where
   -- there is an element i, and f holds of it
@@ -12,6 +12,10 @@ module _ {X : Type 0} where
   -- element i is x
   abbrev pub IsAt : List X → ℕ → X → Type 0
   IsAt xs i x = (f : X → Bool) → holds_at f xs i ≡ f x
+
+  -- what a search leaves beyond the first u rows: what was there before
+  abbrev pub KeptBeyond : ℕ → List X → List X → Type 0
+  KeptBeyond u old new = drop u new ≡ drop u old
 
 module _ {E R : Type 0} (row_of : R → Row E) where
   -- the first u rows

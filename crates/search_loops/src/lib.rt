@@ -1,7 +1,7 @@
 // The two loops that hold the lent journal; all else is covered code on values and on arrays of numbers. A loop reads rows, hands them to covered
-// steps, and stores what these return.
-ghost use Rattle.std.specs.Prelude.{◌≡◌, T};
-ghost use Rattle.search_laws.specs.OnRelations.{NearIn, MayInsert, CandidateInserted, MayRun, HasRun};
+// steps, and stores what these return: what an effect is, only `search_rows` knows.
+ghost use Rattle.std.specs.Prelude.{T};
+ghost use Rattle.search_laws.specs.OnRelations.{NearIn, MayInsert, CandidateInserted, Running, Ran};
 
 use relation::Letter;
 use search_cover::CoverAnswer;
@@ -44,9 +44,8 @@ pub fn run(
     rules: &[[u8; 4]],
     state: State,
 ) -> State
-    requires { MayRun letters.now rules.now state journal.old table.old × (T state.going → NearIn state journal.old near.old) }
-    ensures { HasRun letters.now rules.now state journal.old table.old journal.new table.new result
-        × ((T state.going → ⊥) → (table.new ≡ table.old) × (near.new ≡ near.old)) }
+    requires { Running letters.now rules.now state journal.old state journal.old table.old × (T state.going → NearIn state journal.old near.old) }
+    ensures { Ran letters.now rules.now state journal.old journal.new table.new result }
 {
     let mut state = state;
     while state.going {

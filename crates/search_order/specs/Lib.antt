@@ -5,5 +5,3 @@ pub mod Candidates
 pub mod CandidateLaws
 pub mod PlacesLeft
 pub mod PlacesLeftLaws
-pub mod PlacesListed
-pub mod PlacesMoved

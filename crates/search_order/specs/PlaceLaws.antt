@@ -1,6 +1,6 @@
 -- Stepping from one place to the next removes exactly one place from those that are left: the one that is left behind. Assumes nothing.
 use Rattle.std.specs.Prelude.{◌≡◌, refl, Bool, true, false, not, ◌&&◌, ◌⊎◌, List, [], ◌∷◌, ◌++◌, map, ℕ, suc, ◌≤◌, ◌<◌, eqb, length, get_or, drop}
-use Rattle.std.proofs.Common.{sym, ap, ◌∙◌, subst, inl, inr, append_assoc, arith, length-append, drop_of_length-le, drop-cons, eqb-true, eq-eqb}
+use Rattle.std.proofs.Common.{sym, ap, ◌∙◌, subst, inl, inr, append_assoc, arith, drop_of_length-le, drop-cons, eqb-true, eq-eqb}
 use Rattle.std.proofs.lemmas.List.{length-map}
 use Rattle.std.proofs.Math.ListN.{get_or-map}
 use Rattle.spec_basics.specs.Tests.{and-fst, and-snd, not-excludes, not-fails}
@@ -47,10 +47,10 @@ pub rules-end : (rules : List (List ℕ)) (r : ℕ) → length rules ≤ r → d
 rules-end rules r h = drop_of_length-le (map entry_of rules) (subst (λ (n : ℕ). n ≤ r) (sym (length-map rules entry_of)) h)
 
 module _ (live : ℕ → List ℕ) (rules : List (List ℕ)) where
-  pub onward-next : (r : ℕ) → r < length rules → onward live rules r ≡ concat_map (left_places live rules r) (all_lefts live rules r) ++ onward live rules (suc r)
+  onward-next : (r : ℕ) → r < length rules → onward live rules r ≡ concat_map (left_places live rules r) (all_lefts live rules r) ++ onward live rules (suc r)
   onward-next r h = ap (rule_places live r) (rules-next rules r h)
 
-  pub onward-end : (r : ℕ) → length rules ≤ r → onward live rules r ≡ []
+  onward-end : (r : ℕ) → length rules ≤ r → onward live rules r ≡ []
   onward-end r h = ap (rule_places live r) (rules-end rules r h)
 
   -- a rule one of whose parts has no position has no place
@@ -68,6 +68,9 @@ module _ (live : ℕ → List ℕ) (rules : List (List ℕ)) where
 
 -- ---- the first place from a rule on
 
+cons-some : (k : ℕ) (ks : List ℕ) → k ∷ ks ≡ [] → ⊥
+cons-some k ks e = let z : suc (length ks) ≡ 0 = ap length e in omega arith
+
 module _ (live : ℕ → List ℕ) (lists : List ℕ) (rules : List (List ℕ)) (listed : ListedAs live lists) where
   -- at the first position of both parts of its rule
   stands-first : (p : Place) → p.rule < length rules → FirstPosition lists (left_part (entry_at rules p.rule).body) p.left → FirstPosition lists (right_part (entry_at rules p.rule).body) p.right
@@ -84,7 +87,7 @@ module _ (live : ℕ → List ℕ) (lists : List ℕ) (rules : List (List ℕ)) 
       ∙ ap (λ (ks : List ℕ). with_rights r ks p.left ++ (concat_map of_left ls.0 ++ O)) rs.1)) (
         h,
         refl,
-        record { past-rights = []; rights = rs.0; past-lefts = []; lefts = ls.0; all-rights = rs.1; all-lefts = ls.1; inner = rs.2; outer = ls.2; rest = refl },
+        record { rights = rs.0; lefts = ls.0; inner = rs.2; outer = ls.2; some_right = λ z. cons-some _ rs.0 (sym rs.1 ∙ z); rest = refl },
       )
 
 pub both-open : (i j : ℕ) → (not (eqb i end) && not (eqb j end)) ≡ true → (i ≡ end → ⊥) × (j ≡ end → ⊥)
@@ -121,16 +124,6 @@ module _ (lists : List ℕ) (rules : List (List ℕ)) (k r : ℕ) (s : Skipped l
 
 -- ---- the place after a place
 
--- a rule that has a place has a right
-pub some_right : {live : ℕ → List ℕ} {lists : List ℕ} {rules : List (List ℕ)} {p : Place} {ps : List Place} → Ahead live lists rules p ps → all_rights live rules p.rule ≡ [] → ⊥
-some_right {p = p} a z =
-    let e : length (a.past-rights ++ (p.right ∷ a.rights)) ≡ 0 = ap length (sym a.all-rights ∙ z) in
-    omega (arith, e, length-append a.past-rights (p.right ∷ a.rights))
-
--- one position more is past
-past_one : {xs : List ℕ} (before : List ℕ) (k : ℕ) (ks : List ℕ) → xs ≡ before ++ (k ∷ ks) → (i : ℕ) (is : List ℕ) → ks ≡ i ∷ is → xs ≡ (before ++ (k ∷ [])) ++ (i ∷ is)
-past_one before k ks e i is z = e ∙ ap (λ (ms : List ℕ). before ++ (k ∷ ms)) z ∙ sym (append_assoc before (k ∷ []) (i ∷ is))
-
 module _ (lists : List ℕ) (rules : List (List ℕ)) (p : Place) where
   pub follows-none : length rules ≤ p.rule → (q : Place) → NextPlace lists rules p q
   follows-none h q live l ps (i, e, a) = absurd (omega (arith, h, i))
@@ -140,21 +133,8 @@ module _ (lists : List ℕ) (rules : List (List ℕ)) (p : Place) where
       let r = p.rule in
       let rs = chain-some lists i n a.rights (subst (λ (k : ℕ). Chain lists k a.rights) (sym e) a.inner) in
       subst (PlacesFrom live lists rules (first_at r p.left i))
-      (sym (a.rest ∙ ap (λ (ks : List ℕ). with_rights r ks p.left ++ (concat_map (left_places live rules r) a.lefts ++ onward live rules (suc r))) rs.1)) (
-        h,
-        refl,
-        record {
-          past-rights = a.past-rights ++ (p.right ∷ []);
-          rights = rs.0;
-          past-lefts = a.past-lefts;
-          lefts = a.lefts;
-          all-rights = past_one a.past-rights p.right a.rights a.all-rights i rs.0 rs.1;
-          all-lefts = a.all-lefts;
-          inner = rs.2;
-          outer = a.outer;
-          rest = refl;
-        },
-      )
+      (sym (a.rest ∙ ap (λ (ks : List ℕ). with_rights r ks p.left ++ (concat_map (left_places live rules r) a.lefts ++ onward live rules (suc r))) rs.1))
+      (h, refl, record { rights = rs.0; lefts = a.lefts; inner = rs.2; outer = a.outer; some_right = a.some_right; rest = refl })
 
   module _ (er : after_in lists p.right ≡ end) where
     -- no other right is left
@@ -171,26 +151,13 @@ module _ (lists : List ℕ) (rules : List (List ℕ)) (p : Place) where
         let O = onward live rules (suc r) in
         let ls = chain-some lists i n a.lefts (subst (λ (m : ℕ). Chain lists m a.lefts) (sym e) a.outer) in
         let bk = b live l in
-        let nk : k ≡ end → ⊥ = λ z. some_right a (chain-end lists k z (all_rights live rules r) bk) in
+        let nk : k ≡ end → ⊥ = λ z. a.some_right (chain-end lists k z (all_rights live rules r) bk) in
         let rs = chain-some lists k nk (all_rights live rules r) bk in
         subst (PlacesFrom live lists rules (first_at r i k))
         (sym
         (left-next live ps a ∙ ap (λ (is : List ℕ). concat_map of_left is ++ O) ls.1 ∙ append_assoc (of_left i) (concat_map of_left ls.0) O
-        ∙ ap (λ (ks : List ℕ). with_rights r ks i ++ (concat_map of_left ls.0 ++ O)) rs.1)) (
-          h,
-          refl,
-          record {
-            past-rights = [];
-            rights = rs.0;
-            past-lefts = a.past-lefts ++ (p.left ∷ []);
-            lefts = ls.0;
-            all-rights = rs.1;
-            all-lefts = past_one a.past-lefts p.left a.lefts a.all-lefts i ls.0 ls.1;
-            inner = rs.2;
-            outer = ls.2;
-            rest = refl;
-          },
-        )
+        ∙ ap (λ (ks : List ℕ). with_rights r ks i ++ (concat_map of_left ls.0 ++ O)) rs.1))
+        (h, refl, record { rights = rs.0; lefts = ls.0; inner = rs.2; outer = ls.2; some_right = a.some_right; rest = refl })
 
     pub follows-rule : after_in lists p.left ≡ end → (q : Place) → FirstPlace lists rules (suc p.rule) q → NextPlace lists rules p q
     follows-rule el q o live l ps (h, f, a) =

@@ -50,17 +50,13 @@ module _ (live : ℕ → List ℕ) (rules : List (List ℕ)) where
   onward r = rule_places live r (drop r (map entry_of rules))
 
 module _ (live : ℕ → List ℕ) (lists : List ℕ) (rules : List (List ℕ)) where
-  -- the places after p: the other rights with its left, then the other lefts with each right, then the other rules. Its own right and left are
-  -- among those of its rule, behind those that are past
+  -- the places after p: the other rights with its left, then the other lefts with each right, then the other rules
   pub record Ahead (p : Place) (ps : List Place) : Type 0 where
-    pub past-rights : List ℕ
     pub rights : List ℕ
-    pub past-lefts : List ℕ
     pub lefts : List ℕ
-    pub all-rights : all_rights live rules p.rule ≡ past-rights ++ (p.right ∷ rights)
-    pub all-lefts : all_lefts live rules p.rule ≡ past-lefts ++ (p.left ∷ lefts)
     pub inner : Chain lists (after_in lists p.right) rights
     pub outer : Chain lists (after_in lists p.left) lefts
+    pub some_right : all_rights live rules p.rule ≡ [] → ⊥
     pub rest : ps ≡ with_rights p.rule rights p.left ++ (concat_map (left_places live rules p.rule) lefts ++ onward live rules (suc p.rule))
 
   -- the places left are these, the first of them p

@@ -13,7 +13,6 @@ use Rattle.search_state.specs.Positions.{first_at}
 use Rattle.search_state.specs.declared.Place.{Place}
 use Rattle.search_order.specs.Lists.{after_in, Chain, live_numbers, Listed}
 use Rattle.search_order.specs.Places.{with_rights, positions, body_places, rule_places, all_rights, onward, Ahead, PlacesFrom, FirstPlace, NextPlace}
-use Rattle.search_order.specs.PlaceLaws.{some_right}
 use Rattle.search_order.specs.PlacesLeft.{place_limit, positions_from, places_left, PassFrom}
 
 -- ---- counting positions
@@ -100,7 +99,7 @@ module _ (live : ℕ → List ℕ) (lists : List ℕ) (rules : List (List ℕ)) 
   next-less q [] a s few = later-rule q (omega (arith, s, h))
   next-less q (q' ∷ qs) a s few =
       subst (λ (x : Place). places_left lists rules x < places_left lists rules p) s.1
-      (by a.rights a.lefts (all_rights live rules p.rule) a.inner a.outer (some_right a) a.rest)
+      (by a.rights a.lefts (all_rights live rules p.rule) a.inner a.outer a.some_right a.rest)
     where
       by : (rights lefts all : List ℕ) → Chain lists (after_in lists p.right) rights → Chain lists (after_in lists p.left) lefts → (all ≡ [] → ⊥)
           → q' ∷ qs ≡ with_rights p.rule rights p.left ++ (concat_map (with_rights p.rule all) lefts ++ onward live rules (suc p.rule)) → places_left lists rules q' < places_left lists rules p

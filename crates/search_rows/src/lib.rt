@@ -1,6 +1,6 @@
-// One row of the journal, one way to take a symbol, and one candidate of the working order, each by value: forming a candidate, whether it
-// breaks, comparing it with a row, the row that it becomes, a row that retires. Effects are composed in `search_glance` and looked through in
-// `search_cover`. A rule is four bytes: its head, its body's size and its symbols.
+// One row of the journal, one way to take a symbol, and one candidate of the working order, each by value. All that is done with an effect in
+// a search stands here: comparing, retiring, opening, breaking. A rule is four bytes: its head, its body's size and its
+// symbols.
 ghost use Rattle.std.specs.Prelude.{◌≡◌, [], ◌+◌, ◌*◌, ◌≤◌, ◌<◌, length};
 ghost use Rattle.relation.specs.Relation.{contained};
 ghost use Rattle.relation.specs.Representation.{relation_words, value};

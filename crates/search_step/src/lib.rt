@@ -37,8 +37,8 @@ pub fn end_with(state: State, terms: Terms, counts: Counts, verdict: u8, broken:
     }
 }
 
-// Returns the state at `place`, or the end where the budget is spent. The terms are made anew from their fields: copied whole, they took the
-// padding behind the final states with them, eight instructions for each candidate.
+// Returns the state at `place`, or the end where the budget is spent. The terms are made anew from their fields: copied whole, they took the padding behind the final
+// states with them, eight instructions for each candidate.
 pub fn stand_at(state: State, terms: Terms, counts: Counts, place: Place) -> State
     ensures { result ≡ standing state terms counts place }
 {

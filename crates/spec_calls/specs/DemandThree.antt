@@ -13,10 +13,10 @@ use Rattle.spec_file.specs.Refusals.{refuse}
 use Rattle.spec_file.specs.Views.{rules_of, productions_of, automaton_of}
 use Rattle.spec_order.specs.Journal.{Row, absent, capped}
 use Rattle.spec_order.specs.Order.{Answer, holds, broken, full, spent, empty}
+use Rattle.spec_order.specs.Stopping.{Stops, Ends}
 use Rattle.spec_order.specs.Fitting.{row_fits}
-use Rattle.spec_reuse.specs.ReuseStopping.{StopsAt, EndsAt}
 use Rattle.spec_calls.specs.Base.{forms_on}
-use Rattle.spec_calls.specs.Checking.{Settings, journal_limit, algebra_over, keeping_on, check_of, journal_after, shown, shown_head}
+use Rattle.spec_calls.specs.Checking.{Settings, journal_limit, algebra_over, check_of, journal_after, shown, shown_head}
 use Rattle.spec_calls.specs.Replies.{refused, answered}
 use Rattle.spec_calls.specs.Writing.{long_word, row_on, word_of, write_of, buffer_after}
 
@@ -64,26 +64,23 @@ module _ (bs : List ℕ) where
     pub broken-exactly : (a.verdict ≡ full → ⊥) → (a.verdict ≡ spent → ⊥) → (a.verdict ≡ broken) ↔ ((p : ℕ) × (w : List ℕ) × Counterexample g p w)
     pub empty-exactly : (a.verdict ≡ full → ⊥) → (a.verdict ≡ spent → ⊥) → (a.verdict ≡ empty) ↔ (AllAccepted g × ((p : ℕ) × Member g p × NoneFrom p))
     pub holds-exactly : (a.verdict ≡ full → ⊥) → (a.verdict ≡ spent → ⊥) → (a.verdict ≡ holds) ↔ (AllAccepted g × ((p : ℕ) → Member g p → SomeFrom p))
-    -- "with no member it is never broken or empty" (document 02, C-18)
-    pub without-members : ((p : ℕ) → Member g p → ⊥) → (a.verdict ≡ broken → ⊥) × (a.verdict ≡ empty → ⊥)
-    -- "full" exactly where the rows run out, and "spent" where the joins do: at the candidate that StopsAt names. Rows run out where one is
-    -- needed, none is unused and nothing can be dropped (document 02, C-19)
-    pub stops-full : (a.verdict ≡ full) ↔ StopsAt (algebra_over states bs g) (rules_of bs) g.rows g.budget full a
-    pub stops-spent : (a.verdict ≡ spent) ↔ StopsAt (algebra_over states bs g) (rules_of bs) g.rows g.budget spent a
+    -- "full" exactly where the rows run out, and "spent" where the joins do: at the candidate that Stops names
+    pub stops-full : (a.verdict ≡ full) ↔ Stops (algebra_over states bs g) (rules_of bs) g.rows g.budget full a
+    pub stops-spent : (a.verdict ≡ spent) ↔ Stops (algebra_over states bs g) (rules_of bs) g.rows g.budget spent a
     -- "broken" exactly where a candidate becomes a row that breaks, and "holds" or "empty" where a pass ends that has added no row: each
     -- member has a live row, or some member has none
-    pub stops-broken : (a.verdict ≡ broken) ↔ StopsAt (algebra_over states bs g) (rules_of bs) g.rows g.budget broken a
-    pub ends-holds : (a.verdict ≡ holds) ↔ EndsAt (algebra_over states bs g) (rules_of bs) g.rows g.budget holds a
-    pub ends-empty : (a.verdict ≡ empty) ↔ EndsAt (algebra_over states bs g) (rules_of bs) g.rows g.budget empty a
+    pub stops-broken : (a.verdict ≡ broken) ↔ Stops (algebra_over states bs g) (rules_of bs) g.rows g.budget broken a
+    pub ends-holds : (a.verdict ≡ holds) ↔ Ends (algebra_over states bs g) (rules_of bs) g.rows g.budget holds a
+    pub ends-empty : (a.verdict ≡ empty) ↔ Ends (algebra_over states bs g) (rules_of bs) g.rows g.budget empty a
 
   -- document 01's bound on the joins: R · J · J · (J + 1)
   abbrev pub joins_bound : Settings → ℕ
   joins_bound g = length (rules_of bs) * g.rows * g.rows * (g.rows + 1)
 
-  -- its counts: what the joins are stands in StopsAt and EndsAt above, and here the row and document 01's bounds
+  -- its counts: what the joins are stands in Stops and Ends above, and here the row and document 01's bounds
   pub record Counts (g : Settings) (a : Answer ℕ) : Type 0 where
     -- 65,535 unless broken, and then the last used row
-    pub no-row : (a.verdict ≡ broken → ⊥) → a.row ≡ absent
+    pub no_row : (a.verdict ≡ broken → ⊥) → a.row ≡ absent
     pub last_row : a.verdict ≡ broken → suc a.row ≡ a.used
     -- "full" has used all rows, and "spent" has made all joins of the budget
     pub all-rows : a.verdict ≡ full → a.used ≡ g.rows
@@ -102,14 +99,12 @@ module _ (bs : List ℕ) where
 
   -- ---- stability
 
-  -- the answer b says what a says: the verdict, the joins, the pass and the word that a broken answer shows
+  -- the answer b says what a says: the verdict, the joins, the pass and the word that is shown
   pub record Agrees (a b : Answer ℕ) : Type 0 where
     pub verdict : b.verdict ≡ a.verdict
     pub joins : b.joins ≡ a.joins
     pub pass : b.pass ≡ a.pass
-    pub word : a.verdict ≡ broken → shown bs b ≡ shown bs a
-    -- and whose word it is
-    pub head : a.verdict ≡ broken → shown_head b ≡ shown_head a
+    pub word : shown bs b ≡ shown bs a
 
   -- ---- the rows
 
@@ -137,19 +132,19 @@ module _ (bs : List ℕ) where
   LiveAntichain a = (i j : ℕ) → i < a.used → j < a.used → (i ≡ j → ⊥) → (used_row a i).head ≡ (used_row a j).head
       → (used_row a i).retired ≡ 0 → (used_row a j).retired ≡ 0 → Subrelation (used_row a i).effect (used_row a j).effect → ⊥
 
-  -- some used row of p is live
-  abbrev pub LiveRow : Answer ℕ → ℕ → Type 0
-  LiveRow a p = (i : ℕ) × (i < a.used) × ((used_row a i).head ≡ p) × ((used_row a i).retired ≡ 0)
+  -- ---- the word of a broken answer, written
 
-  -- ---- the word behind a row, written
-
-  -- writing row i, behind which is the word w, from the journal as the check leaves it, which had these rows before, to a buffer that holds
-  -- old: w is what is written, and it is refused with 10 where it is too long, and in no other case
-  pub record WritesWord (g : Settings) (a : Answer ℕ) (i : ℕ) (w : List ℕ) (rows : List (Row ℕ)) (old : List ℕ) : Type 0 where
-    pub length-told : length w < long_word → length w ≤ length old → write_of bs (journal_after bs g rows) a.used i (length old) ≡ answered (length w)
-    pub written : length w < long_word → length w ≤ length old → buffer_after bs (journal_after bs g rows) a.used i old ≡ w ++ drop (length w) old
-    pub too_long : (long_word ≤ length w) ⊎ (length old < length w) → write_of bs (journal_after bs g rows) a.used i (length old) ≡ refused (refuse 10 0)
-    pub untouched : (long_word ≤ length w) ⊎ (length old < length w) → buffer_after bs (journal_after bs g rows) a.used i old ≡ old
+  -- writing from the journal as the check leaves it, which had these rows before, to a buffer that holds old: the word is the shown
+  -- one, and it is refused with 10 where it is too long, and in no other case
+  pub record WritesShown (g : Settings) (a : Answer ℕ) (rows : List (Row ℕ)) (old : List ℕ) : Type 0 where
+    pub length-told : length (shown bs a) < long_word → length (shown bs a) ≤ length old
+        → write_of bs (journal_after bs g rows) a.used a.row (length old) ≡ answered (length (shown bs a))
+    pub written : length (shown bs a) < long_word → length (shown bs a) ≤ length old
+        → buffer_after bs (journal_after bs g rows) a.used a.row old ≡ shown bs a ++ drop (length (shown bs a)) old
+    pub too_long : (long_word ≤ length (shown bs a)) ⊎ (length old < length (shown bs a))
+        → write_of bs (journal_after bs g rows) a.used a.row (length old) ≡ refused (refuse 10 0)
+    pub untouched : (long_word ≤ length (shown bs a)) ⊎ (length old < length (shown bs a))
+        → buffer_after bs (journal_after bs g rows) a.used a.row old ≡ old
 
 -- the settings g' give a check at least the rows and the joins of g, and no more rows than a journal may have; the starting nonterminals are
 -- the same
@@ -158,10 +153,6 @@ pub record Extends (g g' : Settings) : Type 0 where
   pub within-limit : g'.rows ≤ journal_limit
   pub more-joins : g.budget ≤ g'.budget
   pub same-starts : g'.starts ≡ g.starts
-
--- the same settings with a journal of J' rows
-abbrev pub with_rows : ℕ → Settings → Settings
-with_rows J' g = record { rows = J'; budget = g.budget; starts = g.starts }
 
 -- ---- what a check that answers promises
 
@@ -172,15 +163,10 @@ pub record Promises (bs : List ℕ) (g : Settings) (a : Answer ℕ) : Type 0 whe
   pub least-height : LeastHeight bs g a
   pub rows-mean : (i : ℕ) → i < a.used → RowMeans bs a i
   pub antichain : LiveAntichain bs a
-  -- after "holds" and "empty" a nonterminal, member or not, has a live row exactly if it derives a word
-  pub live-exactly : (a.verdict ≡ holds) ⊎ (a.verdict ≡ empty) → (p : ℕ) → LiveRow bs a p ↔ SomeFrom bs p
-  -- after any check the word behind each used row may be written, and after a broken one the shown word, which is behind its row: whatever the
-  -- rows of the journal held before, and whatever the buffer holds
-  pub writes-used : (i : ℕ) → i < a.used → (rows : List (Row ℕ)) → length rows ≡ g.rows → (old : List ℕ) → WritesWord bs g a i (used_word bs a i) rows old
-  pub writes-shown : a.verdict ≡ broken → (rows : List (Row ℕ)) → length rows ≡ g.rows → (old : List ℕ) → WritesWord bs g a a.row (shown bs a) rows old
+  -- whatever the rows of the journal held before, and whatever the buffer holds
+  pub writes-shown : a.verdict ≡ broken → (rows : List (Row ℕ)) → length rows ≡ g.rows → (old : List ℕ) → WritesShown bs g a rows old
   -- once the verdict is neither "full" nor "spent", a check with a longer journal or a larger budget answers with the same verdict, joins,
   -- pass and shown word
   pub stable : (a.verdict ≡ full → ⊥) → (a.verdict ≡ spent → ⊥) → (g' : Settings) → Extends g g' → (b : Answer ℕ) × (check_of bs g' ≡ answered b) × Agrees bs a b
-  -- "unless it is full, joins, passes, verdict and shown run equal those of a journal long enough never to drop, even past 8's limit, under the
-  -- same budget" (document 02, C-19): with J' rows, however many, the order that keeps every row is not full
-  pub never-drops : (a.verdict ≡ full → ⊥) → (J' : ℕ) → ((keeping_on bs (with_rows J' g)).verdict ≡ full → ⊥) → Agrees bs a (keeping_on bs (with_rows J' g))
+  -- and today with the same rows too: the answer is the whole of a
+  pub same_answer : (a.verdict ≡ full → ⊥) → (a.verdict ≡ spent → ⊥) → (g' : Settings) → Extends g g' → check_of bs g' ≡ answered a

@@ -1,5 +1,5 @@
 -- What holds of the rows that a check leaves in the journal, on the bytes of any file. Assumes nothing.
-use Rattle.std.specs.Prelude.{◌≡◌, Bool, true, false, ℕ, ◌≤◌, ◌<◌, ltb, get_or}
+use Rattle.std.specs.Prelude.{◌≡◌, Bool, true, false, ℕ, ◌<◌, ltb, get_or}
 use Rattle.std.proofs.Math.Path.{refl}
 use mathlib.Core.List.{List, []}
 use Rattle.std.proofs.Common.{arith, ltb-true, ltb-false}
@@ -8,18 +8,19 @@ use Rattle.relation.specs.Relation.{states, contained}
 use Rattle.spec_language.specs.Spelling.{DerivesWithin}
 use Rattle.spec_language.specs.WordRelation.{word_relation}
 use Rattle.spec_file.specs.Views.{rules_of, productions_of, automaton_of}
-use Rattle.spec_order.specs.Journal.{Row, no_row, absent, capped, live_of}
+use Rattle.spec_order.specs.Journal.{Row, no_row, capped, live_of}
 use Rattle.spec_order.specs.Behind.{words_of, word_behind}
 use Rattle.spec_order.specs.Fitting.{row_fits}
 use Rattle.spec_order.specs.SideBySide.{side-at}
 use Rattle.spec_order.specs.Soundness.{RowSound}
-use Rattle.spec_order.specs.Antichain.{Incomparable, antichain-at}
-use Rattle.spec_reuse.specs.ReuseRows.{reuse-good}
+use Rattle.spec_order.specs.Truth.{check-says}
+use Rattle.spec_order.specs.Antichain.{Incomparable, antichain-at, check-antichain}
+use Rattle.spec_order.specs.FittingRows.{check-fits}
 use Rattle.spec_calls.specs.Base.{members_of, forms_on, words}
 use Rattle.spec_calls.specs.BaseLaws.{base-laws, word-sizes, word-derived}
 use Rattle.spec_calls.specs.Checking.{Settings, algebra_over, order_on}
 
-module _ (bs : List ℕ) (g : Settings) (small : g.rows ≤ absent) where
+module _ (bs : List ℕ) (g : Settings) where
   abbrev pub row_at : ℕ → Row ℕ
   row_at i = get_or (order_on bs g).journal i (no_row (forms_on states (automaton_of bs)))
 
@@ -39,10 +40,11 @@ module _ (bs : List ℕ) (g : Settings) (small : g.rows ≤ absent) where
   row-true i h =
       let a = order_on bs g in
       let A = algebra_over states bs g in
-      let good = reuse-good A (base-laws states (members_of g.starts) (automaton_of bs)) words word-sizes (rules_of bs) g.rows g.budget small in
-      let s = side-at (RowSound A words (rules_of bs) a.pass) (no_row A.forms) [] a.journal (words_of words (rules_of bs) a.journal) good.sound i h in
+      let s =
+      side-at (RowSound A words (rules_of bs) a.pass) (no_row A.forms) [] a.journal (words_of words (rules_of bs) a.journal)
+      (check-says A (base-laws states (members_of g.starts) (automaton_of bs)) words word-sizes (rules_of bs) g.rows g.budget).sound i h in
       let d = word-derived states (members_of g.starts) (automaton_of bs) (rules_of bs) (row_at i).birth (row_at i).head (row_at i).effect (word_at i) s.derived in
-      record { derived = d.0; relation-is = d.1; length-is = s.size; fits = good.fit i h }
+      record { derived = d.0; relation-is = d.1; length-is = s.size; fits = check-fits A (rules_of bs) g.rows g.budget i h }
 
   -- of two different live rows of one nonterminal, neither relation is contained in the other (document 000, section 4, as document 01
   -- reads it)
@@ -54,7 +56,7 @@ module _ (bs : List ℕ) (g : Settings) (small : g.rows ≤ absent) where
       at : (i j : ℕ) → i < j → j < length (order_on bs g).journal → Incomparable (algebra_over states bs g) (row_at i) (row_at j)
       at i j l h =
           antichain-at (algebra_over states bs g) (no_row (forms_on states (automaton_of bs))) (order_on bs g).journal
-          (reuse-good (algebra_over states bs g) (base-laws states (members_of g.starts) (automaton_of bs)) words word-sizes (rules_of bs) g.rows g.budget small).apart i j l h
+          (check-antichain (algebra_over states bs g) (rules_of bs) g.rows g.budget) i j l h
 
       by : (b : Bool) → ltb i j ≡ b → contained (row_at i).effect (row_at j).effect ≡ false
       by true e = (at i j (ltb-true i j e) hj x li lj).0

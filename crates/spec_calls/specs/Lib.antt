@@ -6,7 +6,6 @@ pub mod Rows
 pub mod Checking
 pub mod Judging
 pub mod Recognizing
-pub mod CellPins
 pub mod Gaps
 pub mod Listing
 pub mod Writing
@@ -28,3 +27,6 @@ pub mod OnePath
 pub mod ListingTruth
 pub mod SoFar
 pub mod AsSoFar
+pub mod Cases
+pub mod Examples
+pub mod Pins

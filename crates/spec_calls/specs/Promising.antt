@@ -1,24 +1,22 @@
 -- A check that answers keeps its promises. Assumes nothing.
-use Rattle.std.specs.Prelude.{◌≡◌, refl, Bool, true, false, ◌||◌, cond, ℕ, ◌≤◌, ◌<◌, eqb, ltb}
-use Rattle.std.proofs.Math.Path.{sym, subst}
-use Rattle.std.proofs.Common.{ap, ◌∙◌, suc-ne-zero, arith, ltb-false, ne_eqb, le-ltb}
-use mathlib.Core.List.{List}
-use Rattle.std.proofs.Math.ListN.{length}
+use Rattle.std.specs.Prelude.{◌≡◌, Bool, true, false, ◌||◌, cond, List, ℕ, ◌≤◌, eqb, ltb, length}
+use Rattle.std.proofs.Math.Path.{refl, sym, ap, subst}
+use Rattle.std.proofs.Common.{◌∙◌, suc-ne-zero, arith, ltb-false, ne_eqb, le-ltb}
 use Rattle.std.proofs.lemmas.Bool.{eqb-false}
 use Rattle.spec_basics.specs.Tests.{or-neither}
 use Rattle.spec_file.specs.Refusals.{refuse, fault}
-use Rattle.spec_order.specs.Journal.{Row, absent}
+use Rattle.spec_order.specs.Journal.{Row}
 use Rattle.spec_order.specs.Order.{Answer, broken, full, spent}
 use Rattle.spec_calls.specs.Replies.{answered, unless}
 use Rattle.spec_calls.specs.ReplyLaws.{reply-answers, reply-none}
 use Rattle.spec_calls.specs.Checking.{Settings, journal_limit, journal_fault, order_on, check_of, journal_after, shown, check_refusals}
-use Rattle.spec_calls.specs.DemandThree.{Counts, WritesWord, Extends, Promises}
-use Rattle.spec_calls.specs.Truth.{one-verdict, counted, least-height, rows-mean, antichain, live-exactly, stays, as-keeping}
+use Rattle.spec_calls.specs.DemandThree.{Counts, WritesShown, Extends, Promises}
+use Rattle.spec_calls.specs.Truth.{one-verdict, counted, least-height, rows-mean, antichain, same_answer}
 use Rattle.spec_calls.specs.Writing.{room_fault, word_of, write_of}
-use Rattle.spec_calls.specs.WritingTruth.{shown-word, word_kept, ten-left, writes-used}
+use Rattle.spec_calls.specs.WritingTruth.{word-shown, ten-left, writes-shown}
 
 -- a journal that 8 does not refuse
-pub journal-size : (J : ℕ) → journal_fault J ≡ 0 → (1 ≤ J) × (J ≤ journal_limit)
+journal-size : (J : ℕ) → journal_fault J ≡ 0 → (1 ≤ J) × (J ≤ journal_limit)
 unfolding journal_fault
 journal-size J e = by (eqb J 0 || ltb journal_limit J) refl e
   where
@@ -32,10 +30,6 @@ journal-size J e = by (eqb J 0 || ltb journal_limit J) refl e
 pub size-journal : (J : ℕ) → 1 ≤ J → J ≤ journal_limit → journal_fault J ≡ 0
 unfolding journal_fault
 size-journal J l m = rw (ne_eqb J 0 (λ e. omega arith), le-ltb journal_limit J m)
-
--- so its row numbers are below the number of no row
-pub within-absent : (J : ℕ) → journal_fault J ≡ 0 → J ≤ absent
-within-absent J e = omega (arith, (journal-size J e).1)
 
 module _ (bs : List ℕ) (g : Settings) (a : Answer ℕ) (e : check_of bs g ≡ answered a) where
   -- the file is not refused, the journal is not, and the answer is the working order's
@@ -51,35 +45,26 @@ module _ (bs : List ℕ) (g : Settings) (a : Answer ℕ) (e : check_of bs g ≡ 
       let o = from-order in
       let v : (fault bs).number ≡ 0 = o.0 in
       let s = journal-size g.rows o.1 in
-      let small = within-absent g.rows o.1 in
       record {
-        one-verdict = rw o.2 (one-verdict bs v g small s.0);
-        counts = rw o.2 (counted bs v g small s.0);
-        least-height = rw o.2 (least-height bs v g small);
-        rows-mean = rw o.2 (rows-mean bs v g small s.0);
-        antichain = rw o.2 (antichain bs v g small s.0);
-        live-exactly = rw o.2 (live-exactly bs v g small s.0);
-        writes-used = used o.1 v s.0 o.2;
+        one-verdict = rw o.2 (one-verdict bs v g s.0);
+        counts = rw o.2 (counted bs v g s.0);
+        least-height = rw o.2 (least-height bs v g);
+        rows-mean = rw o.2 (rows-mean bs v g s.0);
+        antichain = rw o.2 (antichain bs v g s.0);
         writes-shown = λ b rows n old.
-            subst (λ (w : List ℕ). WritesWord bs g a a.row w rows old) (shown-word bs a) (used o.1 v s.0 o.2 a.row (last v small s.0 o.2 b) rows n old);
-        stable = λ f p g' x. (order_on bs g', whole v s.0 g' x, rw o.2 (stays bs g g' x (λ y. f (verdict-is o.2 ∙ y)) (λ y. p (verdict-is o.2 ∙ y))));
-        never-drops = λ f J' f'. rw o.2 (as-keeping bs g small (λ y. f (verdict-is o.2 ∙ y)) J' f');
+            subst (λ (x : Answer ℕ). WritesShown bs g x rows old) (sym o.2)
+            (writes-shown bs v g o.1 (counted bs v g s.0) (sym (ap (λ (x : Answer ℕ). x.verdict) o.2) ∙ b) rows n old);
+        stable = λ f p g' x. (a, whole v s.0 o.2 f p g' x, record { verdict = refl; joins = refl; pass = refl; word = refl });
+        same_answer = whole v s.0 o.2;
       }
     where
-      used : journal_fault g.rows ≡ 0 → (fault bs).number ≡ 0 → 1 ≤ g.rows → a ≡ order_on bs g
-          → (i : ℕ) → i < a.used → (rows : List (Row ℕ)) → length rows ≡ g.rows → (old : List ℕ) → WritesWord bs g a i (word_of bs a.journal i) rows old
-      used eight v s o = rw o (writes-used bs v g (within-absent g.rows eight) eight (counted bs v g (within-absent g.rows eight) s))
-
-      -- the row of a broken answer is used
-      last : (fault bs).number ≡ 0 → g.rows ≤ absent → 1 ≤ g.rows → a ≡ order_on bs g → a.verdict ≡ broken → a.row < a.used
-      last v small s o b = let c : Counts bs g a = rw o (counted bs v g small s) in omega (arith, c.last_row b)
-
-      verdict-is : a ≡ order_on bs g → a.verdict ≡ (order_on bs g).verdict
-      verdict-is o = ap (λ (z : Answer ℕ). z.verdict) o
-
-      -- a longer journal is not refused either
-      whole : (fault bs).number ≡ 0 → 1 ≤ g.rows → (g' : Settings) → Extends g g' → check_of bs g' ≡ answered (order_on bs g')
-      whole v s g' x = reply-none (check_refusals bs g'.rows) (order_on bs g') (v, (size-journal g'.rows (omega (arith, s, x.more_rows)) x.within-limit, tt))
+      -- a longer journal is not refused either, and the working order answers the same on it
+      whole : (fault bs).number ≡ 0 → 1 ≤ g.rows → a ≡ order_on bs g → (a.verdict ≡ full → ⊥) → (a.verdict ≡ spent → ⊥)
+          → (g' : Settings) → Extends g g' → check_of bs g' ≡ answered a
+      whole v s o f p g' x =
+          reply-none (check_refusals bs g'.rows) (order_on bs g') (v, (size-journal g'.rows (omega (arith, s, x.more_rows)) x.within-limit, tt))
+          ∙ ap answered
+          (same_answer bs g g' x (λ y. f (ap (λ (z : Answer ℕ). z.verdict) o ∙ y)) (λ y. p (ap (λ (z : Answer ℕ). z.verdict) o ∙ y)) ∙ sym o)
 
 -- ---- the word of a broken check, over a journal that held these rows before
 
@@ -87,23 +72,18 @@ module _ (bs : List ℕ) (g : Settings) (a : Answer ℕ) (e : check_of bs g ≡ 
   abbrev order : Answer ℕ
   order = order_on bs g
 
-  -- what holds of the row of the working order's answer, over the journal after the check, holds of a
-  of-order : (P : Answer ℕ → Type 0) → ((v : (fault bs).number ≡ 0) (eight : journal_fault g.rows ≡ 0) → Counts bs g order → order.row < order.used → P order) → P a
+  -- what holds of the working order's answer, over the journal after the check, holds of a
+  of-order : (P : Answer ℕ → Type 0) → ((v : (fault bs).number ≡ 0) (eight : journal_fault g.rows ≡ 0) → Counts bs g order → order.verdict ≡ broken → P order) → P a
   of-order P f =
       let o = from-order bs g a e in
-      let c = counted bs o.0 g (within-absent g.rows o.1) (journal-size g.rows o.1).0 in
-      subst P (sym o.2) (f o.0 o.1 c (omega (arith, c.last_row (sym (ap (λ (x : Answer ℕ). x.verdict) o.2) ∙ b))))
+      subst P (sym o.2) (f o.0 o.1 (counted bs o.0 g (journal-size g.rows o.1).0) (sym (ap (λ (x : Answer ℕ). x.verdict) o.2) ∙ b))
 
   -- the word behind its row is the shown one
   pub broken-word : word_of bs (journal_after bs g rows) a.row ≡ shown bs a
-  broken-word =
-      of-order (λ x. word_of bs (journal_after bs g rows) x.row ≡ shown bs x)
-      (λ v eight c l. word_kept bs v g (within-absent g.rows eight) eight c order.row l rows size ∙ shown-word bs order)
+  broken-word = of-order (λ x. word_of bs (journal_after bs g rows) x.row ≡ shown bs x) (λ v eight c w. word-shown bs v g eight c w rows size)
 
   -- and only 10 refuses to write it
   pub broken-writes : (room : ℕ) → write_of bs (journal_after bs g rows) a.used a.row room ≡ unless (refuse (room_fault (shown bs a) room) 0) (answered (length (shown bs a)))
   broken-writes room =
       of-order (λ x. write_of bs (journal_after bs g rows) x.used x.row room ≡ unless (refuse (room_fault (shown bs x) room) 0) (answered (length (shown bs x))))
-      (λ v eight c l.
-      ten-left bs v g (within-absent g.rows eight) eight c order.row l rows size room
-      ∙ ap (λ (w : List ℕ). unless (refuse (room_fault w room) 0) (answered (length w))) (shown-word bs order))
+      (λ v eight c w. ten-left bs v g eight c w rows size room)

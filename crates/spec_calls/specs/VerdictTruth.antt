@@ -1,8 +1,8 @@
 -- What a verdict of the working order means on a file, for any count n of states that the file's automaton keeps to, and for all settings.
 -- Assumes nothing.
-use Rattle.std.specs.Prelude.{◌≡◌, refl, ◌⊎◌, Bool, true, false, ◌&&◌, List, [], ◌∷◌, map, ℕ, zero, suc, ◌≤◌, ◌<◌, get_or}
+use Rattle.std.specs.Prelude.{◌≡◌, refl, Bool, false, ◌&&◌, List, [], ◌∷◌, map, ℕ, zero, suc, ◌<◌, get_or}
 use Rattle.std.proofs.Math.Path.{sym, subst}
-use Rattle.std.proofs.Common.{ap, ◌∙◌, inl, inr}
+use Rattle.std.proofs.Common.{ap, ◌∙◌}
 use Rattle.spec_basics.specs.Elements.{In}
 use Rattle.spec_basics.specs.Tests.{and-snd}
 use Rattle.relation.specs.Relation.{rejects}
@@ -13,17 +13,14 @@ use Rattle.spec_language.specs.WordRelation.{word_relation, is_final, rejected}
 use Rattle.spec_language.specs.Paths.{turns-away, accepts}
 use Rattle.spec_file.specs.Views.{rules_of, productions_of, automaton_of}
 use Rattle.spec_order.specs.Algebra.{Algebra, Laws}
-use Rattle.spec_order.specs.Journal.{Row, no_row, absent, live_of}
+use Rattle.spec_order.specs.Journal.{Row, no_row}
 use Rattle.spec_order.specs.Order.{Answer, Verdict, holds, broken, full, spent, empty}
 use Rattle.spec_order.specs.Behind.{word_behind}
 use Rattle.spec_order.specs.Soundness.{Sound}
-use Rattle.spec_order.specs.Stability.{Firm}
-use Rattle.spec_order.specs.Truth.{Settled, SaysBy, Says, settled-covers, settled-calm, holds-derives, empty-derives, shown_row}
-use Rattle.spec_reuse.specs.Simulation.{Full}
-use Rattle.spec_reuse.specs.ReuseTruth.{reuse-says}
+use Rattle.spec_order.specs.Truth.{Settled, SaysBy, Says, check-says, settled-calm, holds-derives, empty-derives, shown_row}
 use Rattle.spec_calls.specs.Base.{members_of, is_one_of, words}
 use Rattle.spec_calls.specs.BaseLaws.{base-laws, word-sizes, relation-derived, word-derived}
-use Rattle.spec_calls.specs.Checking.{Settings, algebra_over, reuse_over, order_over, shown, shown_head}
+use Rattle.spec_calls.specs.Checking.{Settings, algebra_over, order_over, shown, shown_head}
 use Rattle.spec_calls.specs.MemberLaws.{of_one, member-bit, bit-member}
 use Rattle.spec_calls.specs.DemandThree.{Member, SomeFrom, NoneFrom, Counterexample, AllAccepted}
 
@@ -33,7 +30,7 @@ head_at [] i d = refl
 head_at (r ∷ rows) zero d = refl
 head_at (r ∷ rows) (suc i) d = head_at rows i d
 
-module _ (n : ℕ) (bs : List ℕ) (within : Within n (automaton_of bs)) (g : Settings) (small : g.rows ≤ absent) where
+module _ (n : ℕ) (bs : List ℕ) (within : Within n (automaton_of bs)) (g : Settings) where
   abbrev A : Automaton
   A = automaton_of bs
 
@@ -100,38 +97,10 @@ module _ (n : ℕ) (bs : List ℕ) (within : Within n (automaton_of bs)) (g : Se
   means full a rows s = tt
   means spent a rows s = tt
 
-  -- full with rows that are all needed, or what the order that keeps every row says
-  said : Full M (rules_of bs) g.rows g.budget small (reuse_over n bs g) ⊎ Says M words (rules_of bs) (order_over n bs g)
-  said = reuse-says M L words word-sizes (rules_of bs) g.rows g.budget small
-
   pub meaning : (x : Verdict) → (order_over n bs g).verdict ≡ x → VerdictMeans x (order_over n bs g)
-  meaning x e = by said
-    where
-      by : Full M (rules_of bs) g.rows g.budget small (reuse_over n bs g) ⊎ Says M words (rules_of bs) (order_over n bs g) → VerdictMeans x (order_over n bs g)
-      by (inl f) = subst (λ (y : Verdict). VerdictMeans y (order_over n bs g)) (sym f.verdict ∙ e) tt
-      by (inr t) = means x (order_over n bs g) t.sound (subst (λ (y : Verdict). SaysBy M words (rules_of bs) y (order_over n bs g)) e t.verdict)
-
-  -- after "holds" and "empty" a nonterminal that derives a word has a live row: one that covers the word's relation
-  pub alive : (x : Verdict) → (order_over n bs g).verdict ≡ x → (x ≡ holds) ⊎ (x ≡ empty) → (p : ℕ) → SomeFrom bs p → (r : Row ℕ) × In r (order_over n bs g).journal × (live_of p r ≡ true)
-  alive x e o p d =
-      let h = (language (productions_of bs) p d.0).0 d.1 in
-      let c =
-      settled-covers M L words word-sizes (rules_of bs) g.rows g.budget (order_over n bs g) (by said)
-      h.0 p (word_relation n A.transitions d.0) (relation-derived n starts A (rules_of bs) h.0 p d.0 h.1) in
-      (c.1.0, c.1.1, c.1.2)
-    where
-      settled : (x : Verdict) → (x ≡ holds) ⊎ (x ≡ empty) → SaysBy M words (rules_of bs) x (order_over n bs g) → Settled M words (rules_of bs) (order_over n bs g)
-      settled x (inl q) s = (subst (λ (y : Verdict). SaysBy M words (rules_of bs) y (order_over n bs g)) q s).0
-      settled x (inr q) s = (subst (λ (y : Verdict). SaysBy M words (rules_of bs) y (order_over n bs g)) q s).0
-
-      -- "full" is neither
-      not_full : (x : Verdict) → (x ≡ holds) ⊎ (x ≡ empty) → x ≡ full → ⊥
-      not_full x (inl q) f = subst (λ (y : Verdict). Firm y) (sym q ∙ f) tt
-      not_full x (inr q) f = subst (λ (y : Verdict). Firm y) (sym q ∙ f) tt
-
-      by : Full M (rules_of bs) g.rows g.budget small (reuse_over n bs g) ⊎ Says M words (rules_of bs) (order_over n bs g) → Settled M words (rules_of bs) (order_over n bs g)
-      by (inl f) = absurd (not_full x o (sym e ∙ f.verdict))
-      by (inr t) = settled x o (subst (λ (y : Verdict). SaysBy M words (rules_of bs) y (order_over n bs g)) e t.verdict)
+  meaning x e =
+      let said : Says M words (rules_of bs) (order_over n bs g) = check-says M L words word-sizes (rules_of bs) g.rows g.budget in
+      means x (order_over n bs g) said.sound (subst (λ (y : Verdict). SaysBy M words (rules_of bs) y (order_over n bs g)) e said.verdict)
 
   pub shows : (order_over n bs g).verdict ≡ broken → Counterexample bs g (shown_head (order_over n bs g)) (shown bs (order_over n bs g))
   shows e =

@@ -1,13 +1,13 @@
 -- What writing gives is true: a word that is written derives from the nonterminal of its row, whoever made the journal (demand 2); and after a
--- check it is the word behind the row, whatever the journal held before, with 10 as the only refusal. Assumes nothing.
+-- broken check it is the shown word, whatever the journal held before, with 10 as the only refusal. Assumes nothing.
 use Rattle.std.proofs.Math.Path.{◌≡◌, refl, sym, ap, ap₂}
-use Rattle.std.proofs.Common.{◌∙◌, subst, inl, inr, le_refl, not-suc-le-zero, suc-ne-zero, take_at}
+use Rattle.std.proofs.Common.{◌∙◌, subst, inl, inr, le_refl, not-suc-le-zero, suc-ne-zero, length-append, length-drop, take_at}
 use Rattle.std.specs.Prelude.{◌⊎◌, Bool, ◌||◌, cond, eqb, leb, ltb, drop}
 use Rattle.std.proofs.Math.Bool.{true, false, not}
-use mathlib.Core.List.{List, [], ◌++◌, map, append-nil, append_assoc}
+use mathlib.Core.List.{List, [], ◌++◌, map, append-nil}
 use Prim.Native.Nat.{ℕ, zero, suc, ◌+◌, ◌≤◌, ◌<◌}
 use native.Mathlib.Omega.{arith}
-use Rattle.std.proofs.Math.ListN.{length, get_or, length-append, length-drop}
+use Rattle.std.proofs.Math.ListN.{length, get_or}
 use borrow.Author.Tests.{eqb-true, leb-true, leb-false, ltb-true, ltb-false, lt-ltb, le-ltb}
 use Rattle.spec_basics.specs.Lists.{getD-in}
 use Rattle.spec_basics.specs.Tests.{and_intro, and-fst, and-snd, or-neither, not-fails}
@@ -20,17 +20,16 @@ use Rattle.spec_language.specs.RuleLaws.{of-rule}
 use Rattle.spec_file.specs.Refusals.{refuse, fault}
 use Rattle.spec_file.specs.Views.{rules_of, productions_of, automaton_of}
 use Rattle.spec_order.specs.Algebra.{Forms, Algebra}
-use Rattle.spec_order.specs.Journal.{Row, no_row, absent}
+use Rattle.spec_order.specs.Journal.{Row, no_row}
 use Rattle.spec_order.specs.Behind.{symbol_word, body_word, words_of, word_behind}
 use Rattle.spec_order.specs.BehindLaws.{behind_more, behind-body}
 use Rattle.spec_order.specs.Fitting.{pointer_fits, row_fits, all_rows_fit}
 use Rattle.spec_order.specs.FittingLaws.{FitThrough, PointersFit, body_at, fitting, fit-through}
 use Rattle.spec_order.specs.FittingRows.{keeps-more, fits_on}
-use Rattle.spec_order.specs.Order.{Answer}
-use Rattle.spec_reuse.specs.ReuseAbove.{reuse-above}
+use Rattle.spec_order.specs.Order.{Answer, broken}
 use Rattle.spec_calls.specs.Base.{forms_on, words}
-use Rattle.spec_calls.specs.Checking.{Settings, algebra_over, journal_fault, order_on, above_on, check_of, journal_after, shown}
-use Rattle.spec_calls.specs.DemandThree.{Counts, WritesWord}
+use Rattle.spec_calls.specs.Checking.{Settings, algebra_over, journal_fault, order_on, check_of, journal_after, shown}
+use Rattle.spec_calls.specs.DemandThree.{Counts, WritesShown}
 use Rattle.spec_calls.specs.JournalTruth.{row-true}
 use Rattle.spec_calls.specs.Replies.{Reply, refused, answered, unless}
 use Rattle.spec_calls.specs.ReplyLaws.{reply-answers}
@@ -123,7 +122,7 @@ write-means bs rows used i old = by (write_of bs rows used i (length old)) refl
         let p = passed bs rows used i (length old) n e in
         subst (Language (productions_of bs) (row_on bs rows i).head) (sym (take_at w (drop n old) n (sym p.1))) (derives bs rows used i (length old) n e)
 
--- ---- after a check
+-- ---- after a broken check
 
 -- the first m rows fit, where each of them does
 pub all_fit : (M : Forms ℕ) (rows : List (Row ℕ)) (rules : List Rule) (m : ℕ) → ((i : ℕ) → i < m → row_fits M rows rules i ≡ true) → all_rows_fit M rows rules m ≡ true
@@ -144,14 +143,9 @@ room-cases w room = by (leb long_word (length w)) (ltb room (length w)) refl ref
     by false true p q = inr (rw (p, q), inr (ltb-true room (length w) q))
     by false false p q = inl (rw (p, q), leb-false long_word (length w) p, ltb-false room (length w) q)
 
--- the word behind the row that an answer names is the shown one
-pub shown-word : (bs : List ℕ) (a : Answer ℕ) → word_of bs a.journal a.row ≡ shown bs a
-unfolding word_of shown
-shown-word bs a = refl
-
--- i: a used row; rows: the journal before the check
-module _ (bs : List ℕ) (v : (fault bs).number ≡ 0) (g : Settings) (small : g.rows ≤ absent) (eight : journal_fault g.rows ≡ 0)
-    (counts : Counts bs g (order_on bs g)) (i : ℕ) (l : i < (order_on bs g).used) (rows : List (Row ℕ)) (size : length rows ≡ g.rows) where
+-- rows are the journal before the check
+module _ (bs : List ℕ) (v : (fault bs).number ≡ 0) (g : Settings) (eight : journal_fault g.rows ≡ 0)
+    (counts : Counts bs g (order_on bs g)) (e : (order_on bs g).verdict ≡ broken) (rows : List (Row ℕ)) (size : length rows ≡ g.rows) where
   abbrev A : Algebra ℕ
   A = algebra_over states bs g
 
@@ -161,82 +155,70 @@ module _ (bs : List ℕ) (v : (fault bs).number ≡ 0) (g : Settings) (small : g
   abbrev after : List (Row ℕ)
   after = journal_after bs g rows
 
-  abbrev w : List ℕ
-  w = word_of bs a.journal i
-
-  abbrev above : List (Row ℕ)
-  above = above_on bs g
-
-  -- what stands beyond the used rows
-  abbrev beyond : List (Row ℕ)
-  beyond = above ++ drop (a.used + length above) rows
-
-  after_is : after ≡ a.journal ++ beyond
+  after_is : after ≡ a.journal ++ drop a.used rows
   unfolding journal_after check_of
-  after_is = rw (v, eight) (append_assoc a.journal above (drop (a.used + length above) rows))
+  after_is = rw (v, eight)
 
-  below : i < length a.journal
-  below = omega (arith, l, counts.used-rows)
+  below : a.row < length a.journal
+  below = omega (arith, counts.last_row e, counts.used-rows)
 
   as_long : length after ≡ g.rows
-  unfolding order_on above_on
   as_long =
-      let n = a.used + length above in
-      let b = length-append above (drop n rows) in
-      ap length after_is ∙ length-append a.journal beyond
-      ∙ (let z : length a.journal + length beyond ≡ g.rows =
-      omega (arith, counts.used-rows, b, length-drop n rows, size, reuse-above A (rules_of bs) g.rows g.budget) in z)
+      ap length after_is ∙ length-append a.journal (drop a.used rows)
+      ∙ (let z : length a.journal + length (drop a.used rows) ≡ g.rows = omega (arith, counts.used-rows, counts.rows_bound, length-drop a.used rows, size) in z)
 
-  -- the word behind the row is the one behind it when the check ended
-  pub word_kept : word_of bs after i ≡ w
-  unfolding word_of
-  word_kept =
-      ap (λ (xs : List (Row ℕ)). word_behind words (rules_of bs) xs i) after_is
-      ∙ behind_more words (rules_of bs) a.journal beyond i below
+  -- the word behind the named row
+  pub word-shown : word_of bs after a.row ≡ shown bs a
+  unfolding word_of shown
+  word-shown =
+      ap (λ (xs : List (Row ℕ)). word_behind words (rules_of bs) xs a.row) after_is
+      ∙ behind_more words (rules_of bs) a.journal (drop a.used rows) a.row below
 
-  -- the rows through it fit
-  rows_fit : all_rows_fit A.forms after (rules_of bs) (i + 1) ≡ true
+  -- the rows through the named one fit
+  rows_fit : all_rows_fit A.forms after (rules_of bs) (a.row + 1) ≡ true
   rows_fit =
-      all_fit A.forms after (rules_of bs) (i + 1) (λ k m.
-      let here : k < length a.journal = omega (arith, m, below) in
-      subst (λ (xs : List (Row ℕ)). row_fits A.forms xs (rules_of bs) k ≡ true) (sym after_is)
-      (fits_on A (rules_of bs) a.journal (a.journal ++ beyond) (keeps-more A a.journal beyond) k here (row-true bs g small k here).fits))
+      all_fit A.forms after (rules_of bs) (a.row + 1) (λ i l.
+      let here : i < length a.journal = omega (arith, l, below) in
+      subst (λ (xs : List (Row ℕ)). row_fits A.forms xs (rules_of bs) i ≡ true) (sym after_is)
+      (fits_on A (rules_of bs) a.journal (a.journal ++ drop a.used rows) (keeps-more A a.journal (drop a.used rows)) i here (row-true bs g i here).fits))
 
   -- 9 refuses nothing
-  nine : row_fault A.forms (rules_of bs) after a.used i ≡ 0
+  nine : row_fault A.forms (rules_of bs) after a.used a.row ≡ 0
   unfolding row_fault
-  nine = rw (lt-ltb i a.used l, le-ltb (length after) a.used (omega (arith, as_long, counts.rows_bound)), rows_fit)
+  nine = rw (lt-ltb a.row a.used (omega (arith, counts.last_row e)), le-ltb (length after) a.used (omega (arith, as_long, counts.rows_bound)), rows_fit)
 
   -- 10 is left
-  pub ten-left : (room : ℕ) → write_of bs after a.used i room ≡ unless (refuse (room_fault w room) 0) (answered (length w))
+  pub ten-left : (room : ℕ) → write_of bs after a.used a.row room ≡ unless (refuse (room_fault (shown bs a) room) 0) (answered (length (shown bs a)))
   unfolding write_of
-  ten-left room = rw (v, as_long, eight, nine, word_kept)
+  ten-left room = rw (v, as_long, eight, nine, word-shown)
 
   -- and refuses by its bounds
-  answers : (room : ℕ) → length w < long_word → length w ≤ room → write_of bs after a.used i room ≡ answered (length w)
-  answers room m r = ten-left room ∙ by (room-cases w room)
+  answers : (room : ℕ) → length (shown bs a) < long_word → length (shown bs a) ≤ room → write_of bs after a.used a.row room ≡ answered (length (shown bs a))
+  answers room l r = ten-left room ∙ by (room-cases (shown bs a) room)
     where
-      by : ((room_fault w room ≡ 0) × (length w < long_word) × (length w ≤ room)) ⊎ ((room_fault w room ≡ 10) × ((long_word ≤ length w) ⊎ (room < length w)))
-          → unless (refuse (room_fault w room) 0) (answered (length w)) ≡ answered (length w)
-      by (inl x) = ap (λ (f : ℕ). unless (refuse f 0) (answered (length w))) x.0
+      by : ((room_fault (shown bs a) room ≡ 0) × (length (shown bs a) < long_word) × (length (shown bs a) ≤ room))
+          ⊎ ((room_fault (shown bs a) room ≡ 10) × ((long_word ≤ length (shown bs a)) ⊎ (room < length (shown bs a))))
+          → unless (refuse (room_fault (shown bs a) room) 0) (answered (length (shown bs a))) ≡ answered (length (shown bs a))
+      by (inl x) = ap (λ (f : ℕ). unless (refuse f 0) (answered (length (shown bs a)))) x.0
       by (inr (f, inl x)) = absurd (omega arith)
       by (inr (f, inr x)) = absurd (omega arith)
 
-  refuses : (room : ℕ) → (long_word ≤ length w) ⊎ (room < length w) → write_of bs after a.used i room ≡ refused (refuse 10 0)
-  refuses room o = ten-left room ∙ by (room-cases w room) o
+  refuses : (room : ℕ) → (long_word ≤ length (shown bs a)) ⊎ (room < length (shown bs a)) → write_of bs after a.used a.row room ≡ refused (refuse 10 0)
+  refuses room o = ten-left room ∙ by (room-cases (shown bs a) room) o
     where
-      by : ((room_fault w room ≡ 0) × (length w < long_word) × (length w ≤ room)) ⊎ ((room_fault w room ≡ 10) × ((long_word ≤ length w) ⊎ (room < length w)))
-          → (long_word ≤ length w) ⊎ (room < length w) → unless (refuse (room_fault w room) 0) (answered (length w)) ≡ refused (refuse 10 0)
-      by (inr x) o = ap (λ (f : ℕ). unless (refuse f 0) (answered (length w))) x.0
-      by (inl (f, m, r)) (inl x) = absurd (omega arith)
-      by (inl (f, m, r)) (inr x) = absurd (omega arith)
+      by : ((room_fault (shown bs a) room ≡ 0) × (length (shown bs a) < long_word) × (length (shown bs a) ≤ room))
+          ⊎ ((room_fault (shown bs a) room ≡ 10) × ((long_word ≤ length (shown bs a)) ⊎ (room < length (shown bs a))))
+          → (long_word ≤ length (shown bs a)) ⊎ (room < length (shown bs a)) → unless (refuse (room_fault (shown bs a) room) 0) (answered (length (shown bs a))) ≡ refused (refuse 10 0)
+      by (inr x) o = ap (λ (f : ℕ). unless (refuse f 0) (answered (length (shown bs a)))) x.0
+      by (inl (f, l, r)) (inl x) = absurd (omega arith)
+      by (inl (f, l, r)) (inr x) = absurd (omega arith)
 
-  pub writes-used : (old : List ℕ) → WritesWord bs g a i w rows old
+  pub writes-shown : (old : List ℕ) → WritesShown bs g a rows old
   unfolding buffer_after
-  writes-used old =
+  writes-shown old =
       record {
         length-told = answers (length old);
-        written = λ m r. ap₂ (λ (u : List ℕ) (x : Reply ℕ). written_by u old x) word_kept (answers (length old) m r);
+        written = λ l r. ap₂ (λ (w : List ℕ) (x : Reply ℕ). written_by w old x) word-shown (answers (length old) l r);
         too_long = refuses (length old);
-        untouched = λ o. ap (written_by (word_of bs after i) old) (refuses (length old) o);
+        untouched = λ o. ap (written_by (word_of bs after a.row) old) (refuses (length old) o);
       }

@@ -5,8 +5,8 @@
 // code's rows, rules and options are read). Theorems: Promising and Truth (an answer keeps its promises), JournalTruth, JudgingTruth,
 // StrikingTruth, WritingTruth; ListingTruth, by MoveCounts (how many transitions a pair has), GapLists (what the list has, its order, its
 // length) and OnePath (what an empty list promises); MemberLaws (the members of a set), AsSoFar (for the initial nonterminal alone the
-// check is the one before request C-18, which is in SoFar). Computed: CellPins (where a cell of a recorded run's table stands); all other
-// tables are in `spec_cases`.
+// check is the one before request C-18, which is in SoFar). Computed: Cases (document 01's P table, remarks, plans without runs, sets),
+// Examples, Pins (what only a definition's text settles).
 ghost use Rattle.std.specs.Prelude.{◌≡◌, ◌+◌};
 ghost use Rattle.spec_order.specs.Journal.{capped};
 ghost use Rattle.spec_calls.specs.Base.{members_of, is_one_of};

@@ -70,7 +70,7 @@ module _ {E : Type 0} (A : Algebra E) (m : ℕ) (few : (x y : E) → length (A.f
 -- ---- the join at which a check stops
 
 -- why a candidate c stopped the check (`Found`) says whether it is a join: from t to u the joins rise by `last_join v`
-pub found-joins : {E : Type 0} (A : Algebra E) (J B k : ℕ) (v : Verdict) (i : ℕ) (c : Candidate E) (t u : Progress E) → Found A J B k v i c t u → u.joins ≡ t.joins + last_join v
+found-joins : {E : Type 0} (A : Algebra E) (J B k : ℕ) (v : Verdict) (i : ℕ) (c : Candidate E) (t u : Progress E) → Found A J B k v i c t u → u.joins ≡ t.joins + last_join v
 found-joins {E} A J B k holds i c t u f = absurd f
 found-joins {E} A J B k empty i c t u f = absurd f
 found-joins {E} A J B k broken i c t u f = ap (λ (x : Progress E). x.joins) f.5 ∙ sym (add-one t.joins)

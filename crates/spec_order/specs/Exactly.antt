@@ -1,22 +1,19 @@
 -- Where the working order stops at a candidate, or ends a pass that has added no row, the check answers so (Counting.antt has the other
--- direction), and with no other joins, pass, row or journal. Assumes nothing.
-use Rattle.std.specs.Prelude.{◌≡◌, Bool}
-use Rattle.std.proofs.Math.Path.{refl, sym, ap, subst}
-use Rattle.std.proofs.Common.{◌∙◌}
+-- direction). Assumes nothing.
+use Rattle.std.specs.Prelude.{◌≡◌, Bool, length}
+use Rattle.std.proofs.Common.{sym, ◌∙◌}
+use Rattle.std.proofs.Math.Path.{ap}
 use mathlib.Core.List.{List, ◌∷◌}
 use Prim.Native.Nat.{ℕ, zero, suc, ◌+◌, ◌-◌}
 use native.Mathlib.Omega.{arith}
-use Rattle.std.proofs.Math.ListN.{length}
 use borrow.Author.Tests.{eq-eqb, ne_eqb}
 use Rattle.spec_language.specs.Grammar.{Rule}
 use Rattle.spec_order.specs.Algebra.{Algebra}
 use Rattle.spec_order.specs.Candidates.{Candidate}
-use Rattle.spec_order.specs.Journal.{Row, absent}
-use Rattle.spec_order.specs.Order.{Progress, start, Verdict, broken, full, spent, holds, empty, Outcome, stopped, Answer, and_then, answer, decide, consider, walk, finish, close_by, close, one_pass, passes, check}
+use Rattle.spec_order.specs.Order.{Progress, start, Verdict, broken, full, spent, holds, empty, Outcome, stopped, Answer, and_then, answer, decide, consider, walk, close_by, close, one_pass, passes, check}
 use Rattle.spec_order.specs.Stopping.{Found, Halt, candidates_at, Begun, Stops, Ends}
-use Rattle.spec_order.specs.Walking.{Post, walk-append}
-use Rattle.spec_order.specs.Halting.{Went, walk-went, halt-went, begun-came}
-use Rattle.spec_order.specs.Counting.{found-joins}
+use Rattle.spec_order.specs.Walking.{walk-append}
+use Rattle.spec_order.specs.Halting.{begun-came}
 
 module _ {E : Type 0} (A : Algebra E) (J B k : ℕ) where
   -- what was found at a candidate stops the walk there
@@ -55,61 +52,21 @@ module _ {E : Type 0} (A : Algebra E) (rules : List Rule) (J B : ℕ) where
       let n : suc J ≡ h + suc (J - h) = omega (arith, c.rows-least, c.rows_fit) in
       ap (λ (g : ℕ). passes A rules J B g 1 start) n ∙ begun-passes h (suc (J - h)) s b
 
-  -- where the working order stops, the check stops
-  stops-there : (v : Verdict) (a : Answer E) (h : Stops A rules J B v a) → check A rules J B ≡ answer v (suc h.passed) a.row h.last
-  unfolding one_pass
-  stops-there v a h =
-      from-pass h.passed h.began h.begun
-      ∙ ap (close A.starts (suc h.passed) (length h.began.rows) (passes A rules J B (J - h.passed) (suc (suc h.passed))))
-      (halt-stops A J B (suc h.passed) (candidates_at A rules h.began) h.began v a.row h.last h.halt)
-
-  -- and where a pass ends that has added no row, the check ends
-  ends_there : (v : Verdict) (a : Answer E) (h : Ends A rules J B v a) → check A rules J B ≡ answer (finish A.starts h.last.rows) (suc h.passed) absent h.last
-  ends_there v a h =
-      from-pass h.passed h.began h.begun
-      ∙ ap (close A.starts (suc h.passed) (length h.began.rows) (passes A rules J B (J - h.passed) (suc (suc h.passed)))) h.walked
-      ∙ ap (λ (x : Bool). close_by A.starts x (suc h.passed) (passes A rules J B (J - h.passed) (suc (suc h.passed))) h.last) (eq-eqb (length h.last.rows) (length h.began.rows) h.none-added)
-
-  -- so with that verdict
+  -- where the working order stops with a verdict, the check answers it
   pub stops_so : (v : Verdict) (a : Answer E) → Stops A rules J B v a → (check A rules J B).verdict ≡ v
-  unfolding answer
-  stops_so v a h = ap (λ (x : Answer E). x.verdict) (stops-there v a h)
+  unfolding one_pass answer
+  stops_so v a h =
+      ap (λ (x : Answer E). x.verdict)
+      (from-pass h.passed h.began h.begun
+      ∙ ap (close A.starts (suc h.passed) (length h.began.rows) (passes A rules J B (J - h.passed) (suc (suc h.passed))))
+      (halt-stops A J B (suc h.passed) (candidates_at A rules h.began) h.began v a.row h.last h.halt))
 
+  -- and where a pass ends that has added no row, the verdict of the end
   pub ends_so : (v : Verdict) (a : Answer E) → Ends A rules J B v a → (check A rules J B).verdict ≡ v
   unfolding answer
-  ends_so v a h = ap (λ (x : Answer E). x.verdict) (ends_there v a h) ∙ h.verdict-is
-
-  -- ---- and with that whole answer: what is said of where a check stops leaves nothing open
-
-  pub alike : (a : Answer E) (v : Verdict) (j u k i : ℕ) (rows : List (Row E)) → a.verdict ≡ v → a.joins ≡ j → a.used ≡ u → a.pass ≡ k → a.row ≡ i → a.journal ≡ rows
-      → a ≡ record { verdict = v; joins = j; used = u; pass = k; row = i; journal = rows }
-  alike a v j u k i rows ev ej eu ek ei er =
-      ap (λ (x : Verdict). record { verdict = x; joins = a.joins; used = a.used; pass = a.pass; row = a.row; journal = a.journal }) ev
-      ∙ ap (λ (x : ℕ). record { verdict = v; joins = x; used = a.used; pass = a.pass; row = a.row; journal = a.journal }) ej
-      ∙ ap (λ (x : ℕ). record { verdict = v; joins = j; used = x; pass = a.pass; row = a.row; journal = a.journal }) eu
-      ∙ ap (λ (x : ℕ). record { verdict = v; joins = j; used = u; pass = x; row = a.row; journal = a.journal }) ek
-      ∙ ap (λ (x : ℕ). record { verdict = v; joins = j; used = u; pass = k; row = x; journal = a.journal }) ei
-      ∙ ap (λ (x : List (Row E)). record { verdict = v; joins = j; used = u; pass = k; row = i; journal = x }) er
-
-  pub stops-whole : (v : Verdict) (a : Answer E) → Stops A rules J B v a → a.verdict ≡ v → a.used ≡ length a.journal → a ≡ check A rules J B
-  unfolding answer
-  stops-whole v a h ev eu =
-      let t = h.halt in
-      let c = begun-came A rules J B h.passed h.began h.begun in
-      let w = halt-went A J B (suc h.passed) (candidates_at A rules h.began) h.began v a.row h.last t c.rows_fit in
-      let f = found-joins A J B (suc h.passed) v a.row t.at t.reached h.last t.found in
-      let n : a.joins ≡ h.last.joins = omega (arith, h.joins-are, c.joins-are, w.joins-are, f) in
-      alike a v h.last.joins (length h.last.rows) (suc h.passed) a.row h.last.rows ev n (eu ∙ ap length h.journal-is) h.pass-is refl h.journal-is
-      ∙ sym (stops-there v a h)
-
-  pub ends-whole : (v : Verdict) (a : Answer E) → Ends A rules J B v a → a.verdict ≡ v → a.used ≡ length a.journal → a.row ≡ absent → a ≡ check A rules J B
-  unfolding answer one_pass
-  ends-whole v a h ev eu er =
-      let c = begun-came A rules J B h.passed h.began h.begun in
-      let cs = candidates_at A rules h.began in
-      let w : Went J (length cs) h.began h.last =
-      subst (Post (Went J (length cs) h.began) (Halt A J B (suc h.passed) cs h.began)) h.walked (walk-went A J B (suc h.passed) cs h.began c.rows_fit) in
-      let n : a.joins ≡ h.last.joins = omega (arith, h.joins-are, c.joins-are, w.joins-are) in
-      alike a (finish A.starts h.last.rows) h.last.joins (length h.last.rows) (suc h.passed) absent h.last.rows
-      (ev ∙ sym h.verdict-is) n (eu ∙ ap length h.journal-is) h.pass-is er h.journal-is
-      ∙ sym (ends_there v a h)
+  ends_so v a h =
+      ap (λ (x : Answer E). x.verdict)
+      (from-pass h.passed h.began h.begun
+      ∙ ap (close A.starts (suc h.passed) (length h.began.rows) (passes A rules J B (J - h.passed) (suc (suc h.passed)))) h.walked
+      ∙ ap (λ (x : Bool). close_by A.starts x (suc h.passed) (passes A rules J B (J - h.passed) (suc (suc h.passed))) h.last) (eq-eqb (length h.last.rows) (length h.began.rows) h.none-added))
+      ∙ h.verdict-is

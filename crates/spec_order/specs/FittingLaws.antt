@@ -43,7 +43,7 @@ module _ {E : Type 0} (M : Forms E) (rows : List (Row E)) where
   unfolding pointer_fits
   lower i x p f = ltb-true p i (and-fst (ltb p i) (eqb (get_or rows p (no_row M)).head x) f)
 
-  pub pointers-fit : (i : ℕ) (b : Body) (l r n : ℕ) → body_fits M rows i b l r n ≡ true → PointersFit i b l r
+  pointers-fit : (i : ℕ) (b : Body) (l r n : ℕ) → body_fits M rows i b l r n ≡ true → PointersFit i b l r
   unfolding body_fits
   pointers-fit i empty l r n f = tt
   pointers-fit i (one s) l r n f = and-fst (pointer_fits M rows i s l) (eqb r absent) (and-fst (pointer_fits M rows i s l && eqb r absent) (eqb n (capped (symbol_len M rows s l))) f)
@@ -87,14 +87,6 @@ module _ {E : Type 0} (M : Forms E) (rows : List (Row E)) where
         size = length-fits i (body_at rules i) r.left r.right r.len (and-snd (a && b) d f);
       }
 
-  -- its pointers and its length fit its rule's body
-  pub body-fits-so : (rules : List Rule) (i : ℕ) → row_fits M rows rules i ≡ true
-      → body_fits M rows i (get_or rules (get_or rows i (no_row M)).rule no_rule).body (get_or rows i (no_row M)).left (get_or rows i (no_row M)).right (get_or rows i (no_row M)).len ≡ true
-  unfolding row_fits
-  body-fits-so rules i f =
-      let r : Row E = row_at i in
-      and-snd (ltb r.rule (length rules) && eqb (get_or rules r.rule no_rule).head r.head) (body_fits M rows i (body_at rules i) r.left r.right r.len) f
-
 -- ---- the forms matter only in the row that is never read
 
 module _ {E : Type 0} (M N : Forms E) (rows : List (Row E)) where
@@ -122,7 +114,7 @@ module _ {E : Type 0} (M N : Forms E) (rows : List (Row E)) where
       ap₂ (λ (x y : Bool). (x && y) && eqb n (capped (symbol_len M rows s l + symbol_len M rows t r))) (pointer-same i s l) (pointer-same i t r)
       ∙ ap₂ (λ (x y : ℕ). (pointer_fits N rows i s l && pointer_fits N rows i t r) && eqb n (capped (x + y))) (len-same s l) (len-same t r)
 
-  pub row_same : (rules : List Rule) (i : ℕ) → row_fits M rows rules i ≡ row_fits N rows rules i
+  row_same : (rules : List Rule) (i : ℕ) → row_fits M rows rules i ≡ row_fits N rows rules i
   unfolding row_fits
   row_same rules i =
       let r : Row E = get_or rows i (no_row M) in

@@ -18,12 +18,12 @@ use Rattle.spec_order.specs.Candidates.{Choice, Candidate, sole, paired, bare, c
 use Rattle.spec_order.specs.Fitting.{pointer_fits, symbol_len, body_fits, row_fits}
 use Rattle.spec_order.specs.Journal.{Row, absent, capped, no_row, live, live_of}
 use Rattle.spec_order.specs.Journals.{journal-ind}
-use Rattle.spec_order.specs.Order.{Progress, born, retire, added, passes, check}
+use Rattle.spec_order.specs.Order.{born, retire, added, check}
 use Rattle.spec_order.specs.Soundness.{live_rows-out, pairs-out, pass_candidates-out}
 use Rattle.spec_order.specs.Truth.{length-added, last-added}
 
 -- the fields that a pass leaves alone
-abbrev pub core : {E : Type 0} → Row E → Row E
+abbrev core : {E : Type 0} → Row E → Row E
 core r = record { head = r.head; rule = r.rule; effect = r.effect; left = r.left; right = r.right; len = r.len; birth = r.birth; retired = 0 }
 
 module _ {E : Type 0} (A : Algebra E) where
@@ -38,10 +38,10 @@ module _ {E : Type 0} (A : Algebra E) where
     pub least : length rows₀ ≤ length rows
     pub same : (j : ℕ) → j < length rows₀ → core (get_or rows j (no_row A.forms)) ≡ core (get_or rows₀ j (no_row A.forms))
 
-  pub keeps-refl : (rows : List (Row E)) → Keeps rows rows
+  keeps-refl : (rows : List (Row E)) → Keeps rows rows
   keeps-refl rows = record { least = le_refl (length rows); same = λ j h. refl }
 
-  pub keeps-added : (k : ℕ) (c : Candidate E) (rows : List (Row E)) → Keeps rows (added A.below k c rows)
+  keeps-added : (k : ℕ) (c : Candidate E) (rows : List (Row E)) → Keeps rows (added A.below k c rows)
   unfolding added retire
   keeps-added k c rows =
       record {
@@ -54,34 +54,28 @@ module _ {E : Type 0} (A : Algebra E) where
   pub keeps-more : (rows more : List (Row E)) → Keeps rows (rows ++ more)
   keeps-more rows more = record { least = omega (arith, length-append rows more); same = λ j h. ap core (get_or-append rows more none_row j h) }
 
-  pub keeps-trans : (a b c : List (Row E)) → Keeps a b → Keeps b c → Keeps a c
+  keeps-trans : (a b c : List (Row E)) → Keeps a b → Keeps b c → Keeps a c
   keeps-trans a b c p q = record { least = le_trans p.least q.least; same = λ j h. q.same j (le_trans h p.least) ∙ p.same j h }
 
-  -- the rows below i have the nonterminals and the lengths that they had
-  pub record Alike (i : ℕ) (rows₀ rows : List (Row E)) : Type 0 where
-    pub heads : (j : ℕ) → j < i → (get_or rows j (no_row A.forms)).head ≡ (get_or rows₀ j (no_row A.forms)).head
-    pub lens : (j : ℕ) → j < i → (get_or rows j (no_row A.forms)).len ≡ (get_or rows₀ j (no_row A.forms)).len
-
-  pub keeps-alike : (i : ℕ) (rows₀ rows : List (Row E)) → i ≤ length rows₀ → Keeps rows₀ rows → Alike i rows₀ rows
-  keeps-alike i rows₀ rows hi keeps =
-      record { heads = λ j h. ap (λ (x : Row E). x.head) (keeps.same j (le_trans h hi)); lens = λ j h. ap (λ (x : Row E). x.len) (keeps.same j (le_trans h hi)) }
-
   -- a row fits by its own fields and those of lower rows
-  module _ (rows₀ rows : List (Row E)) (i i' : ℕ) (up : i ≤ i') (alike : Alike i rows₀ rows) where
+  module _ (rows₀ rows : List (Row E)) (i i' : ℕ) (hi : i ≤ length rows₀) (up : i ≤ i') (keeps : Keeps rows₀ rows) where
     pointer-same : (s : Symbol) (p : ℕ) → pointer_fits M rows₀ i s p ≡ true → pointer_fits M rows i' s p ≡ true
     unfolding pointer_fits
     pointer-same (terminal c) p f = f
     pointer-same (nonterminal q) p f =
         let l = and-fst (ltb p i) (eqb (get_or rows₀ p none_row).head q) f in
+        let e : core (get_or rows p none_row) ≡ core (get_or rows₀ p none_row) = keeps.same p (le_trans (ltb-true p i l) hi) in
         and_intro (ltb p i') (eqb (get_or rows p none_row).head q) (lt-ltb p i' (le_trans (ltb-true p i l) up))
-        (ap (λ (x : ℕ). eqb x q) (alike.heads p (ltb-true p i l)) ∙ and-snd (ltb p i) (eqb (get_or rows₀ p none_row).head q) f)
+        (ap (λ (x : Row E). eqb x.head q) e ∙ and-snd (ltb p i) (eqb (get_or rows₀ p none_row).head q) f)
 
     len-same : (s : Symbol) (p : ℕ) → pointer_fits M rows₀ i s p ≡ true → symbol_len M rows s p ≡ symbol_len M rows₀ s p
     unfolding pointer_fits symbol_len
     len-same (terminal c) p f = refl
-    len-same (nonterminal q) p f = alike.lens p (ltb-true p i (and-fst (ltb p i) (eqb (get_or rows₀ p none_row).head q) f))
+    len-same (nonterminal q) p f =
+        let e : core (get_or rows p none_row) ≡ core (get_or rows₀ p none_row) = keeps.same p (le_trans (ltb-true p i (and-fst (ltb p i) (eqb (get_or rows₀ p none_row).head q) f)) hi) in
+        ap (λ (x : Row E). x.len) e
 
-    pub body_same : (b : Body) (l r n : ℕ) → body_fits A.forms rows₀ i b l r n ≡ true → body_fits A.forms rows i' b l r n ≡ true
+    body_same : (b : Body) (l r n : ℕ) → body_fits M rows₀ i b l r n ≡ true → body_fits M rows i' b l r n ≡ true
     unfolding body_fits
     body_same empty l r n f = f
     body_same (one s) l r n f =
@@ -117,7 +111,7 @@ module _ {E : Type 0} (A : Algebra E) where
       let e = eqb-true n m (and-snd (pointer_fits M rows i s l && pointer_fits M rows i t r) (eqb n m) f) in
       omega (arith, e)
 
-  pub row-short : (rows : List (Row E)) (rules : List Rule) (i : ℕ) → row_fits A.forms rows rules i ≡ true → capped (get_or rows i (no_row A.forms)).len ≡ (get_or rows i (no_row A.forms)).len
+  row-short : (rows : List (Row E)) (rules : List Rule) (i : ℕ) → row_fits M rows rules i ≡ true → capped (get_or rows i none_row).len ≡ (get_or rows i none_row).len
   unfolding row_fits
   row-short rows rules i f =
       let r : Row E = get_or rows i none_row in
@@ -150,7 +144,7 @@ module _ {E : Type 0} (A : Algebra E) where
     fits_body b x = body_fits M rows (length rows) b x.left x.right x.len
 
     -- where the lengths of the rows are at most 65,535
-    module _ (short : (i : ℕ) → i < length rows → capped (get_or rows i (no_row A.forms)).len ≡ (get_or rows i (no_row A.forms)).len) where
+    module _ (short : (i : ℕ) → i < length rows → capped (get_or rows i none_row).len ≡ (get_or rows i none_row).len) where
       symbol-short : (s : Symbol) (p : ℕ) → pointer_fits M rows (length rows) s p ≡ true → capped (symbol_len M rows s p) ≡ symbol_len M rows s p
       unfolding pointer_fits symbol_len capped
       symbol-short (terminal c) p f = refl
@@ -187,7 +181,7 @@ module _ {E : Type 0} (A : Algebra E) where
                 (eq-eqb (capped (a.len + b.len)) (capped (symbol_len M rows s a.pointer + symbol_len M rows s' b.pointer)) (ap₂ (λ (x y : ℕ). capped (x + y)) f.1 g.1)),
           )
 
-      pub candidate-fits : (c : Candidate E) → In c (pass_candidates A.forms rows 0 rules) → CandidateFits c
+      candidate-fits : (c : Candidate E) → In c (pass_candidates M rows 0 rules) → CandidateFits c
       candidate-fits c m =
           let t = pass_candidates-out A rows c rules 0 m in
           let f = body-candidate-fits t.0.head (0 + t.1) t.0.body c t.4 in
@@ -206,20 +200,16 @@ module _ {E : Type 0} (A : Algebra E) where
     AllFit rows = (i : ℕ) → i < length rows → row_fits A.forms rows rules i ≡ true
 
     -- the row i' of rows has the fields of c, which fits rows₀ at i
-    pub fits-as : (rows₀ rows : List (Row E)) (i i' : ℕ) → i ≤ i' → Alike i rows₀ rows
-        → (c : Row E) → core (get_or rows i' (no_row A.forms)) ≡ core c → c.rule < length rules → (get_or rules c.rule no_rule).head ≡ c.head
-        → body_fits A.forms rows₀ i (get_or rules c.rule no_rule).body c.left c.right c.len ≡ true → row_fits A.forms rows rules i' ≡ true
+    fits-as : (rows₀ rows : List (Row E)) (i i' : ℕ) → i ≤ length rows₀ → i ≤ i' → Keeps rows₀ rows
+        → (c : Row E) → core (get_or rows i' none_row) ≡ core c → c.rule < length rules → (get_or rules c.rule no_rule).head ≡ c.head
+        → body_fits M rows₀ i (get_or rules c.rule no_rule).body c.left c.right c.len ≡ true → row_fits M rows rules i' ≡ true
     unfolding row_fits
-    fits-as rows₀ rows i i' up alike c e l h f =
+    fits-as rows₀ rows i i' hi up keeps c e l h f =
         let D : Row E → Bool = λ x. body_fits M rows i' (get_or rules x.rule no_rule).body x.left x.right x.len in
         ap (λ (x : Row E). (ltb x.rule (length rules) && eqb (get_or rules x.rule no_rule).head x.head) && body_fits M rows i' (get_or rules x.rule no_rule).body x.left x.right x.len) e
         ∙ and_intro (ltb c.rule (length rules) && eqb (get_or rules c.rule no_rule).head c.head) (D c)
         (and_intro (ltb c.rule (length rules)) (eqb (get_or rules c.rule no_rule).head c.head) (lt-ltb c.rule (length rules) l) (eq-eqb (get_or rules c.rule no_rule).head c.head h))
-        (body_same rows₀ rows i i' up alike (get_or rules c.rule no_rule).body c.left c.right c.len f)
-
-    -- the candidates of a pass over rows that fit
-    pub candidate-fit : (rows : List (Row E)) → AllFit rows → (c : Candidate E) → In c (pass_candidates A.forms rows 0 rules) → CandidateFits rules rows c
-    candidate-fit rows all = candidate-fits rules rows (λ i l. row-short rows rules i (all i l))
+        (body_same rows₀ rows i i' hi up keeps (get_or rules c.rule no_rule).body c.left c.right c.len f)
 
     -- a row still fits where the rows are kept
     pub fits_on : (rows rows' : List (Row E)) → Keeps rows rows' → (i : ℕ) → i < length rows → row_fits A.forms rows rules i ≡ true → row_fits A.forms rows' rules i ≡ true
@@ -229,11 +219,11 @@ module _ {E : Type 0} (A : Algebra E) where
         let a = ltb r.rule (length rules) in
         let b = eqb (get_or rules r.rule no_rule).head r.head in
         let d = body_fits M rows i (get_or rules r.rule no_rule).body r.left r.right r.len in
-        fits-as rows rows' i i (le_refl i) (keeps-alike i rows rows' (omega arith) keeps)
+        fits-as rows rows' i i (omega arith) (le_refl i) keeps
         r (keeps.same i l) (ltb-true r.rule (length rules) (and-fst a b (and-fst (a && b) d f)))
         (eqb-true (get_or rules r.rule no_rule).head r.head (and-snd a b (and-fst (a && b) d f))) (and-snd (a && b) d f)
 
-    pub fit-added : (k : ℕ) (c : Candidate E) (rows₀ rows : List (Row E)) → CandidateFits rules rows₀ c → Keeps rows₀ rows → AllFit rows → AllFit (added A.below k c rows)
+    fit-added : (k : ℕ) (c : Candidate E) (rows₀ rows : List (Row E)) → CandidateFits rules rows₀ c → Keeps rows₀ rows → AllFit rows → AllFit (added A.below k c rows)
     unfolding row_fits born
     fit-added k c rows₀ rows cf keeps all i h = by (eq-or-lt_of_le (le_of_suc-le-suc (subst (λ (x : ℕ). i < x) (length-added A k c rows) h)))
       where
@@ -242,20 +232,16 @@ module _ {E : Type 0} (A : Algebra E) where
 
         by : (i ≡ length rows) ⊎ (i < length rows) → row_fits M (added A.below k c rows) rules i ≡ true
         by (inl e) =
-            fits-as rows₀ rows' (length rows₀) i (omega (arith, keeps.least))
-            (keeps-alike (length rows₀) rows₀ rows' (le_refl (length rows₀)) (keeps-trans rows₀ rows rows' keeps (keeps-added k c rows)))
+            fits-as rows₀ rows' (length rows₀) i (le_refl (length rows₀)) (omega (arith, keeps.least)) (keeps-trans rows₀ rows rows' keeps (keeps-added k c rows))
             (born k c) (ap (λ (x : ℕ). core (get_or rows' x none_row)) e ∙ ap core (last-added A k c rows)) cf.rule-in cf.head-is cf.body-fits
         by (inr l) = fits_on rows rows' (keeps-added k c rows) i l (all i l)
-
-    -- rows that fit still do after any passes
-    pub passes-fit : (J B f h : ℕ) (s : Progress E) → AllFit s.rows → AllFit (passes A rules J B f (suc h) s).journal
-    passes-fit J B =
-        journal-ind A rules J B AllFit (λ rows₀ rows. Keeps rows₀ rows × AllFit rows)
-        (λ rows p. (keeps-refl rows, p))
-        (λ h rows₀ rows c m d p q. (keeps-trans rows₀ rows (added A.below (suc h) c rows) q.0 (keeps-added (suc h) c rows), fit-added (suc h) c rows₀ rows (candidate-fit rows₀ p c m) q.0 q.1))
-        (λ rows₀ rows q. q.1)
 
     -- every row of a check's journal fits
     pub check-fits : (J B : ℕ) → AllFit (check A rules J B).journal
     unfolding check
-    check-fits J B = passes-fit J B (suc J) 0 (record { rows = []; joins = 0 }) (λ i h. absurd (not-suc-le-zero h))
+    check-fits J B =
+        journal-ind A rules J B AllFit (λ rows₀ rows. Keeps rows₀ rows × AllFit rows)
+        (λ rows p. (keeps-refl rows, p))
+        (λ h rows₀ rows c m d p q. (keeps-trans rows₀ rows (added A.below (suc h) c rows) q.0 (keeps-added (suc h) c rows), fit-added (suc h) c rows₀ rows (candidate-fits rules rows₀ (λ i l. row-short rows₀ rules i (p i l)) c m) q.0 q.1))
+        (λ rows₀ rows q. q.1)
+        (suc J) 0 (record { rows = []; joins = 0 }) (λ i h. absurd (not-suc-le-zero h))

@@ -1,5 +1,5 @@
 -- The journal: one row for each kept effect (document 01, "Working order"). Definitions only. Assumes nothing.
-use Rattle.std.specs.Prelude.{◌≡◌, Bool, ◌&&◌, List, ℕ, min, drop}
+use Rattle.std.specs.Prelude.{Bool, ◌&&◌, ℕ, min}
 use Rattle.std.proofs.Math.Dec.{eqb}
 use Rattle.spec_order.specs.Algebra.{Forms}
 
@@ -39,7 +39,3 @@ module _ {E : Type 0} where
   unfoldable pub live_of : ℕ → Row E → Bool
   unfolding live
   live_of x r = eqb r.head x && live r
-
--- beyond its first u rows the journal `new` has what `old` has there; a row may be of any type, so that it is said number by number
-abbrev pub KeptBeyond : {X : Type 0} → ℕ → List X → List X → Type 0
-KeptBeyond u old new = drop u new ≡ drop u old

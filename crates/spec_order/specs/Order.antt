@@ -110,8 +110,7 @@ module _ {E : Type 0} (starts : List ℕ) where
   close k u next (stopped v i s) = answer v k i s
   close k u next (going s) = close_by (eqb (length s.rows) u) k next s
 
--- a check with J rows and a budget of B joins has at most this many passes: each but the last adds a row, whatever B is. Where rows are used
--- again, J bounds no passes and B does (`spec_reuse/Reuse`)
+-- a check with J rows and a budget of B joins has at most this many passes: each but the last adds a row
 abbrev pub pass_limit : ℕ → ℕ → ℕ
 pass_limit J B = suc J
 

@@ -67,7 +67,7 @@ module _ {E : Type 0} where
   Grown (r ∷ old) [] = ⊥
   Grown (r ∷ old) (s ∷ new) = Later r s × Grown old new
 
-  pub grown-refl : (rows : List (Row E)) → Grown rows rows
+  grown-refl : (rows : List (Row E)) → Grown rows rows
   grown-refl [] = tt
   grown-refl (r ∷ rows) = (record { effect = refl; len = refl; alive = λ x h. h }, grown-refl rows)
 
@@ -88,7 +88,7 @@ module _ {E : Type 0} (A : Algebra E) where
       by x true e h =
           and_intro (eqb r.head x) (live r) (and-fst (eqb r.head x) (eqb k 0) h) (and-snd (eqb r.head c.head) (live r) (and-fst (live_of c.head r) _ e))
 
-  pub grown-added : (k : ℕ) (c : Candidate E) (old rows : List (Row E)) → Grown old rows → Grown old (added A.below k c rows)
+  grown-added : (k : ℕ) (c : Candidate E) (old rows : List (Row E)) → Grown old rows → Grown old (added A.below k c rows)
   unfolding added
   grown-added k c old rows g = grown-more (retire A.below k c) (retire-later k c) old rows (born k c ∷ []) g
 
@@ -106,7 +106,7 @@ module _ {E : Type 0} (A : Algebra E) where
 
 module _ {E : Type 0} where
   -- a choice that points below i + n, among the rows from i on
-  pub rows_before : (x i : ℕ) (old new : List (Row E)) → Grown old new → (c : Choice E) → In c (live_rows x i new) → c.pointer < i + length old → In c (live_rows x i old)
+  rows_before : (x i : ℕ) (old new : List (Row E)) → Grown old new → (c : Choice E) → In c (live_rows x i new) → c.pointer < i + length old → In c (live_rows x i old)
   unfolding live_rows
   rows_before x i [] new g c m h = let o = live_rows-out x i c (none c) new m in absurd (omega (arith, o.pointer, h))
     where
@@ -155,7 +155,7 @@ module _ {E : Type 0} (A : Algebra E) (old new : List (Row E)) (g : Grown old ne
       (choice-before s' b t.4 (subst (λ (d : Candidate E). PointsBelow (length old) d.right) t.6 h.1))
       (in_map (paired p r a b) t.2 (A.forms.of_pair a.effect b.effect) t.5)))
 
-  pub pass-before : (rules : List Rule) (r : ℕ) (c : Candidate E) → In c (pass_candidates A.forms new r rules) → Repeats (length old) c → In c (pass_candidates A.forms old r rules)
+  pass-before : (rules : List Rule) (r : ℕ) (c : Candidate E) → In c (pass_candidates A.forms new r rules) → Repeats (length old) c → In c (pass_candidates A.forms old r rules)
   unfolding pass_candidates
   pass-before [] r c m h = m
   pass-before (x ∷ rules) r c m h =

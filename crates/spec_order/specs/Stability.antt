@@ -82,7 +82,7 @@ module _ {E : Type 0} (A : Algebra E) (rules : List Rule) (J B J' B' : ℕ) (hJ 
           let m = step-mono k c s l (subst FirmRes (sym e) g) in
           (ap (λ (x : Outcome E). and_then x (walk A.below A.breaks J' B' k cs)) (m.0 ∙ e), tt)
 
-  pub passes-mono : (f f' k : ℕ) (s : Progress E) → f ≤ f' → Held J B s → Firm (passes A rules J B f k s).verdict → passes A rules J' B' f' k s ≡ passes A rules J B f k s
+  passes-mono : (f f' k : ℕ) (s : Progress E) → f ≤ f' → Held J B s → Firm (passes A rules J B f k s).verdict → passes A rules J' B' f' k s ≡ passes A rules J B f k s
   unfolding passes answer one_pass
   passes-mono zero f' k s h l g = absurd g
   passes-mono (suc f) zero k s h l g = absurd (not-suc-le-zero h)

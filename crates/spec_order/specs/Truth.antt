@@ -98,7 +98,7 @@ module _ {E W : Type 0} (A : Algebra E) (L : Laws A) (S : Spelling E W) (Z : Siz
     pub least : length rows₀ ≤ length s.rows
     pub same : length s.rows ≡ length rows₀ → s.rows ≡ rows₀
 
-  unfoldable pub End : ℕ → Verdict → ℕ → Progress E → Type 0
+  abbrev End : ℕ → Verdict → ℕ → Progress E → Type 0
   unfolding answer
   End k v i s = Sound A S rules k s.rows × SaysBy A S rules v (answer v k i s)
 
@@ -112,7 +112,7 @@ module _ {E W : Type 0} (A : Algebra E) (L : Laws A) (S : Spelling E W) (Z : Siz
       fails (A.breaks p e) (λ y. true≢false (sym (L.breaks-below p a.0 e a.2 y) ∙ q))
 
   -- what one candidate of pass h + 1 keeps, or says where it stops the check
-  pub one-step : (h : ℕ) (rows₀ : List (Row E)) (c : Candidate E) → ((p : ℕ) (e : E) → Gets A rules h p e → A.breaks p e ≡ false)
+  one-step : (h : ℕ) (rows₀ : List (Row E)) (c : Candidate E) → ((p : ℕ) (e : E) → Gets A rules h p e → A.breaks p e ≡ false)
       → CandidateSound A S rules (suc h) rows₀ c → (s : Progress E) → During h rows₀ s
       → Post (During h rows₀) (End (suc h)) (consider A.below A.breaks J B (suc h) c s)
   unfolding End answer word_behind born
@@ -144,7 +144,7 @@ module _ {E W : Type 0} (A : Algebra E) (L : Laws A) (S : Spelling E W) (Z : Siz
       grown-sound = sound-added A S rules (suc h) c rows₀ s.rows d.more cs d.grew d.sound
 
   -- the same of a whole pass
-  pub one-pass : (h : ℕ) (s : Progress E) → Between h s.rows → Post (During h s.rows) (End (suc h)) (one_pass A rules J B (suc h) s)
+  one-pass : (h : ℕ) (s : Progress E) → Between h s.rows → Post (During h s.rows) (End (suc h)) (one_pass A rules J B (suc h) s)
   unfolding one_pass
   one-pass h s b =
       walk-post A J B (suc h) (During h s.rows) (End (suc h)) (pass_candidates A.forms s.rows 0 rules)
@@ -162,7 +162,7 @@ module _ {E W : Type 0} (A : Algebra E) (L : Laws A) (S : Spelling E W) (Z : Siz
       record { sound = d.sound; quiet = d.quiet; covers = higher A L rules h (LiveIn s.rows) (LiveIn t.rows) b.covers (follows A s.rows rules t.rows v.each) }
 
   pub passes-say : (f h : ℕ) (s : Progress E) → Between h s.rows → Says A S rules (passes A rules J B f (suc h) s)
-  unfolding passes answer one_pass End
+  unfolding passes answer one_pass
   passes-say zero h s b = record { sound = sound-taller A S rules h s.rows b.sound; verdict = tt }
   passes-say (suc f) h s b =
       by (one_pass A rules J B (suc h) s) refl (one-pass h s b) (walk-covers A J B (suc h) L (pass_candidates A.forms s.rows 0 rules) s) (passes-say f (suc h))

@@ -14,7 +14,7 @@
 //                                            with exactly the row's effect
 //     Truth                                  what each verdict says (`check-says`); a broken pass is the least height
 //     Halting                                a pass goes through all its candidates or stops at one, and each before it was one join
-//     Exactly                                where the order stops as Stopping says, the check answers so, and Stopping leaves one answer
+//     Exactly                                where the order stops as Stopping says, the check answers so
 //     Counting                               spent: joins = budget; full: used = J; pass at most J + 1; joins at most R * J * J * (J + 1)
 //     Stability                              a longer journal or a larger budget leaves a firm answer as it is
 //     Antichain                              live rows of one nonterminal are incomparable

@@ -170,7 +170,7 @@ module _ (F : Form) (fits : Fitting F) (r : List ℕ) (wide : length r ≡ F.wid
 
 -- ---- a record and the one before it
 
-pub precedes-same : (r s : List ℕ) (m j : ℕ) → length r ≡ suc m + j → length s ≡ suc m + j → precedes (drop j r) (drop j s) ≡ rises_from m j r s
+precedes-same : (r s : List ℕ) (m j : ℕ) → length r ≡ suc m + j → length s ≡ suc m + j → precedes (drop j r) (drop j s) ≡ rises_from m j r s
 unfolding rises_from
 precedes-same r s zero j lr ls =
     rw (drop-last r j (omega arith), drop-last s j (omega arith)) (last (ltb (byte r j) (byte s j)) (eqb (byte r j) (byte s j)))

@@ -11,7 +11,7 @@ use Rattle.spec_basics.specs.Elements.{In}
 use Rattle.spec_basics.specs.Lists.{in-cases}
 use Rattle.spec_unfold.specs.Chains.{RuleOver, chains_for, chains_in, chain, unfolded}
 use Rattle.spec_unfold.specs.ChainLaws.{Fresh}
-use Rattle.spec_records.specs.SortingLaws.{Distinct}
+use Rattle.spec_unfold.specs.SortingLaws.{Distinct}
 
 module _ {S : Type 0} (call : ℕ → S) where
   -- ---- how many

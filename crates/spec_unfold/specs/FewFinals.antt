@@ -11,7 +11,7 @@ use Rattle.spec_file.specs.Views.{cons_if}
 use Rattle.spec_records.specs.OnRecords.{used_bytes, high_byte, unused_byte, precedes, of_kind}
 use Rattle.spec_records.specs.FormLaws.{Alone, count_among}
 use Rattle.spec_records.specs.RecordLaws.{precedes-cancel, zeros}
-use Rattle.spec_records.specs.SortingLaws.{Ordered}
+use Rattle.spec_unfold.specs.SortingLaws.{Ordered}
 use Rattle.spec_unfold.specs.Unfolding.{keep}
 
 -- ---- counts by kind

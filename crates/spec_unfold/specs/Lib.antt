@@ -1,9 +1,11 @@
 pub mod Moving
 pub mod Chains
+pub mod Sorting
 pub mod Unfolding
 pub mod Calls
 pub mod MovingMeans
 pub mod UnfoldingMeans
+pub mod SortingLaws
 pub mod OrderLaws
 pub mod MovingLaws
 pub mod ChainLaws

@@ -6,7 +6,7 @@ use Rattle.spec_basics.specs.Lists.{map-in}
 use Rattle.spec_records.specs.OnRecords.{precedes, follows}
 use Rattle.spec_records.specs.FormLaws.{Rising}
 use Rattle.spec_records.specs.RecordLaws.{precedes-never, precedes-onward, precedes-either}
-use Rattle.spec_records.specs.SortingLaws.{Ordered, Strict}
+use Rattle.spec_unfold.specs.SortingLaws.{Ordered, Strict}
 
 -- records of one width are in strict order
 pub strict : (w : ℕ) → Strict (λ (r : List ℕ). length r ≡ w) precedes

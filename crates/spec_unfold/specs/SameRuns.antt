@@ -23,8 +23,8 @@ use Rattle.spec_records.specs.OnRecords.{precedes}
 use Rattle.spec_unfold.specs.Chains.{RuleOver, chains_in, unfolded, first_free}
 use Rattle.spec_unfold.specs.ChainFacts.{head-cases}
 use Rattle.spec_unfold.specs.ChainLaws.{same-words, as_productions}
-use Rattle.spec_records.specs.Sorting.{sort}
-use Rattle.spec_records.specs.SortingLaws.{sort-in, in-sort}
+use Rattle.spec_unfold.specs.Sorting.{sort}
+use Rattle.spec_unfold.specs.SortingLaws.{sort-in, in-sort}
 use Rattle.spec_unfold.specs.Moving.{narrower}
 use Rattle.spec_unfold.specs.Unfolding.{keep, has_kind, byte_rules, spelled, wide_productions_of, wide_automaton_of, first_chain, rule_bytes, chained_rules, unfolded_file, too_many, above_byte, call_byte}
 use Rattle.spec_unfold.specs.FreshLaws.{free-above, call-different, fresh-bytes, fresh-symbols, unfolded-symbolic, symbolic, spelled-symbolic}

@@ -22,8 +22,8 @@ use Rattle.spec_records.specs.Agreement.{sixteen-fits}
 use Rattle.spec_records.specs.FormLaws.{Alone, count_among, sound}
 use Rattle.spec_records.specs.RecordLaws.{precedes-first, rule-bytes}
 use Rattle.spec_unfold.specs.Chains.{RuleOver, chains_in, chain, unfolded}
-use Rattle.spec_records.specs.Sorting.{sort}
-use Rattle.spec_records.specs.SortingLaws.{Ordered, sort-ordered}
+use Rattle.spec_unfold.specs.Sorting.{sort}
+use Rattle.spec_unfold.specs.SortingLaws.{Ordered, sort-ordered}
 use Rattle.spec_unfold.specs.OrderLaws.{strict, rising-ordered}
 use Rattle.spec_unfold.specs.Moving.{wider, narrower, widened, narrowed, has_long}
 use Rattle.spec_unfold.specs.MovingLaws.{byte-same, body_same, map-fixed, old, wide, widened-records, few-symbols, narrowed-passes, moved-again}

@@ -19,7 +19,7 @@ use Rattle.spec_records.specs.Blocks.{bytes_of, records_of}
 use Rattle.spec_records.specs.OnRecords.{precedes}
 use Rattle.spec_unfold.specs.Chains.{RuleOver, chains_in, unfolded, above_body, first_free}
 use Rattle.spec_unfold.specs.Moving.{narrower}
-use Rattle.spec_records.specs.Sorting.{sort}
+use Rattle.spec_unfold.specs.Sorting.{sort}
 use Rattle.spec_unfold.specs.Unfolding.{keep, has_kind, byte_rules, call_byte, above_byte, rule_bytes, above_members, least_for, first_chain, chained_rules, unfolded_file, too_many}
 use Rattle.spec_unfold.specs.Calls.{chain_fault, output_fault, unfold_of, unfold_after}
 

@@ -9,7 +9,7 @@ use Rattle.spec_file.specs.Views.{symbol_of, transition_of, final_of, cons_if}
 use Rattle.spec_records.specs.Blocks.{bytes_of, records_of}
 use Rattle.spec_records.specs.OnRecords.{body_in, precedes}
 use Rattle.spec_unfold.specs.Chains.{RuleOver, chains_in, unfolded, first_free}
-use Rattle.spec_records.specs.Sorting.{sort}
+use Rattle.spec_unfold.specs.Sorting.{sort}
 use Rattle.spec_unfold.specs.Moving.{narrower}
 
 -- the records that pass a test, in file order

@@ -19,8 +19,8 @@ use Rattle.spec_records.specs.RecordLaws.{precedes-less, precedes-cancel, rule-b
 use Rattle.spec_records.specs.Agreement.{eight_fits, sixteen-fits}
 use Rattle.spec_unfold.specs.Chains.{RuleOver, chains_in}
 use Rattle.spec_unfold.specs.ChainFacts.{length-unfolded, Small, all_small, all-distinct}
-use Rattle.spec_records.specs.Sorting.{sort}
-use Rattle.spec_records.specs.SortingLaws.{Ordered, Distinct, sort-in, length-all, ordered-sort, ordered-append}
+use Rattle.spec_unfold.specs.Sorting.{sort}
+use Rattle.spec_unfold.specs.SortingLaws.{Ordered, Distinct, sort-in, length-all, ordered-sort, ordered-append}
 use Rattle.spec_unfold.specs.OrderLaws.{strict, rising-ordered, ordered-rising, ordered-map}
 use Rattle.spec_unfold.specs.Moving.{narrower}
 use Rattle.spec_unfold.specs.MovingLaws.{Narrows, narrows, length-narrower, count_map}

@@ -27,8 +27,8 @@ use Rattle.spec_records.specs.OnRecords.{precedes}
 use Rattle.spec_unfold.specs.Chains.{RuleOver, chains_in, unfolded}
 use Rattle.spec_unfold.specs.ChainLaws.{as_productions}
 use Rattle.spec_unfold.specs.ChainFacts.{length-unfolded}
-use Rattle.spec_records.specs.Sorting.{sort}
-use Rattle.spec_records.specs.SortingLaws.{length-all}
+use Rattle.spec_unfold.specs.Sorting.{sort}
+use Rattle.spec_unfold.specs.SortingLaws.{length-all}
 use Rattle.spec_unfold.specs.Unfolding.{byte_rules, spelled, wide_productions_of, wide_automaton_of, call_byte, first_chain, chained_rules, rule_bytes, unfolded_file, too_many}
 use Rattle.spec_unfold.specs.FreshLaws.{symbolic, spelled-symbolic, unfolded-symbolic}
 use Rattle.spec_unfold.specs.UnfoldingLaws.{unfolded-passes}

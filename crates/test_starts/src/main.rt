@@ -253,11 +253,11 @@ fn other_bodies() {
 // A body of three steps with a sheet that accepts it, as records of sixteen bytes.
 fn accepted() -> [u8; 80] {
     let mut file = [0u8; 80];
-    file_bytes::put(&mut file, 0, &[1, 0, 3, 1, 2, 3, 0, 0]);
-    file_bytes::put(&mut file, 16, &[2, 0, 1, 1, 0, 0, 0, 0]);
-    file_bytes::put(&mut file, 32, &[2, 1, 2, 2, 0, 0, 0, 0]);
-    file_bytes::put(&mut file, 48, &[2, 2, 3, 3, 0, 0, 0, 0]);
-    file_bytes::put(&mut file, 64, &[3, 3, 0, 0, 0, 0, 0, 0]);
+    call_move::put(&mut file, 0, &[1, 0, 3, 1, 2, 3, 0, 0]);
+    call_move::put(&mut file, 16, &[2, 0, 1, 1, 0, 0, 0, 0]);
+    call_move::put(&mut file, 32, &[2, 1, 2, 2, 0, 0, 0, 0]);
+    call_move::put(&mut file, 48, &[2, 2, 3, 3, 0, 0, 0, 0]);
+    call_move::put(&mut file, 64, &[3, 3, 0, 0, 0, 0, 0, 0]);
     file
 }
 

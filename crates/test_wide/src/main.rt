@@ -128,7 +128,7 @@ fn unfold_by(label: &[u8], file: &[u8; WIDE], n: usize, room: usize) {
 // Stores the bytes `r` as record `i` of `file`.
 fn put(file: &mut [u8; WIDE], i: usize, r: WideRecord) {
     if i < RECORDS {
-        file_bytes::put(file, i * 16, &r);
+        call_move::put(file, i * 16, &r);
     }
 }
 

@@ -16,7 +16,7 @@
 //! `moves` has no number: its line has the offset and the length. `write STARTS ROWS BUDGET ROW ROOM` writes a row of the journal that a check over as
 //! many rows has left, with as many of them used as that check has said.
 
-use crate::{damage, retiring_file, valid_file, valid_wide_file, Numbers, Size};
+use crate::{damage, valid_file, valid_wide_file, Numbers, Size};
 use bolfrega::{
     raw, Row, CELLS, FILE_BYTES, FIRST_REMARK, LIST_BYTES, LONGEST_RUN, MOST_RECORDS, MOST_ROWS, NEAR_WORDS, PROGRAM_BUDGET,
     PROGRAM_ROOM, PROGRAM_ROWS, TABLE_CELLS, WIDE_BYTES,
@@ -204,8 +204,8 @@ impl Call {
             Call::CheckRows { starts, budget, rows } => {
                 let mut outcome = checked(file, starts, rows, budget, LONGEST_RUN);
                 outcome.set[REFUSED] = 0;
-                let left = searched(file, starts, rows, budget).map_or(vec![], |search| [search.rows, search.above].concat());
-                let words = left.iter().flat_map(words).chain(iter::repeat(CELL)).take(ROW_WORDS * rows);
+                let stored = searched(file, starts, rows, budget).map_or(vec![], |search| search.rows);
+                let words = stored.iter().flat_map(words).chain(iter::repeat(CELL)).take(ROW_WORDS * rows);
                 outcome.sum = Some(sum(words.flat_map(u64::to_le_bytes)));
                 outcome
             }
@@ -499,8 +499,7 @@ const SMALL: Size = Size {
     moves: 16,
 };
 
-/// The case of a number. Half of the files are damaged, a quarter have sixteen-byte records, one in 101 is large, and in the checks of an eighth rows
-/// retire.
+/// The case of a number. Half of the files are damaged, a quarter have sixteen-byte records, and one in 101 is large.
 fn case(numbers: &mut Numbers, at: usize) -> Case {
     let size = Size {
         procedures: numbers.pick(&[2, 4, 8, 64]),
@@ -515,11 +514,9 @@ fn case(numbers: &mut Numbers, at: usize) -> Case {
         moves: 1_024,
     };
     let size = if at % 101 == 100 { large } else { size };
-    let (wide, retiring) = (at % 4 == 3, at % 8 == 2);
+    let wide = at % 4 == 3;
     let mut file = if wide {
         valid_wide_file(numbers, size, &[0, 1, 1, 2, 2, 2, 3, 4, 12])
-    } else if retiring {
-        retiring_file(numbers)
     } else {
         valid_file(numbers, size)
     };
@@ -540,38 +537,8 @@ fn case(numbers: &mut Numbers, at: usize) -> Case {
         spoil(numbers, &mut file, width);
     }
     let run = run(numbers, size);
-    let mut calls = calls(numbers, &file, size);
-    if retiring {
-        calls.extend(short_journals(numbers, &file));
-    }
+    let calls = calls(numbers, &file, size);
     Case { file, run, calls }
-}
-
-/// Checks over no more rows than they need if they keep them all, so that many drop some; and the run behind a row after each.
-fn short_journals(numbers: &mut Numbers, file: &[u8]) -> Vec<Call> {
-    const BUDGET: u64 = 1_000;
-    let Ok(plan) = plain::read(file) else {
-        return vec![];
-    };
-    let starts = numbers.pick(&[0, 0, plain::INITIAL]);
-    let needed = plain::search_keeping(&plan, starts, MOST_ROWS, BUDGET).answer.used;
-    let mut calls = Vec::new();
-    for _ in 0..4 {
-        let rows = 1 + numbers.below(needed.max(1));
-        calls.push(Call::CheckRows {
-            starts,
-            budget: BUDGET,
-            rows,
-        });
-        calls.push(Call::Write {
-            starts,
-            rows,
-            budget: BUDGET,
-            row: numbers.below(rows),
-            room: 200,
-        });
-    }
-    calls
 }
 
 /// Puts a move on a remark, or adds records of zeros until there are too many.
@@ -607,7 +574,7 @@ fn calls(numbers: &mut Numbers, file: &[u8], size: Size) -> Vec<Call> {
         _ => (numbers.below(1 << 32) as u64) << 32 | numbers.below(1 << 32) as u64,
     };
     let (rows, budget) = (
-        numbers.pick(&[0, 1, 2, 5, 8, 12, 20, 30, 1_024, 4_096, 4_097]),
+        numbers.pick(&[0, 1, 2, 5, 20, 1_024, 4_096, 4_097]),
         numbers.pick(&[0, 1, 10, 100, 1_000, 1_000]),
     );
     let room = numbers.pick(&[0, 1, 5, 40, 200]);

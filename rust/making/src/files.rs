@@ -28,37 +28,6 @@ pub fn valid_wide_file(numbers: &mut Numbers, size: Size, lengths: &[usize]) -> 
     making.bytes()
 }
 
-/// A small valid file in whose check rows retire: the moves of few codes over few stages, each code with several from a stage, so that many
-/// effects compare, and many rules that join them.
-pub fn retiring_file(numbers: &mut Numbers) -> Vec<u8> {
-    let (procedures, codes, stages) = (
-        numbers.pick(&[2, 3, 3, 6]),
-        numbers.pick(&[3, 6]),
-        numbers.pick(&[3, 4, 4, 8]),
-    );
-    let mut making = FileBuilder::new();
-    for _ in 0..numbers.pick(&[8, 16, 16]) {
-        let length = numbers.pick(&[0, 1, 1, 2, 2, 2]);
-        let symbol = |numbers: &mut Numbers| {
-            if numbers.once_in(2) {
-                numbers.byte(codes)
-            } else {
-                procedure(numbers.byte(procedures))
-            }
-        };
-        let body: Vec<u8> = (0..length).map(|_| symbol(numbers)).collect();
-        making.rule(numbers.byte(procedures), &body);
-    }
-    for _ in 0..codes * stages * numbers.pick(&[1, 2, 4]) / 2 {
-        making.step(numbers.byte(stages), numbers.byte(codes), numbers.byte(stages));
-    }
-    // Up to all of the stages, so that not every check is broken at once.
-    (0..numbers.byte(stages + 1)).for_each(|stage| {
-        making.finishing(stage);
-    });
-    making.bytes()
-}
-
 /// Adds rules at random, with bodies of some of these lengths.
 fn rules<const WIDTH: usize>(numbers: &mut Numbers, size: Size, lengths: &[usize], making: &mut FileBuilder<WIDTH>) {
     // Half of the files leave procedure 0 nearly alone, so that not every check is broken at once.

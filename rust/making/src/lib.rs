@@ -7,6 +7,6 @@ mod files;
 mod numbers;
 mod plans;
 
-pub use files::{damage, retiring_file, valid_file, valid_wide_file, Size};
+pub use files::{damage, valid_file, valid_wide_file, Size};
 pub use numbers::Numbers;
 pub use plans::{plan_a, plan_b, sheet_s};

@@ -3,7 +3,6 @@
 
 use crate::effect::Effect;
 use crate::file::{Plan, Symbol, LAST_PROCEDURE};
-use crate::rows::{Rows, Serial};
 
 /// The pointer of a symbol that is a step code or absent.
 pub const ABSENT: u16 = 65_535;
@@ -48,16 +47,11 @@ pub struct Row {
     pub retired: u16,
 }
 
-/// A check that has ended: its answer and what it has left in the journal. Behind `rows` and `above` the journal has its old contents.
+/// A check that has ended: its answer and the rows that it used.
 #[derive(Clone, Debug, PartialEq, Eq)]
 pub struct Search {
     pub answer: Answer,
-    /// The used rows.
     pub rows: Vec<Row>,
-    /// The rows above them that were used before rows were dropped, as they were last (C-19).
-    pub above: Vec<Row>,
-    /// How often rows were dropped.
-    pub drops: usize,
 }
 
 /// Checks a plan, pass after pass, until one of them stops or adds no row. `one_pass` goes through the candidates of a pass; an error of it
@@ -70,13 +64,13 @@ pub(crate) fn passes(
     let mut choices = Choices::new(&plan.codes);
     let mut before = 0;
     let verdict = loop {
-        let added = journal.rows.added();
+        let used = journal.rows.len();
         journal.pass += 1;
         choices.begin_pass(&mut journal, before);
         match one_pass(&choices, &mut journal) {
             Err(stop) => break stop,
-            Ok(()) if journal.rows.added() == added => break journal.finish(),
-            Ok(()) => before = added,
+            Ok(()) if journal.rows.len() == used => break journal.finish(),
+            Ok(()) => before = used,
         }
     };
     journal.end(verdict)
@@ -89,12 +83,11 @@ pub(crate) struct Origin {
     pub rule: u16,
 }
 
-/// One choice for a symbol: a row that was live when the pass began, or the step code itself.
+/// One choice for a symbol: a live row, or the step code itself.
 #[derive(Clone, Copy)]
 pub(crate) struct Choice {
     pub effect: Effect,
-    /// `None` for a step code.
-    row: Option<Serial>,
+    row: u16,
     length: u16,
 }
 
@@ -102,7 +95,7 @@ impl Choice {
     /// What stands for a symbol that the body doesn't have.
     pub const NONE: Choice = Choice {
         effect: Effect::IDENTITY,
-        row: None,
+        row: ABSENT,
         length: 0,
     };
 }
@@ -134,7 +127,7 @@ impl Choices {
     fn new(codes: &[Effect; 128]) -> Choices {
         let step = |&effect| Choice {
             effect,
-            row: None,
+            row: ABSENT,
             length: 1,
         };
         Choices {
@@ -145,16 +138,16 @@ impl Choices {
         }
     }
 
-    /// Takes over the live rows of each procedure that has changed since the pass before. `before` is the number of rows that had been added
+    /// Takes over the live rows of each procedure that has changed since the pass before. `before` is the number of rows that were used
     /// when that pass began: a row that is live now and was there then was live then.
-    fn begin_pass(&mut self, journal: &mut Journal, before: Serial) {
+    fn begin_pass(&mut self, journal: &mut Journal, before: usize) {
         self.old_code = usize::from(journal.pass > 1);
         for ((choices, old), live) in self.procedures.iter_mut().zip(&mut self.old).zip(&mut journal.live) {
             if live.changed {
                 live.changed = false;
                 choices.clear();
-                choices.extend(live.rows.iter().map(|&row| journal.rows.at(row).choice(row)));
-                *old = choices.partition_point(|choice| choice.row < Some(before));
+                choices.extend(live.rows.iter().map(|&row| journal.rows[usize::from(row)].choice(row)));
+                *old = choices.partition_point(|choice| usize::from(choice.row) < before);
             } else {
                 *old = choices.len();
             }
@@ -164,11 +157,6 @@ impl Choices {
     /// Whether no pass came before this one.
     pub fn first_pass(&self) -> bool {
         self.old_code == 0
-    }
-
-    /// The rows that were live when the pass began.
-    fn rows(&self) -> impl Iterator<Item = Serial> + '_ {
-        self.procedures.iter().flatten().filter_map(|choice| choice.row)
     }
 
     pub fn of(&self, symbol: Symbol) -> Part<'_> {
@@ -186,10 +174,10 @@ impl Choices {
 }
 
 impl Row {
-    fn choice(&self, serial: Serial) -> Choice {
+    fn choice(&self, number: u16) -> Choice {
         Choice {
             effect: self.effect,
-            row: Some(serial),
+            row: number,
             length: self.length,
         }
     }
@@ -198,7 +186,7 @@ impl Row {
 /// The live rows of one procedure, rising, with their effects beside them.
 #[derive(Clone, Default)]
 pub(crate) struct Live {
-    rows: Vec<Serial>,
+    rows: Vec<u16>,
     pub effects: Vec<Effect>,
     /// The effect that covered a candidate last, which is tried first. It stays good when its row retires: the row that retired
     /// it has a smaller effect, and covers what it covered.
@@ -224,7 +212,7 @@ impl Live {
     }
 
     /// Adds a row that nothing covers, and gives the rows with a larger effect to `retire`.
-    fn add(&mut self, row: Serial, effect: Effect, mut retire: impl FnMut(Serial)) {
+    fn add(&mut self, row: u16, effect: Effect, mut retire: impl FnMut(u16)) {
         self.changed = true;
         if self.effects.iter().any(|&old| effect.within(old)) {
             let mut kept = 0;
@@ -245,20 +233,10 @@ impl Live {
     }
 }
 
-/// What becomes of a check that needs a row where none is unused.
-#[derive(Clone, Copy, PartialEq, Eq)]
-pub(crate) enum Without {
-    /// The rows that nothing needs are dropped, and it is full where there is none (C-19).
-    Dropping,
-    /// It is full: rows are not used a second time (document 01).
-    Keeping,
-}
-
 /// A check under way.
 pub(crate) struct Journal {
-    rows: Rows,
+    rows: Vec<Row>,
     pub live: Vec<Live>,
-    without: Without,
     finishing: u16,
     starts: u64,
     limit: usize,
@@ -268,11 +246,10 @@ pub(crate) struct Journal {
 }
 
 impl Journal {
-    pub fn new(plan: &Plan, starts: u64, limit: usize, budget: u64, without: Without) -> Journal {
+    pub fn new(plan: &Plan, starts: u64, limit: usize, budget: u64) -> Journal {
         Journal {
-            rows: Rows::default(),
+            rows: Vec::new(),
             live: vec![Live::default(); PROCEDURES],
-            without,
             finishing: plan.finishing,
             starts,
             limit,
@@ -307,58 +284,40 @@ impl Journal {
     /// Drops a candidate that a live row covers, and keeps any other. It isn't inlined: where it is, the compiler composes one word at a time in
     /// the loop around it, and no longer two, which takes up to 1.4 times as long.
     #[inline(never)]
-    pub fn consider(
-        &mut self,
-        choices: &Choices,
-        origin: Origin,
-        effect: Effect,
-        left: Choice,
-        right: Choice,
-    ) -> Result<(), Verdict> {
+    pub fn consider(&mut self, origin: Origin, effect: Effect, left: Choice, right: Choice) -> Result<(), Verdict> {
         let live = &mut self.live[usize::from(origin.procedure)];
         if live.covers_again(effect) || live.look(effect) {
             return Ok(());
         }
-        self.keep(choices, origin, effect, left, right)
+        self.keep(origin, effect, left, right)
     }
 
-    /// Makes a candidate that no row covers the next row and retires those with a larger effect; says if that ends the check. `choices` are
-    /// those of the pass.
-    pub fn keep(
-        &mut self,
-        choices: &Choices,
-        origin: Origin,
-        effect: Effect,
-        left: Choice,
-        right: Choice,
-    ) -> Result<(), Verdict> {
-        if self.rows.used().len() == self.limit && !self.has_dropped(choices) {
-            return Err(Verdict::Full);
-        }
-        let pointer = |choice: Choice| choice.row.map_or(ABSENT, |row| self.rows.number(row));
-        let row = Row {
+    /// Makes a candidate that no row covers the next row and retires those with a larger effect; says if that ends the check.
+    pub fn keep(&mut self, origin: Origin, effect: Effect, left: Choice, right: Choice) -> Result<(), Verdict> {
+        self.add(Row {
             procedure: origin.procedure,
             rule: origin.rule,
             effect,
-            left: pointer(left),
-            right: pointer(right),
+            left: left.row,
+            right: right.row,
             length: left.length.saturating_add(right.length),
             birth: self.pass,
             retired: 0,
-        };
-        let added = self.rows.add(row);
+        })
+    }
+
+    fn add(&mut self, row: Row) -> Result<(), Verdict> {
+        if self.rows.len() == self.limit {
+            return Err(Verdict::Full);
+        }
+        let number = self.rows.len() as u16;
         let (rows, pass) = (&mut self.rows, self.pass);
-        self.live[usize::from(row.procedure)].add(added, row.effect, |old| rows.retire(old, pass));
+        self.live[usize::from(row.procedure)].add(number, row.effect, |old| rows[usize::from(old)].retired = pass);
+        rows.push(row);
         if self.is_member(row.procedure) && row.effect.rejects(self.finishing) {
             return Err(Verdict::Broken);
         }
         Ok(())
-    }
-
-    /// Drops every row that is neither live, nor live when the pass began, nor reached from one of those; says if there was any.
-    fn has_dropped(&mut self, choices: &Choices) -> bool {
-        let live = self.live.iter().flat_map(|live| live.rows.iter().copied());
-        self.without == Without::Dropping && self.rows.drop_all_but(live.chain(choices.rows()))
     }
 
     /// Whether a procedure is one of the starting procedures.
@@ -368,7 +327,7 @@ impl Journal {
 
     /// The verdict after a pass that has added no row: empty if some member has no row, and holds if all have.
     fn finish(&self) -> Verdict {
-        let has_a_row = |procedure| self.rows.used().iter().any(|row| row.procedure == procedure);
+        let has_a_row = |procedure| self.rows.iter().any(|row| row.procedure == procedure);
         if (0..=LAST_PROCEDURE).all(|procedure| !self.is_member(procedure) || has_a_row(procedure)) {
             Verdict::Holds
         } else {
@@ -377,8 +336,7 @@ impl Journal {
     }
 
     fn end(self, verdict: Verdict) -> Search {
-        let (rows, above, drops) = self.rows.end();
-        let used = rows.len();
+        let used = self.rows.len();
         let answer = Answer {
             verdict,
             joins: self.joins,
@@ -386,11 +344,6 @@ impl Journal {
             pass: self.pass,
             row: if verdict == Verdict::Broken { used as u16 - 1 } else { ABSENT },
         };
-        Search {
-            answer,
-            rows,
-            above,
-            drops,
-        }
+        Search { answer, rows: self.rows }
     }
 }

@@ -1,15 +1,13 @@
-//! Document 01, with C-11, C-12 and C-14 to C-19 of document 02, in plain Rust: reading, judging, the check in its working order, run writing,
+//! Document 01, with C-11, C-12 and C-14 to C-18 of document 02, in plain Rust: reading, judging, the check in its working order, run writing,
 //! the recognizing of runs, the listing of a sheet's gaps and doubles, and the moving and unfolding of sixteen-byte records.
 //!
 //! It is written from the papers alone and shares nothing with the proved library. The tests of the crate `bolfrega` compare
 //! the two, answer for answer, and the benchmark measures them side by side. Nothing else uses it.
 //!
-//! The check is there twice. `check` goes through the working order as the papers have it and forms every candidate. `check_semi_naive` is
+//! The check is there twice. `check` goes through the working order as the paper has it and forms every candidate. `check_semi_naive` is
 //! written for speed: it forms only the candidates that the pass before didn't form, and counts the others. Both give the same answer, and
 //! their searches the same rows. Unlike the rest, `semi_naive` and `known` were written by someone who had read the proved search, so only
-//! `check` is an independent witness. The dropping of rows (`rows`) was written from document 02 by someone who had read a summary of the
-//! proved one, not its code of marking, moving and renumbering. `search_keeping` is the working order without C-19, which keeps every row: unless
-//! a check is full, it is as that one with a journal long enough.
+//! `check` is an independent witness.
 //!
 //! ```
 //! // "0 gives nothing", and no stage is finishing: the empty run is turned away.
@@ -30,7 +28,6 @@ mod journal;
 mod judging;
 mod known;
 mod order;
-mod rows;
 mod semi_naive;
 mod wide;
 mod writing;
@@ -41,7 +38,7 @@ pub use file::{read, Body, Plan, Refusal, Rule, Symbol, FIRST_REMARK};
 pub use gaps::list;
 pub use journal::{Answer, Row, Search, Verdict, ABSENT};
 pub use judging::judge;
-pub use order::{search, search_keeping};
+pub use order::search;
 pub use semi_naive::search_semi_naive;
 pub use wide::{narrow, unfold, unfold_from, widen};
 pub use writing::write_run;

@@ -3,23 +3,22 @@
 
 use crate::effect::{Effect, Prepared};
 use crate::file::{Body, Plan};
-use crate::journal::{passes, Choice, Choices, Journal, Origin, Part, Search, Verdict, Without, PROCEDURES};
+use crate::journal::{passes, Choice, Choices, Journal, Origin, Part, Search, Verdict, PROCEDURES};
 use crate::known::Known;
 
 /// Checks a plan as `search` does, with the same answer and the same rows, and forms only the candidates that the pass before didn't form.
 pub fn search_semi_naive(plan: &Plan, starts: u64, limit: usize, budget: u64) -> Search {
-    let journal = Journal::new(plan, starts, limit, budget, Without::Dropping);
+    let journal = Journal::new(plan, starts, limit, budget);
     let mut known = vec![Known::default(); PROCEDURES];
     passes(plan, journal, |choices, journal| {
         let known = &mut known;
-        Forming { journal, choices, known }.one_pass(plan)
+        Forming { journal, known }.one_pass(plan, choices)
     })
 }
 
-/// The journal of a check under way, the choices of the pass, and the effects that its rows have had, for each procedure.
+/// The journal of a check under way, and the effects that its rows have had, for each procedure.
 struct Forming<'a> {
     journal: &'a mut Journal,
-    choices: &'a Choices,
     known: &'a mut [Known],
 }
 
@@ -28,8 +27,7 @@ const MANY_RIGHTS: usize = 4;
 
 impl Forming<'_> {
     /// Goes through the rules in file order; an error is the verdict that stopped it.
-    fn one_pass(&mut self, plan: &Plan) -> Result<(), Verdict> {
-        let choices = self.choices;
+    fn one_pass(&mut self, plan: &Plan, choices: &Choices) -> Result<(), Verdict> {
         for (number, rule) in plan.rules.iter().enumerate() {
             let origin = Origin {
                 procedure: rule.procedure,
@@ -115,7 +113,7 @@ impl Forming<'_> {
         if self.journal.live[procedure].look(effect) {
             return Ok(());
         }
-        self.journal.keep(self.choices, origin, effect, left, right)?;
+        self.journal.keep(origin, effect, left, right)?;
         self.known[procedure].add(effect, &self.journal.live[procedure].effects);
         Ok(())
     }

@@ -68,17 +68,6 @@ pub fn shell(script: &str) -> Said {
     said(command.output().expect("there is a shell"))
 }
 
-/// What the command says to a call as it advises one, `bolfrega WORDS`, in a shell that knows `$'..'`.
-pub fn bash(advised: &str) -> Said {
-    let words = advised.strip_prefix("bolfrega ").expect("a call of the command");
-    let mut command = Command::new("bash");
-    command
-        .current_dir(repository())
-        .args(["-c", &format!("exec \"$0\" {words}"), PROGRAM])
-        .stdin(Stdio::null());
-    said(command.output().expect("there is a shell"))
-}
-
 /// The samples with this ending, by their paths from the repository.
 pub fn samples(ending: &str) -> Vec<String> {
     let folder = fs::read_dir(repository().join("samples")).expect("there are samples");

@@ -122,26 +122,6 @@ fn a_limit_that_ran_out_and_the_next_one() {
             "full: undecided, the 1500 rows ran out; try --rows 4096",
         ),
         (
-            &["samples/retiring.plan"],
-            0,
-            "holds: the sheet accepts every run of procedure 0; nothing to do",
-        ),
-        (
-            &["--rows", "805", "samples/retiring.plan"],
-            4,
-            "full: undecided, the 805 rows ran out; try --rows 3220",
-        ),
-        (
-            &["samples/retiring-full.plan"],
-            4,
-            "full: undecided, the 1024 rows ran out; try --rows 4096",
-        ),
-        (
-            &["--rows", "4096", "samples/retiring-full.plan"],
-            0,
-            "holds: the sheet accepts every run of procedure 0; nothing to do",
-        ),
-        (
             &["--budget=11", "samples/plan-a.plan"],
             4,
             "spent: undecided, the budget of 11 joins ran out; try --budget 110",
@@ -330,7 +310,7 @@ fn wide_files_are_unfolded() {
         let file = bytes_of(&["unfold", &sample]);
         assert_eq!(file, read(&sample.replace(".wide", ".plan")), "{sample}");
         let to = crate::calling::made("unfolded.plan", b"another file");
-        assert_eq!(call(&["unfold", "--force", &sample, &to]).status, 0);
+        assert_eq!(call(&["unfold", &sample, &to]).status, 0);
         assert_eq!(std::fs::read(&to).unwrap(), file);
     }
     // A member is in use, so that the chain begins above it.

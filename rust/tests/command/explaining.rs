@@ -1,8 +1,8 @@
 //! `bolfrega explain`.
 
 use crate::calling::{answer, call, feed, made, read, samples, status_of};
-use bolfrega::{check_owned, procedure, records, FileBuilder, Record, Starts, Verdict};
-use making::{retiring_file, valid_file, Numbers, Size};
+use bolfrega::{check_owned, Starts, Verdict};
+use making::{valid_file, Numbers, Size};
 
 const NAMES: &str = "\
 # plan B
@@ -107,39 +107,10 @@ samples/routes.plan: empty: one of procedures 0, 4, 63 never finishes
   procedure 63 never finishes:
     it has no rule
 
-To do: look for a rule that was dropped, one that waits for none of these, put it back, and check again.
+To do: give these procedures rules that wait for none of them, and check again.
 ";
     let said = call(&["explain", "--start", "0,4,63", "samples/routes.plan"]);
     assert_eq!((said.status, said.out.as_str()), (1, expected));
-}
-
-/// The record at fault comes with the one before it, which it may have to exceed, and not with the one behind it.
-#[test]
-fn a_refused_file_to_the_letter() {
-    let file = [
-        [1, 0, 1, 5, 0, 0, 0, 0],
-        [2, 0, 5, 1, 0, 0, 0, 0],
-        [2, 0, 5, 0, 0, 0, 0, 0],
-        [3, 1, 0, 0, 0, 0, 0, 0],
-    ];
-    let said = feed(&["explain", "-"], &file.concat());
-    let (text, _) = said.out.split_once("\nTo do: ").unwrap();
-    let expected = "\
--: refused: record 2: it does not exceed the record before it (6)
-
-  record 1: from stage 0 on code 5 to stage 1
-  record 2: from stage 0 on code 5 to stage 0
-";
-    assert_eq!((said.status, text), (3, expected));
-    // The first record has none before it, and of the last none is behind it.
-    let expected = "\n\n  record 0: bytes 3 16 0 0 0 0 0 0\n\nTo do: ";
-    let first = feed(&["explain", "-"], &[[3, 16, 0, 0, 0, 0, 0, 0], file[3]].concat()).out;
-    assert!(first.contains(expected), "{first}");
-    let alone = feed(&["explain", "-"], &[3, 16, 0, 0, 0, 0, 0, 0]).out;
-    assert!(alone.contains(expected), "{alone}");
-    let last = feed(&["explain", "-"], &[file[1], file[3], file[3]].concat()).out;
-    let expected = "\n\n  record 1: stage 1 is finishing\n  record 2: stage 1 is finishing\n\nTo do: ";
-    assert!(last.contains(expected), "{last}");
 }
 
 /// What stands behind the arrow of the place where a run is lost.
@@ -236,79 +207,6 @@ fn names_are_drawn() {
     }
 }
 
-/// The lines of a run, with the stages, from 0 gives 5 (procedure 0), 0 gives 6: as many steps 5 as the file counts, and then 6.
-fn lines_of_the_run(file: &[u8]) -> Vec<String> {
-    let said = feed(&["explain", "-"], file);
-    assert_eq!(said.status, 1, "{}", said.out);
-    let (_, rest) = said.out.split_once("that the sheet can be in:\n").unwrap();
-    let (run, _) = rest.split_once("\n\n").unwrap();
-    run.lines().map(str::to_string).collect()
-}
-
-/// A plan of one run, 2^`doublings` steps 5, and a sheet with these moves and finishing stages.
-fn one_long_run(doublings: u8, moves: &[(u8, u8)], finishing: &[u8]) -> Vec<u8> {
-    let mut plan = FileBuilder::new();
-    (0..doublings).for_each(|p| {
-        plan.rule(p, &[procedure(p + 1), procedure(p + 1)]);
-    });
-    plan.rule(doublings, &[5]);
-    moves.iter().for_each(|&(from, to)| {
-        plan.step(from, 5, to);
-    });
-    finishing.iter().for_each(|&stage| {
-        plan.finishing(stage);
-    });
-    plan.bytes()
-}
-
-#[test]
-fn the_middle_of_a_long_run_is_left_out() {
-    // It turns around in stages 0 to 2, and stage 3 could be reached on code 6 to the end.
-    let mut file = FileBuilder::new();
-    for record in records(&one_long_run(15, &[(0, 1), (1, 2), (2, 0)], &[3])).unwrap() {
-        match record {
-            Record::Rule { procedure, body } => file.rule(procedure, body),
-            Record::Move { from, code, to } => file.step(from, code, to),
-            _ => file.step(0, 6, 3).finishing(3),
-        };
-    }
-    let lines = lines_of_the_run(&file.bytes());
-    // Places 0 to 10, and 32,758 to 32,768.
-    assert_eq!(lines.len(), 11 + 1 + 11 + 1, "{lines:?}");
-    assert_eq!(lines[10], "  5      stage 1");
-    assert_eq!(lines[11], "  ..     32747 steps are left out here");
-    assert_eq!(lines[12], "  5      stage 1");
-    assert_eq!(lines[22], "  5      stage 2");
-    assert!(lines[23].starts_with("The run ends too soon: "), "{}", lines[23]);
-}
-
-#[test]
-fn the_place_where_a_long_run_is_lost_is_kept() {
-    // Each stage leads to the next and 15 to itself; stage 14 can be left to finishing stage 0 no more.
-    let chain: Vec<(u8, u8)> = (0..14).map(|stage| (stage, stage + 1)).chain([(14, 15), (15, 15)]).collect();
-    let mut file = FileBuilder::new();
-    for record in records(&one_long_run(12, &chain, &[])).unwrap() {
-        match record {
-            Record::Rule { procedure, body } => file.rule(procedure, body),
-            Record::Move { from, code, to } => file.step(from, code, to),
-            _ => unreachable!("no stage is finishing"),
-        };
-    }
-    file.step(14, 6, 0).finishing(0);
-    let lines = lines_of_the_run(&file.bytes());
-    let lost = lines.iter().position(|line| line.contains("<- ")).unwrap();
-    assert_eq!(
-        lines[lost],
-        "  5      stage 15   <- no finishing stage can be reached any more"
-    );
-    // It is at step 15, so places 0 to 25 are shown, and 4,086 to 4,096.
-    assert_eq!((lost, lines.len()), (15, 26 + 1 + 11), "{lines:?}");
-    assert_eq!(lines[26], "  ..     4060 steps are left out here");
-    // 60 steps and less are whole, with their start.
-    let whole = lines_of_the_run(&one_long_run(5, &[(0, 0)], &[1]));
-    assert_eq!(whole.len(), 33, "{whole:?}");
-}
-
 #[test]
 fn a_run_that_is_not_written() {
     // 2^63 steps: each of 63 procedures gives the next one twice, and the last gives 5.
@@ -399,23 +297,4 @@ fn trees_of_many_files() {
         trees += 1;
     }
     assert!(trees > 50, "{trees}");
-}
-
-/// With few rows, of which some are dropped, the run and the rules that give it are those that many rows show.
-#[test]
-fn rows_used_again() {
-    let mut numbers = Numbers::new(97);
-    let mut shown = 0;
-    while shown < 40 {
-        let file = retiring_file(&mut numbers);
-        let rows = 3 + numbers.below(12);
-        let found = plain::search(&plain::read(&file).unwrap(), plain::INITIAL, rows, 3_000);
-        if found.drops > 0 && found.answer.verdict == plain::Verdict::Broken {
-            let few = feed(&["explain", "--rows", &rows.to_string(), "-"], &file);
-            let many = feed(&["explain", "--rows", "4096", "-"], &file);
-            assert_eq!((few.status, &few.err), (1, &String::new()), "{file:?}");
-            assert_eq!(few.out, many.out, "{file:?}");
-            shown += 1;
-        }
-    }
 }

@@ -2,12 +2,9 @@
 
 mod calling;
 mod checking;
-mod endless;
 mod explaining;
 mod refusing;
 mod stages;
 mod streams;
 mod texts;
 mod usage;
-mod wide;
-mod writing;

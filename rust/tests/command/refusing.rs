@@ -4,7 +4,7 @@ use crate::calling::{call, feed, made};
 use bolfrega::{FileBuilder, MOST_RECORDS};
 
 /// A file that is refused with each number.
-pub fn refused_files() -> Vec<(u8, Vec<u8>)> {
+fn refused_files() -> Vec<(u8, Vec<u8>)> {
     let finishing = |stage| [3, stage, 0, 0, 0, 0, 0, 0];
     let mut many = FileBuilder::new();
     (0..=255).for_each(|rule: u8| {

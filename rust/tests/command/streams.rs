@@ -2,7 +2,6 @@
 
 use crate::calling::{call, command, feed, made, shell, Said};
 use std::fs::File;
-use std::net::Shutdown;
 use std::os::fd::OwnedFd;
 use std::os::unix::net::UnixStream;
 use std::process::Stdio;
@@ -112,9 +111,9 @@ fn what_cannot_be_written_is_no_answer() {
             "standard output: Bad file descriptor",
             &called,
         );
-        // A reader that has gone: shut down and not only dropped, as a child of another test may have it open for a moment, too.
+        // A reader that has gone.
         let (here, there) = UnixStream::pair().unwrap();
-        here.shutdown(Shutdown::Both).unwrap();
+        drop(here);
         let output = command(words)
             .stdout(OwnedFd::from(there))
             .stderr(Stdio::piped())
@@ -122,7 +121,7 @@ fn what_cannot_be_written_is_no_answer() {
             .unwrap();
         assert_eq!(output.status.code(), Some(2), "{called}");
         assert!(
-            output.stderr == b"bolfrega: standard output: its reader went before the whole answer was written\n",
+            output.stderr.starts_with(b"bolfrega: standard output: Broken pipe"),
             "{called}"
         );
     }
@@ -134,44 +133,6 @@ fn an_answer_to_nowhere_is_written() {
     assert_eq!(shell("exec \"$0\" check samples/plan-b.plan 1<>/dev/null").status, 1);
     let said = shell("exec \"$0\" check - 0<>/dev/null");
     assert_eq!((said.status, said.out.contains("empty")), (1, true));
-}
-
-/// A file of no bytes has its verdict by the papers, and it is said that nothing came.
-#[test]
-fn an_empty_input_is_said_to_be_one() {
-    let empty = made("empty.plan", &[]);
-    for (path, words) in [
-        ("-", "standard input was empty: no byte came"),
-        (&empty, "the file is empty: it has no byte"),
-    ] {
-        for option in [&[][..], &["--wide"]] {
-            let asked = |command: &[&str]| feed(&[command, option, &[path]].concat(), &[]);
-            let said = asked(&["check"]);
-            let expected = format!("{path}: empty: procedure 0 never finishes; {words}\n");
-            assert_eq!((said.status, said.out, said.err.as_str()), (1, expected, ""));
-            let said = asked(&["explain"]);
-            let to_do = format!("\nTo do: {words}; look at what should have written it, and ask again.\n");
-            assert!(said.status == 1 && said.out.ends_with(&to_do), "{}", said.out);
-            let json = asked(&["check", "--json"]).out;
-            assert!(json.starts_with(&format!("{{\"path\":\"{path}\",\"bytes\":0,")), "{json}");
-            let shown = asked(&["show"]);
-            assert_eq!((shown.status, shown.out.as_str(), shown.err.as_str()), (0, "", ""));
-            for command in ["judge", "member", "gaps"] {
-                let said = asked(&[command]);
-                let first = said.out.lines().next().unwrap();
-                assert!(first.ends_with(&format!("; {words}")), "{command}: {first}");
-            }
-        }
-    }
-    // As where the first part of a pipe refuses its file.
-    let said = shell("\"$0\" unfold samples/torn.wide 2>/dev/null | \"$0\" check -");
-    assert!(
-        said.out.ends_with("; standard input was empty: no byte came\n"),
-        "{}",
-        said.out
-    );
-    let whole = feed(&["check", "-"], &crate::calling::read("samples/endless.plan"));
-    assert!(!whole.out.contains("no byte"), "{}", whole.out);
 }
 
 #[test]

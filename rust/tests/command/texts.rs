@@ -11,7 +11,7 @@ fn goes_round(option: &[&str], path: &str, bytes: &[u8], name: &str) {
     let file = bytes_of(&[&["make"], option, &[&text]].concat());
     assert_eq!(file, bytes, "{path}");
     let to = made(&format!("{name}.plan"), &[]);
-    assert_eq!(call(&[&["make", "--force"], option, &[&text, &to]].concat()).status, 0);
+    assert_eq!(call(&[&["make"], option, &[&text, &to]].concat()).status, 0);
     assert_eq!(std::fs::read(&to).unwrap(), bytes, "{path}");
     assert_eq!(call(&[&["show"], option, &[&to]].concat()), shown, "{path}");
 }

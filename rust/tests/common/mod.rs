@@ -6,7 +6,7 @@
 pub mod rules;
 
 use bolfrega::raw::{self, Details, DetailsFrom};
-use bolfrega::{Answer, AnswerFrom, Judgement, Refusal, Row, Starts, Verdict};
+use bolfrega::{Answer, AnswerFrom, Judgement, Refusal, Starts, Verdict};
 
 /// The row of an answer that is not broken.
 const NO_ROW: u64 = 65_535;
@@ -361,20 +361,6 @@ fn spelled_from(told: &Result<AnswerFrom, Refusal>) -> (u64, DetailsFrom) {
     assert_eq!(procedure.is_some(), code == raw::BROKEN);
     let details = [&details[..], &[procedure.unwrap_or(0).into()]].concat();
     (code, details.try_into().unwrap())
-}
-
-/// A row of the plain implementation as the library has it.
-pub fn as_lent(row: &plain::Row) -> Row {
-    Row {
-        procedure: row.procedure.into(),
-        rule: row.rule.into(),
-        effect: row.effect.0,
-        left: row.left.into(),
-        right: row.right.into(),
-        length: row.length.into(),
-        birth: row.birth.into(),
-        retired: row.retired.into(),
-    }
 }
 
 fn numbers(refusal: plain::Refusal) -> (u64, u64) {

@@ -49,7 +49,7 @@ use Rattle.walk_kit.proofs.LentArrays.{given-away}
 use Rattle.walk_kit.proofs.LocalArrays.{lifts, lays, uses}
 use Rattle.walk_kit.proofs.Opening.{Arguments, entering}
 use Rattle.walk_kit.proofs.Parameters.{Param, shared, lent, number, dropped, stays, typed-all}
-use Rattle.walk_kit.proofs.PlainData.{Row as RowOf, val, Means, tells, typed, makes, number as number_of}
+use Rattle.walk_kit.proofs.PlainData.{Row as RowOf, val, Means, tells, typed, makes, number as number_of_lem}
 use Rattle.walk_kit.proofs.Tokens.{tok}
 use Rattle.spec_calls.specs.Rows.{blank}
 use Rattle.spec_calls.specs.declared.Options.{Options}
@@ -60,7 +60,6 @@ use Rattle.spec_calls.proofs.Types.{row, RowType, options, Letter}
 use Rattle.search_state.specs.Layout.{table_cells}
 use Rattle.search_cover.specs.Near.{near_words}
 use Rattle.call_check.specs.Clauses as contracts
-use Rattle.spec_calls.specs.Checking.{check_of}
 use Rattle.call_check.specs.declared.Checked.{Checked}
 use Rattle.call_check.specs.contracts.Checked as C
 use Rattle.call_check.proofs.Checked.TheLaws as C'
@@ -77,12 +76,11 @@ use Rattle.host_result.proofs.row_to_write.Met as named-in-thm
 use Rattle.host_check.specs.contracts.row_at as reading
 use Rattle.host_check.proofs.row_at.Symbol as reading-def
 use Rattle.host_check.proofs.row_at.Met as reading-thm
-use Rattle.host_tell.specs.Telling.{ToldRows}
-use Rattle.host_tell.specs.contracts.tell_rows as tell
-use Rattle.host_tell.proofs.tell_rows.Symbol as tell-def
-use Rattle.host_tell.proofs.tell_rows.Met as tell-thm
 use Rattle.bolfrega.specs.Clauses.{ChecksRows}
-use Rattle.bolfrega.specs.OwnRows.{checks-rows}
+use Rattle.bolfrega.specs.OwnRows.{ToldRows, checks-rows}
+use Rattle.bolfrega.specs.contracts.tell_rows as tell
+use Rattle.bolfrega.proofs.tell_rows.Symbol as tell-def
+use Rattle.bolfrega.proofs.tell_rows.Met as tell-thm
 use Rattle.bolfrega.specs.contracts.bolfrega_check_rows.Key.{name as #bolfrega-check-rows}
 use Rattle.bolfrega.specs.contracts.bolfrega_check_rows as f
 use Rattle.bolfrega.proofs.bolfrega_check_rows.Statement as stated
@@ -131,7 +129,7 @@ module _ {M : Type 1} {𝓤 : Ura M} (𝓛 : Logic 𝓤) (mem : Memory → SProp
       ‵ (flft κ q) ∷ ‵ (flft κt qt) ∷ ‵ (flft κn qn) ∷ ‵ (flft κd qd) ∷ ‵ ftrue ∷ ‵ (fres t.name ((Array u32 table_cells).coded.code ts)) ∷ ‵ (fres n.name ((Array Letter near_words).coded.code ns)) ∷ ‵ (fres d.name ((Array u64 9).coded.code ds))
       ∷ ‵ (Lent RowType J js) ∷ []
 
-  exits : (r : ℕ) (js : List Row) (ts ns ds : List ℕ) → Is u64 r (vint w64 r ∷ []) → length js ≡ length j.now → ChecksRows s.now x j.now js ds r × contracts.AreasKept (check_of s.now (contracts.settings_over x j.now)) t.now ts n.now ns → ent 𝓤 (⋆ 𝓛 (At-exit js ts ns ds)) (Post (vint w64 r))
+  exits : (r : ℕ) (js : List Row) (ts ns ds : List ℕ) → Is u64 r (vint w64 r ∷ []) → length js ≡ length j.now → ChecksRows s.now x j.now js ds r → ent 𝓤 (⋆ 𝓛 (At-exit js ts ns ds)) (Post (vint w64 r))
   exits r js ts ns ds is e h =
       qed 𝓛 (At-exit js ts ns ds) ∵
       suffices ! _ (ends_at 𝓛 f.ended (stays ps) (f.clauses 𝓛 mem run) (((κ, (κj, (κt, (κn, (κd, tt))))), (q, (qj, (qt, (qn, (qd, tt))))), tt, a, at), tt) (vint w64 r) r (tt, (tt, (tt, (js, (ts, (ns, (ds, tt))))))) (tt, (tt, (tt, (e, (tt, (tt, (tt, tt)))))))) $ says ! h $
@@ -188,7 +186,7 @@ module _ {M : Type 1} {𝓤 : Ura M} (𝓛 : Logic 𝓤) (mem : Memory → SProp
     abbrev to-reading : (js : List Row) → length js ≡ length j.now → (i : ℕ) → i < 2 ^ 64 → Handing 𝓛 reading.ended (reading.clauses 𝓛 mem run)
     to-reading js e i gi =
         let hs : List Hand = record { mode = seen; type = RowType; loan = J; elements = js; count = length j.now; counted = e } ∷ [] in
-        let vs = number_of w64 i gi ∷ [] in
+        let vs = number_of_lem w64 i gi ∷ [] in
         record {
           slices = hs;
           values = vs;
@@ -247,7 +245,7 @@ module _ {M : Type 1} {𝓤 : Ura M} (𝓛 : Logic 𝓤) (mem : Memory → SProp
         -- the check
         lifts ! 43 refl $ lifts ! 40 refl $ lifts ! 46 refl $ lifts ! 43 refl $ lifts ! 50 refl $ passes_on ! tt RowType J j.now (λ ν δ. move ! (1 ∷ []) $ lays ! 51 $ fsplit ! $ move ! (1 ∷ 0 ∷ []) $ lifts ! 48 refl $ lifts ! 45 refl $
         uses ! (For-inside ν δ) (raw ((Inside ν δ).pre (to_inside ν δ))) (asks-inside ν δ) $
-        calls-lasting inside.ended (inside.clauses 𝓛 mem run) (to_inside ν δ).0 tt (λ c ws. contracts.Checks s.now x j.now ws.1.0 c × contracts.AreasKept (check_of s.now (contracts.settings_over x j.now)) t.now ws.1.1.0 n.now ws.1.1.1.0) (λ c ws. id⊢ 𝓤 _) C'.lowered (C'.lowers).val_is ! fm known.0
+        calls-lasting inside.ended (inside.clauses 𝓛 mem run) (to_inside ν δ).0 tt (λ c ws. contracts.Checks s.now x j.now ws.1.0 c) (λ c ws. id⊢ 𝓤 _) C'.lowered (C'.lowers).val_is ! fm known.0
         (past_head ! (and_then ! (its ! 34 refl) (and_then ! (its ! 10 refl) (and_then ! (its ! 8 refl) (and_then ! (its ! 6 refl) (and_then ! (its ! 20 refl) (no_more !))))))) (λ c ws h c-is.
         let js = ws.1.0 in
         let ts = ws.1.1.0 in
@@ -270,7 +268,7 @@ module _ {M : Type 1} {𝓤 : Ura M} (𝓛 : Logic 𝓤) (mem : Memory → SProp
         drop ! $ use2 𝓛 (Told c c-is y y-is vs.1.1.0) (told c c-is y y-is vs.1.1.0) $ split ! $ lays ! 42 $ lays ! 45 $
         land ! (from ! (stop !)) (init ! 36 refl (tt, record { fits = r-is.1 })) $
         move ! (38 ∷ 39 ∷ 40 ∷ 41 ∷ 42 ∷ 43 ∷ 44 ∷ 45 ∷ 46 ∷ []) $ closing ! 9 refl refl $
-        by ! (exits r js ts ns vs.1.1.0 r-is nj (checks-rows s.now x j.now js nj c h.0 y (ey ∙ ap (λ (z : RowToWrite). get_or js z.row blank) em) r vs.1.1.0 er, h.1)))))))))
+        by ! (exits r js ts ns vs.1.1.0 r-is nj (checks-rows s.now x j.now js nj c h y (ey ∙ ap (λ (z : RowToWrite). get_or js z.row blank) em) r vs.1.1.0 er)))))))))
 
 walk : Walk it
 walk M 𝓤 𝓛 mem run 𝓣 known κs qs bounds a g are =
@@ -280,4 +278,4 @@ walk M 𝓤 𝓛 mem run 𝓣 known κs qs bounds a g are =
 pub bolfrega-check-rows-spec : {M : Type 1} → stated.statement M
 unfolding code.routine tables_of
 bolfrega-check-rows-spec 𝓤 𝓛 𝓜 𝓡 =
-    walked it 𝓛 𝓜 𝓡 code.env #bolfrega-check-rows (code.unfolded 𝓤 𝓛.H 𝓜 𝓡) (code.calls-call-check::check-in, (code.calls-host-result::row-to-write, (code.calls-host-check::row-at, (code.calls-host-tell::tell-rows, tt)))) walk
+    walked it 𝓛 𝓜 𝓡 code.env #bolfrega-check-rows (code.unfolded 𝓤 𝓛.H 𝓜 𝓡) (code.calls-call-check::check-in, (code.calls-host-result::row-to-write, (code.calls-host-check::row-at, (code.calls-bolfrega::tell-rows, tt)))) walk

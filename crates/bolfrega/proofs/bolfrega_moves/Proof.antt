@@ -1,5 +1,5 @@
 -- Where the file is not refused, its moves stand from the first of them to the first finishing stage, within the file. Assumes nothing.
-use mathlib.Core.Path.{◌≡◌, refl, sym, ap, ap₂, ◌∙◌}
+use mathlib.Core.Path.{sym, ap, ap₂, ◌∙◌}
 use Prim.Native.Nat.{ℕ, ◌*◌}
 use native.Mathlib.Omega.{arith}
 use lib.ListN.{take, drop}
@@ -16,14 +16,7 @@ use Rattle.bolfrega.proofs.bolfrega_moves.Tie as tie
 returns : tie.Need-returns
 returns c =
     let r = c.before.before in
-    let no : (fault r.before.before.args.file.now).number ≡ 0 → ⊥ = λ e. c.if1.true (ap (λ (x : Refusal). x.number) r.file-refusal.ensures ∙ e) in
-    record {
-      within = omega arith;
-      bytes = sym (stretch-refused r.before.before.args.file.now no);
-      behind-rules = λ e. absurd (no e);
-      as_many = λ e. absurd (no e);
-      refused_none = λ x. (refl, refl);
-    }
+    record { within = omega arith; bytes = sym (stretch-refused r.before.before.args.file.now (λ e. c.if1.true (ap (λ (x : Refusal). x.number) r.file-refusal.ensures ∙ e))) }
 
 mul-offset : tie.Need-overflow-mul-offset
 mul-offset c =
@@ -49,9 +42,6 @@ returns-2 c =
       bytes =
           rw (eq-eqb (fault f).number 0 (sym (ap (λ (x : Refusal). x.number) r.file-refusal.ensures) ∙ c.before.before.if1.false))
           (ap₂ (λ (m n : ℕ). take (n * 8) (drop (m * 8) f)) a b);
-      behind-rules = λ e. ap (λ (m : ℕ). m * 8) a;
-      as_many = λ e. ap (λ (m : ℕ). m * 8) b;
-      refused_none = λ x. absurd (x (sym (ap (λ (x : Refusal). x.number) r.file-refusal.ensures) ∙ c.before.before.if1.false));
     }
 
 pub bolfrega-moves-spec : {M : Type 1} → statement M

@@ -1,4 +1,4 @@
--- What `call_move::narrow` answers is told by `host_tell`. Assumes nothing.
+-- What `call_move::narrow` answers is told by `tell_moved`. Assumes nothing.
 use borrow.Author.Rules.{rules}
 use Rattle.bolfrega.specs.Telling.{narrows-file}
 use Rattle.bolfrega.proofs.bolfrega_narrow.Statement.{statement}
@@ -6,10 +6,9 @@ use Rattle.bolfrega.proofs.bolfrega_narrow.Tie as tie
 
 returns : tie.Need-returns
 returns c =
-    let a = c.before.before.before.before.before.before.before.before.before.before.args in
-    let r = c.before.before.before.before.before.before.narrow in
-    let t = c.before.before.before.of-moved in
-    narrows-file a.file.now a.out.now r.new.1.0 t.result _ _ _ c.tell.ensures r.result t.ensures r.ensures
+    let a = c.before.before.before.before.before.before.before.before.before.args in
+    let r = c.before.before.before.before.before.narrow in
+    narrows-file a.file.now a.out.now r.new.1.0 r.result _ _ _ c.tell-moved.ensures r.ensures
 
 pub bolfrega-narrow-spec : {M : Type 1} → statement M
-bolfrega-narrow-spec = tie.close (tie.spec (λ c κs. search rules) (λ c κs. search rules) (λ c κs. search rules) (λ c. search rules) returns)
+bolfrega-narrow-spec = tie.close (tie.spec (λ c κs. search rules) (λ c κs. search rules) (λ c. search rules) returns)

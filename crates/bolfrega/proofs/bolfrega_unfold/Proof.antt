@@ -1,4 +1,4 @@
--- What `call_unfold::unfold` answers is told by `host_tell`. Assumes nothing.
+-- What `call_unfold::unfold` answers is told by `tell_moved`. Assumes nothing.
 use borrow.Author.Rules.{rules}
 use Rattle.spec_calls.specs.Base.{initial_alone}
 use Rattle.bolfrega.specs.Telling.{unfolds-file}
@@ -7,10 +7,9 @@ use Rattle.bolfrega.proofs.bolfrega_unfold.Tie as tie
 
 returns : tie.Need-returns
 returns c =
-    let a = c.before.before.before.before.before.before.before.before.before.before.args in
-    let r = c.before.before.before.before.before.before.unfold in
-    let t = c.before.before.before.of-moved in
-    unfolds-file a.file.now a.out.now r.new.1.1.0 t.result _ _ _ c.tell.ensures r.result t.ensures initial_alone r.ensures
+    let a = c.before.before.before.before.before.before.before.before.before.args in
+    let r = c.before.before.before.before.before.unfold in
+    unfolds-file a.file.now a.out.now r.new.1.1.0 r.result _ _ _ c.tell-moved.ensures initial_alone r.ensures
 
 pub bolfrega-unfold-spec : {M : Type 1} → statement M
-bolfrega-unfold-spec = tie.close (tie.spec (λ c κs. search rules) (λ c κs. search rules) (λ c κs. search rules) (λ c. search rules) returns)
+bolfrega-unfold-spec = tie.close (tie.spec (λ c κs. search rules) (λ c κs. search rules) (λ c. search rules) returns)

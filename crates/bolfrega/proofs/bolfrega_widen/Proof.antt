@@ -1,4 +1,4 @@
--- What `call_move::widen` answers is told by `host_tell`. Assumes nothing.
+-- What `call_move::widen` answers is told by `tell_moved`. Assumes nothing.
 use borrow.Author.Rules.{rules}
 use Rattle.bolfrega.specs.Telling.{widens-file}
 use Rattle.bolfrega.proofs.bolfrega_widen.Statement.{statement}
@@ -6,10 +6,9 @@ use Rattle.bolfrega.proofs.bolfrega_widen.Tie as tie
 
 returns : tie.Need-returns
 returns c =
-    let a = c.before.before.before.before.before.before.before.before.before.before.args in
-    let r = c.before.before.before.before.before.before.widen in
-    let t = c.before.before.before.of-moved in
-    widens-file a.file.now a.out.now r.new.1.0 t.result _ _ _ c.tell.ensures r.result t.ensures r.ensures
+    let a = c.before.before.before.before.before.before.before.before.before.args in
+    let r = c.before.before.before.before.before.widen in
+    widens-file a.file.now a.out.now r.new.1.0 r.result _ _ _ c.tell-moved.ensures r.ensures
 
 pub bolfrega-widen-spec : {M : Type 1} → statement M
-bolfrega-widen-spec = tie.close (tie.spec (λ c κs. search rules) (λ c κs. search rules) (λ c κs. search rules) (λ c. search rules) returns)
+bolfrega-widen-spec = tie.close (tie.spec (λ c κs. search rules) (λ c κs. search rules) (λ c. search rules) returns)

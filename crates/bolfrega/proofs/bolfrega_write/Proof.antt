@@ -6,7 +6,7 @@ use lib.ListN.{length}
 use seplogic.Ra.Ura.{Ura}
 use mir.Syntax.{named, w64}
 use mir.Val.{Val, vint, vptr}
-use base.Logic.{SProp, ent, emp, id⊢}
+use base.Logic.{SProp, ent, id⊢}
 use base.Fml.{Lft, Share, ftrue, flft, fres}
 use prog.Memory.{Memory}
 use prog.Routine.{Routine}
@@ -27,14 +27,12 @@ use denote.Ref.{Bor, MutRef, shr_vals, mut_vals}
 use denote.Signature.{plain}
 use denote.Slice.{slice_val, MutSlice, ShrSlice, Room, finally, shr_slice_vals}
 use denote.Steps.{owned, nothing}
-use denote.Struct.Laws as LL
-use denote.Triple.Bound.{Bound}
 use denote.Triple.Clauses.{lasts}
 use denote.Triple.Entry.{Args, Vals, alive, on_entry}
 use denote.Triple.Statement.{Contract}
 use denote.Triple.Walked.{says, walk_of, ends_at}
 use Rattle.walk_kit.proofs.CallStep.{Called, calls-lasting}
-use Rattle.walk_kit.proofs.CallPlain.{past_head, asks-plain, calls-plain}
+use Rattle.walk_kit.proofs.CallPlain.{past_head}
 use Rattle.walk_kit.proofs.Closing.{closing}
 use Rattle.walk_kit.proofs.Functions.{Callee, callee, Function, Knows, Walk, walked}
 use Rattle.walk_kit.proofs.Locals.{its, field-of, sets}
@@ -53,20 +51,11 @@ use Rattle.call_write.proofs.Writing.TheLaws as G'
 use Rattle.call_write.specs.contracts.write as write
 use Rattle.call_write.proofs.write.Symbol as write_def
 use Rattle.call_write.proofs.write.Met as write_thm
-use Rattle.host_tell.specs.Codes.{writing_code}
-use Rattle.host_tell.specs.Telling.{told_sized}
-use Rattle.host_tell.specs.TellingLaws.{Stored}
-use Rattle.host_tell.specs.declared.Told.{Told as Numbers}
-use Rattle.host_tell.specs.contracts.Told as T
-use Rattle.host_tell.proofs.Told.TheLaws as T'
-use Rattle.host_tell.specs.contracts.of_written as turn
-use Rattle.host_tell.proofs.of_written.Symbol as turn-def
-use Rattle.host_tell.proofs.of_written.Met as turn-thm
-use Rattle.host_tell.specs.contracts.tell as tell
-use Rattle.host_tell.proofs.tell.Symbol as tell-def
-use Rattle.host_tell.proofs.tell.Met as tell-thm
-use Rattle.bolfrega.specs.Clauses.{WritesRun}
+use Rattle.bolfrega.specs.Clauses.{ToldRun, WritesRun}
 use Rattle.bolfrega.specs.OwnRows.{writes-run}
+use Rattle.bolfrega.specs.contracts.tell_written as tell
+use Rattle.bolfrega.proofs.tell_written.Symbol as tell-def
+use Rattle.bolfrega.proofs.tell_written.Met as tell-thm
 use Rattle.bolfrega.specs.contracts.bolfrega_write.Key.{name as #bolfrega-write}
 use Rattle.bolfrega.specs.contracts.bolfrega_write as f
 use Rattle.bolfrega.proofs.bolfrega_write.Statement as stated
@@ -78,9 +67,7 @@ ps =
     ∷ given-away 2 tt (plain (λ _. u64)) ∷ given-away 3 tt (plain (λ _. u64)) ∷ handed 4 tt (plain (λ _. u8)) ∷ []
 
 abbrev callees : List Callee
-callees =
-    callee write.ended (λ M. write.clauses) write_def.name write_def.routine (λ M. write_thm.met) ∷ callee turn.ended (λ M. turn.clauses) turn-def.name turn-def.routine (λ M. turn-thm.met)
-    ∷ callee tell.ended (λ M. tell.clauses) tell-def.name tell-def.routine (λ M. tell-thm.met) ∷ []
+callees = callee write.ended (λ M. write.clauses) write_def.name write_def.routine (λ M. write_thm.met) ∷ callee tell.ended (λ M. tell.clauses) tell-def.name tell-def.routine (λ M. tell-thm.met) ∷ []
 
 abbrev it : Function
 it = record { lifetimes = 5; outlives = []; params = ps; result = (f.signature).result; clauses = f.clauses; callees = callees; mir = code.function }
@@ -134,28 +121,20 @@ module _ {M : Type 1} {𝓤 : Ura M} (𝓛 : Logic 𝓤) (mem : Memory → SProp
       move ! (1 ∷ []) $ fsplit ! $ drop ! $ fsplit ! $ drop ! $ fsplit ! $ drop ! $ fsplit ! $ drop ! $ fsplit ! $ fsplit ! $ move ! (1 ∷ []) $ feq_l ! (λ e. check ! e $ move ! (2 ∷ []) $
       use1 𝓛 (‵ (flft κ q) ⊛ ‵ (flft κj qj) ⊛ ‵ (flft κb qb) ⊛ ‵ ftrue) (id⊢ 𝓤 _) $ split ! $ frame ! $ split ! $ frame ! $ split ! $ frame ! $ keep ! (1 ∷ []) $ done !)
 
-  -- ---- the numbers of what it answered
+  -- ---- what is told of it
   module _ (w : Writing) (w-is : Is G.the_row w (G'.lowered w ∷ [])) where
-    abbrev to-turn : Bound 𝓛 turn.signature
-    to-turn = (tt, tt, tt, (w, tt), (G'.lowered w ∷ [], tt))
-
-    asks-turn : ent 𝓤 (emp 𝓤) ((Called 𝓛 turn.ended (turn.clauses 𝓛 mem run)).pre (to-turn, tt))
-    asks-turn = asks-plain 𝓛 turn.ended (turn.clauses 𝓛 mem run) to-turn tt (id⊢ 𝓤 _) (id⊢ 𝓤 _) (EL.makes G.the_type G'.the_plain 𝓛, tt) (w-is, tt)
-
-  -- ---- what is told of them
-  module _ (m : Numbers) (m-is : Is T.the_row m (T'.lowered m ∷ [])) where
     abbrev Tells : Contract 𝓤
     Tells = Called 𝓛 tell.ended (tell.clauses 𝓛 mem run)
 
     abbrev to-tell : Tells.Ghost
-    to-tell = (((κp, (κl, tt)), (qp, (ql, tt)), tt, (m, (p, (l, tt))), (T'.lowered m ∷ [], (shr_vals p, (shr_vals l, tt)))), tt)
+    to-tell = (((κp, (κl, tt)), (qp, (ql, tt)), tt, (w, (p, (l, tt))), (G'.lowered w ∷ [], (shr_vals p, (shr_vals l, tt)))), tt)
 
     abbrev For-tell : List (Item 𝓤)
     For-tell = ‵ (flft κp qp) ∷ ‵ ((MutRef (named 0) κp u64).own_val p (mut_vals p)) ∷ ‵ (flft κl ql) ∷ ‵ ((MutRef (named 0) κl u64).own_val l (mut_vals l)) ∷ []
 
     asks-tell : ent 𝓤 (⋆ 𝓛 For-tell) (Tells.pre to-tell)
     asks-tell =
-        qed 𝓛 For-tell ∵ nothing ! $ move ! (4 ∷ 0 ∷ []) $ fjoin ! $ move ! (2 ∷ 0 ∷ []) $ fjoin ! $ owned ! T.the_row (Is T.the_row) (LL.makes T.the_type T'.the_plain 𝓛) m _ m-is $ fjoin ! $
+        qed 𝓛 For-tell ∵ nothing ! $ move ! (4 ∷ 0 ∷ []) $ fjoin ! $ move ! (2 ∷ 0 ∷ []) $ fjoin ! $ owned ! G.the_row (Is G.the_row) (EL.makes G.the_type G'.the_plain 𝓛) w _ w-is $ fjoin ! $
         nothing ! $ move ! (3 ∷ 0 ∷ []) $ join ! $ move ! (2 ∷ 0 ∷ []) $ join ! $ join ! $ nothing ! $ move ! (1 ∷ 0 ∷ []) $ done !
 
     abbrev Told : ℕ → ℕ → Item 𝓤
@@ -181,27 +160,24 @@ module _ {M : Type 1} {𝓤 : Ura M} (𝓛 : Logic 𝓤) (mem : Memory → SProp
         -- [the buffer; the rest; the length; the record; the rows; the file; the tokens, from the buffer's on]
         keep ! (11 ∷ 10 ∷ 9 ∷ 8 ∷ 6 ∷ 5 ∷ 4 ∷ 3 ∷ 2 ∷ 0 ∷ []) $
         entering ! 𝓣.C 𝓣.Λ code.function _ wt (λ bs.
-        -- [the locals, from _13 down; the tokens of file, rows, record, length and buffer; and these five]
-        sets ! (addr ! (from ! (fld ! refl (hop ! (look_in ! 12 (sub ! 0 refl (whole !))) (stop !))))) (init ! 6 refl (tt, tt)) $
-        sets ! (agg ! (and_then ! (its ! 6 refl) (and_then ! (field-of ! 12 refl refl refl) (no_more !)))) (init ! 4 refl (tt, (tt, (record { fits = gb.0 }, tt)))) $
-        lifts ! 34 refl $ lifts ! 30 refl $ lifts ! 35 refl $ lifts ! 31 refl $ lifts ! 41 refl $ lifts ! 37 refl $ uses ! For-write (raw (Writes.pre to_write)) asks_write $
+        -- [the locals, from _12 down; the tokens of file, rows, record, length and buffer; and these five]
+        sets ! (addr ! (from ! (fld ! refl (hop ! (look_in ! 10 (sub ! 0 refl (whole !))) (stop !))))) (init ! 6 refl (tt, tt)) $
+        sets ! (agg ! (and_then ! (its ! 6 refl) (and_then ! (field-of ! 10 refl refl refl) (no_more !)))) (init ! 4 refl (tt, (tt, (record { fits = gb.0 }, tt)))) $
+        lifts ! 32 refl $ lifts ! 28 refl $ lifts ! 33 refl $ lifts ! 29 refl $ lifts ! 39 refl $ lifts ! 35 refl $ uses ! For-write (raw (Writes.pre to_write)) asks_write $
         calls-lasting write.ended (write.clauses 𝓛 mem run) to_write.0 tt (λ r vs. written.Writes s.now (map row_of j.now) u k b.now vs.1.1.1.1.0 r) (λ r vs. id⊢ 𝓤 _) G'.lowered (G'.lowers).val_is ! fm known.0
-        (past_head ! (and_then ! (its ! 24 refl) (and_then ! (its ! 22 refl) (and_then ! (its ! 20 refl) (and_then ! (its ! 18 refl) (and_then ! (its ! 4 refl) (no_more !))))))) (λ w vs ew w-is.
-        drop ! $ use2 𝓛 (Wrote vs.1.1.1.1.0) (wrote vs.1.1.1.1.0) $ learn ! (λ nb. split ! $ lays ! 29 $ split ! $ lays ! 30 $ split ! $ lays ! 33 $ lays ! 37 $
-        land ! (from ! (stop !)) (init ! 10 refl ((EL.lawful G.the_type G'.the_laws 𝓛 tt).typed w _ w-is).0) $
-        -- the numbers of what it answered
-        calls-plain turn.ended (turn.clauses 𝓛 mem run) (to-turn w w-is) tt (asks-turn w w-is) (λ m. m ≡ told_sized writing_code (writing_of w)) (λ m us. id⊢ 𝓤 _) T'.lowered (T'.lowers).val_is ! fm known.1.0 (and_then ! (its ! 10 refl) (no_more !)) (λ m em m-is.
-        land ! (from ! (stop !)) (init ! 8 refl ((LL.lawful T.the_type T'.the_laws 𝓛).typed m _ m-is).0) $
-        -- what is told of them
-        sets ! (addr ! (from ! (hop ! (look ! 16 refl) (stop !)))) (init ! 2 refl (tt, tt)) $
-        sets ! (addr ! (from ! (hop ! (look ! 14 refl) (stop !)))) (init ! 0 refl (tt, tt)) $
-        lifts ! 36 refl $ lifts ! 32 refl $ lifts ! 37 refl $ lifts ! 33 refl $ uses ! (For-tell m m-is) (raw ((Tells m m-is).pre (to-tell m m-is))) (asks-tell m m-is) $
-        calls-lasting tell.ended (tell.clauses 𝓛 mem run) (to-tell m m-is).0 tt (λ r ws. Stored m r ws.1.0 ws.1.1.0) (λ r ws. id⊢ 𝓤 _) (vint w64) (uint_Tells w64) ! fm known.1.1.0
+        (past_head ! (and_then ! (its ! 22 refl) (and_then ! (its ! 20 refl) (and_then ! (its ! 18 refl) (and_then ! (its ! 16 refl) (and_then ! (its ! 4 refl) (no_more !))))))) (λ w vs ew w-is.
+        drop ! $ use2 𝓛 (Wrote vs.1.1.1.1.0) (wrote vs.1.1.1.1.0) $ learn ! (λ nb. split ! $ lays ! 27 $ split ! $ lays ! 28 $ split ! $ lays ! 31 $ lays ! 35 $
+        land ! (from ! (stop !)) (init ! 8 refl ((EL.lawful G.the_type G'.the_laws 𝓛 tt).typed w _ w-is).0) $
+        -- what is told of it
+        sets ! (addr ! (from ! (hop ! (look ! 14 refl) (stop !)))) (init ! 2 refl (tt, tt)) $
+        sets ! (addr ! (from ! (hop ! (look ! 12 refl) (stop !)))) (init ! 0 refl (tt, tt)) $
+        lifts ! 34 refl $ lifts ! 30 refl $ lifts ! 35 refl $ lifts ! 31 refl $ uses ! (For-tell w w-is) (raw ((Tells w w-is).pre (to-tell w w-is))) (asks-tell w w-is) $
+        calls-lasting tell.ended (tell.clauses 𝓛 mem run) (to-tell w w-is).0 tt (λ r ws. ToldRun (writing_of w) r ws.1.0 ws.1.1.0) (λ r ws. id⊢ 𝓤 _) (vint w64) (uint_Tells w64) ! fm known.1.0
         (past_head ! (and_then ! (its ! 8 refl) (and_then ! (its ! 2 refl) (and_then ! (its ! 0 refl) (no_more !))))) (λ r ws er r-is.
-        drop ! $ use2 𝓛 (Told m m-is ws.1.0 ws.1.1.0) (told m m-is ws.1.0 ws.1.1.0) $ split ! $ lays ! 31 $ split ! $ lays ! 32 $ split ! $ lays ! 36 $ lays ! 36 $
-        land ! (from ! (stop !)) (init ! 26 refl (tt, record { fits = r-is.1 })) $
-        move ! (28 ∷ 29 ∷ 30 ∷ 31 ∷ 32 ∷ 33 ∷ 34 ∷ 35 ∷ 36 ∷ 37 ∷ []) $ closing ! 10 refl refl $
-        by ! (exits r ws.1.0 ws.1.1.0 vs.1.1.1.1.0 r-is nb (writes-run s.now j.now u k b.now vs.1.1.1.1.0 w ew m em r ws.1.0 ws.1.1.0 er)))))))
+        drop ! $ use2 𝓛 (Told w w-is ws.1.0 ws.1.1.0) (told w w-is ws.1.0 ws.1.1.0) $ split ! $ lays ! 29 $ split ! $ lays ! 30 $ split ! $ lays ! 34 $ lays ! 34 $
+        land ! (from ! (stop !)) (init ! 24 refl (tt, record { fits = r-is.1 })) $
+        move ! (26 ∷ 27 ∷ 28 ∷ 29 ∷ 30 ∷ 31 ∷ 32 ∷ 33 ∷ 34 ∷ 35 ∷ []) $ closing ! 10 refl refl $
+        by ! (exits r ws.1.0 ws.1.1.0 vs.1.1.1.1.0 r-is nb (writes-run s.now j.now u k b.now vs.1.1.1.1.0 w ew r ws.1.0 ws.1.1.0 er))))))
 
 walk : Walk it
 walk M 𝓤 𝓛 mem run 𝓣 known κs qs bounds a g are =
@@ -210,4 +186,4 @@ walk M 𝓤 𝓛 mem run 𝓣 known κs qs bounds a g are =
 
 pub bolfrega-write-spec : {M : Type 1} → stated.statement M
 unfolding code.routine tables_of
-bolfrega-write-spec 𝓤 𝓛 𝓜 𝓡 = walked it 𝓛 𝓜 𝓡 code.env #bolfrega-write (code.unfolded 𝓤 𝓛.H 𝓜 𝓡) (code.calls-call-write::write, (code.calls-host-tell::of-written, (code.calls-host-tell::tell, tt))) walk
+bolfrega-write-spec 𝓤 𝓛 𝓜 𝓡 = walked it 𝓛 𝓜 𝓡 code.env #bolfrega-write (code.unfolded 𝓤 𝓛.H 𝓜 𝓡) (code.calls-call-write::write, (code.calls-bolfrega::tell-written, tt)) walk

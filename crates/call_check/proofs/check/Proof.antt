@@ -50,8 +50,7 @@ use Rattle.spec_calls.proofs.Types.{RowType, options, Letter}
 use Rattle.search_state.specs.Layout.{table_cells}
 use Rattle.search_cover.specs.Near.{near_words}
 use Rattle.call_check.specs.declared.Checked.{Checked}
-use Rattle.spec_calls.specs.Checking.{check_of}
-use Rattle.call_check.specs.Clauses.{settings_over, Checks, AreasKept}
+use Rattle.call_check.specs.Clauses.{Checks}
 use Rattle.call_check.specs.contracts.Checked as Ck
 use Rattle.call_check.proofs.Checked.TheLaws as Ck'
 use Rattle.call_check.specs.contracts.check_in as inside
@@ -165,7 +164,7 @@ module _ {M : Type 1} {𝓤 : Ura M} (𝓛 : Logic 𝓤) (mem : Memory → SProp
         sets ! (addr ! (from ! (stop !))) (init ! 0 refl (tt, tt)) $
         lends-whole ! tt u32 table_cells ts n₃ l₄ 10 refl (λ ν₃ δ₃. lends-whole ! tt Letter near_words ns n₄ l₅ 10 refl (λ ν₄ δ₄.
         lifts ! 27 refl $ lifts ! 26 refl $ lifts ! 28 refl $ lifts ! 27 refl $ uses ! (For-inside l₄ l₅ ts ns ν₃ δ₃ ν₄ δ₄) (raw (Inside.pre (to_inside l₄ l₅ ts ns ν₃ δ₃ ν₄ δ₄))) (asks-inside l₄ l₅ ts ns ν₃ δ₃ ν₄ δ₄) $
-        calls-lasting inside.ended (inside.clauses 𝓛 mem run) (to_inside l₄ l₅ ts ns ν₃ δ₃ ν₄ δ₄).0 tt (λ c ws. Checks s.now x j.now ws.1.0 c × AreasKept (check_of s.now (settings_over x j.now)) ts ws.1.1.0 ns ws.1.1.1.0) (λ c ws. id⊢ 𝓤 _) checked_val (EL.tells Ck.the_type Ck'.the_laws) ! fm known.0
+        calls-lasting inside.ended (inside.clauses 𝓛 mem run) (to_inside l₄ l₅ ts ns ν₃ δ₃ ν₄ δ₄).0 tt (λ c ws. Checks s.now x j.now ws.1.0 c) (λ c ws. id⊢ 𝓤 _) checked_val (EL.tells Ck.the_type Ck'.the_laws) ! fm known.0
         (past_head ! (and_then ! (its ! 16 refl) (and_then ! (its ! 4 refl) (and_then ! (its ! 2 refl) (and_then ! (its ! 0 refl) (and_then ! (its ! 12 refl) (no_more !))))))) (λ c ws h c-is.
         let js = ws.1.0 in
         let us = ws.1.1.0 in
@@ -174,7 +173,7 @@ module _ {M : Type 1} {𝓤 : Ura M} (𝓛 : Logic 𝓤) (mem : Memory → SProp
         split ! $ lays ! 21 $ split ! $ lays ! 22 $ split ! $ lays ! 24 $ split ! $ split ! $ whole_back ! tt u32 tt ν₃ δ₃ table_cells us l₄ 11 refl (λ m₃. split ! $ whole_back ! tt Letter tt ν₄ δ₄ near_words vs l₅ 8 refl (λ m₄.
         land ! (from ! (stop !)) (init ! 18 refl (checked-typed c c-is)) $
         array-gone ! u32 table_cells us l₄ 10 m₃ refl $ array-gone ! Letter near_words vs l₅ 8 m₄ refl $
-        move ! (20 ∷ 21 ∷ 22 ∷ 23 ∷ []) $ closing ! 4 refl refl $ by ! (exits c js c-is nj h.0))))))))))
+        move ! (20 ∷ 21 ∷ 22 ∷ 23 ∷ []) $ closing ! 4 refl refl $ by ! (exits c js c-is nj h))))))))))
 
 walk : Walk it
 walk M 𝓤 𝓛 mem run 𝓣 known κs qs bounds a g are =

@@ -1,6 +1,6 @@
 -- The check in a lent table and lent words: these two and the two arrays in locals are lent to `prepare`, and then the former are lent and the latter
 -- shared to `run`, which is given the journal for good. Assumes nothing.
-use mathlib.Core.Path.{◌≡◌, refl, ◌∙◌, subst}
+use mathlib.Core.Path.{◌≡◌, refl}
 use mathlib.Core.List.{List, [], ◌∷◌}
 use Prim.Native.Nat.{ℕ, ◌<◌}
 use lib.Dec.{T, lit<}
@@ -62,19 +62,17 @@ use Rattle.search_state.proofs.State.TheLaws as S'
 use Rattle.search_state.specs.Layout.{table_cells}
 use Rattle.search_cover.specs.Near.{near_words}
 use Rattle.search_laws.specs.Meanings.{answer_in}
-use Rattle.search_laws.specs.OnRelations.{NearIn}
-use Rattle.search_reuse.specs.Runs.{MayReuse, HasReused}
-use Rattle.search_reuse.specs.contracts.run as running
-use Rattle.search_reuse.proofs.run.Symbol as running-def
-use Rattle.search_reuse.proofs.run.Met as running-thm
+use Rattle.search_laws.specs.OnRelations.{NearIn, Running, Ran}
+use Rattle.search_loops.specs.contracts.run as running
+use Rattle.search_loops.proofs.run.Symbol as running-def
+use Rattle.search_loops.proofs.run.Met as running-thm
 use Rattle.call_check.specs.declared.Checked.{Checked}
 use Rattle.call_check_start.specs.declared.Start.{Start}
 use Rattle.call_check.specs.Answers.{checked_by}
-use Rattle.call_check.specs.Clauses.{settings_over, Checks, AreasKept}
+use Rattle.call_check.specs.Clauses.{settings_over, Checks}
 use Rattle.call_check_start.specs.Starting.{Starts}
-use Rattle.spec_calls.specs.Checking.{check_of}
-use Rattle.call_check.proofs.Answered.{may-begin, checks-by, areas-by}
-use Rattle.call_check_start.proofs.Started.{may-look}
+use Rattle.call_check.proofs.Answered.{checks-by}
+use Rattle.call_check_start.proofs.Started.{may-run, may-look}
 use Rattle.call_check.specs.contracts.Checked as Ck
 use Rattle.call_check.proofs.Checked.TheLaws as Ck'
 use Rattle.call_check_start.specs.contracts.Start as B
@@ -133,8 +131,7 @@ module _ {M : Type 1} {𝓤 : Ura M} (𝓛 : Logic 𝓤) (mem : Memory → SProp
       ‵ (flft κ q) ∷ ‵ (flft κ' q') ∷ ‵ (flft κ₃ q₃) ∷ ‵ (flft κ₄ q₄) ∷ ‵ ftrue ∷ ‵ (finally RowType j.name js) ∷ ‵ ((MutRef (named 0) κ₃ (Array u32 table_cells)).own_val (at_last t ts) (mut_vals t))
       ∷ ‵ ((MutRef (named 0) κ₄ (Array Letter near_words)).own_val (at_last n ns) (mut_vals n)) ∷ ‵ ftrue ∷ ‵ ftrue ∷ ‵ ftrue ∷ ‵ ftrue ∷ []
 
-  exits : (c : Checked) (js : List Row) (ts ns : List ℕ) → Is Ck.the_row c (checked_val c ∷ []) → length js ≡ length j.now
-      → Checks s.now x j.now js c × AreasKept (check_of s.now (settings_over x j.now)) t.now ts n.now ns
+  exits : (c : Checked) (js : List Row) (ts ns : List ℕ) → Is Ck.the_row c (checked_val c ∷ []) → length js ≡ length j.now → Checks s.now x j.now js c
       → ent 𝓤 (⋆ 𝓛 (At-exit js ts ns)) (Post (checked_val c))
   exits c js ts ns is l e =
       qed 𝓛 (At-exit js ts ns) ∵
@@ -224,7 +221,7 @@ module _ {M : Type 1} {𝓤 : Ura M} (𝓛 : Logic 𝓤) (mem : Memory → SProp
       abbrev For-run : List (Item 𝓤)
       For-run = ‵ (flft κ' q') ∷ Journal ∷ tok ν₂ ∷ ‵ ((ShrSlice (named 0) (ν₂ ∷ []) Entry).own_val rules (slice_val (b₂, 0) rule_limit ∷ [])) ∷ tok ν₁ ∷ ‵ ((ShrSlice (named 0) (ν₁ ∷ []) Letter).own_val letters (slice_val (b₁, 0) letter_words ∷ [])) ∷ tok ν₄ ∷ Near ∷ tok ν₃ ∷ Table ∷ []
 
-      asks-run : MayReuse ls rs st j.now ts × (T st.going → NearIn st j.now ns) → ent 𝓤 (⋆ 𝓛 For-run) (Runs.pre to-run)
+      asks-run : Running ls rs st j.now st j.now ts × (T st.going → NearIn st j.now ns) → ent 𝓤 (⋆ 𝓛 For-run) (Runs.pre to-run)
       asks-run h =
           qed 𝓛 For-run ∵ says ! h $ nothing ! $ move ! (3 ∷ 0 ∷ []) $ join ! $ move ! (4 ∷ 0 ∷ []) $ join ! $ move ! (5 ∷ 0 ∷ []) $ join ! $ move ! (6 ∷ 0 ∷ []) $ join ! $ move ! (1 ∷ 0 ∷ []) $ join ! $ frame ! $
           nothing ! $ owned ! S.the_row (Is S.the_row) (LL.makes S.the_type S'.the_plain 𝓛) st _ st-is $ fjoin ! $ move ! (2 ∷ 0 ∷ []) $ fjoin ! $ move ! (2 ∷ 0 ∷ []) $ fjoin ! $ move ! (2 ∷ 0 ∷ []) $ fjoin ! $ move ! (2 ∷ 0 ∷ []) $ fjoin ! $ move ! (1 ∷ 0 ∷ []) $ fjoin ! $ done !
@@ -289,7 +286,7 @@ module _ {M : Type 1} {𝓤 : Ura M} (𝓛 : Logic 𝓤) (mem : Memory → SProp
         lends-whole ! tt Letter letter_words ls n₁ l₆ 42 refl (λ ν₁ δ₁. lends-whole ! tt Entry rule_limit rs n₂ l₇ 42 refl (λ ν₂ δ₂.
         lifts ! 64 refl $ lends-behind u32 table_cells κ₃ q₃ t ! tt t.now n₃ (lit< tt, lit< tt) (λ ν₃ δ₃. lays ! 66 $ lifts ! 67 refl $ lends-behind Letter near_words κ₄ q₄ n ! tt n.now n₄ (lit< tt, lit< tt) (λ ν₄ δ₄. lays ! 69 $
         lifts ! 66 refl $ lifts ! 65 refl $ uses ! (For-prepare l₆ l₇ ls rs t.now n.now ν₁ δ₁ ν₂ δ₂ ν₃ δ₃ ν₄ δ₄) (raw (Prepares.pre (to-prepare l₆ l₇ ls rs t.now n.now ν₁ δ₁ ν₂ δ₂ ν₃ δ₃ ν₄ δ₄))) (asks-prepare l₆ l₇ ls rs t.now n.now ν₁ δ₁ ν₂ δ₂ ν₃ δ₃ ν₄ δ₄ (n₃, n₄)) $
-        calls-lasting prepare.ended (prepare.clauses 𝓛 mem run) (to-prepare l₆ l₇ ls rs t.now n.now ν₁ δ₁ ν₂ δ₂ ν₃ δ₃ ν₄ δ₄).0 tt (λ b ws. Starts s.now (settings_over x j.now) ws.1.0 ws.1.1.0 ws.1.1.1.0 ws.1.1.1.1.0 b × ((b.refusal.number ≡ 0 → ⊥) → (ws.1.1.1.0 ≡ t.now) × (ws.1.1.1.1.0 ≡ n.now))) (λ b ws. id⊢ 𝓤 _) B'.lowered (B'.lowers).val_is ! fm known.0
+        calls-lasting prepare.ended (prepare.clauses 𝓛 mem run) (to-prepare l₆ l₇ ls rs t.now n.now ν₁ δ₁ ν₂ δ₂ ν₃ δ₃ ν₄ δ₄).0 tt (λ b ws. Starts s.now (settings_over x j.now) ws.1.0 ws.1.1.0 ws.1.1.1.0 ws.1.1.1.1.0 b) (λ b ws. id⊢ 𝓤 _) B'.lowered (B'.lowers).val_is ! fm known.0
         (past_head ! (and_then ! (its ! 52 refl) (and_then ! (its ! 30 refl) (and_then ! (its ! 28 refl) (and_then ! (its ! 24 refl) (and_then ! (its ! 20 refl) (and_then ! (its ! 38 refl) (and_then ! (its ! 44 refl) (no_more !))))))))) (λ b ws h b-is.
         let xs = ws.1.0 in
         let ys = ws.1.1.0 in
@@ -313,8 +310,8 @@ module _ {M : Type 1} {𝓤 : Ura M} (𝓛 : Logic 𝓤) (mem : Memory → SProp
         lifts ! 60 refl $ lends-behind u32 table_cells κ₃ q₃ t ! tt zs m₃ (lit< tt, lit< tt) (λ μ₃ ε₃. lays ! 62 $ lifts ! 63 refl $ lends-behind Letter near_words κ₄ q₄ n ! tt us m₄ (lit< tt, lit< tt) (λ μ₄ ε₄. lays ! 65 $
         shares_array ! tt Letter xs letter_words m₁ (lit< tt, lit< tt) l₆ 46 refl (λ μ₁ ε₁. shares_array ! tt Entry ys rule_limit m₂ (lit< tt, lit< tt) l₇ 46 refl (λ μ₂ ε₂.
         lifts ! 67 refl $ lifts ! 66 refl $ uses ! (For-run l₆ l₇ xs ys zs us μ₁ ε₁ μ₂ ε₂ μ₃ ε₃ μ₄ ε₄ b.state (state-is b b-is)) (raw (Runs.pre (to-run l₆ l₇ xs ys zs us μ₁ ε₁ μ₂ ε₂ μ₃ ε₃ μ₄ ε₄ b.state (state-is b b-is))))
-        (asks-run l₆ l₇ xs ys zs us μ₁ ε₁ μ₂ ε₂ μ₃ ε₃ μ₄ ε₄ b.state (state-is b b-is) ((_, (_, may-begin s.now x j.now xs ys zs us b h.0)), may-look s.now (settings_over x j.now) xs ys zs us b h.0 j.now refl)) $
-        calls-lasting running.ended (running.clauses 𝓛 mem run) (to-run l₆ l₇ xs ys zs us μ₁ ε₁ μ₂ ε₂ μ₃ ε₃ μ₄ ε₄ b.state (state-is b b-is)).0 tt (λ r vs. HasReused xs ys b.state j.now zs us vs.0 vs.1.0 vs.1.1.0 r) (λ r vs. id⊢ 𝓤 _) S'.lowered (S'.lowers).val_is ! fm known.1.0
+        (asks-run l₆ l₇ xs ys zs us μ₁ ε₁ μ₂ ε₂ μ₃ ε₃ μ₄ ε₄ b.state (state-is b b-is) (may-run s.now (settings_over x j.now) xs ys zs us b h j.now refl, may-look s.now (settings_over x j.now) xs ys zs us b h j.now refl)) $
+        calls-lasting running.ended (running.clauses 𝓛 mem run) (to-run l₆ l₇ xs ys zs us μ₁ ε₁ μ₂ ε₂ μ₃ ε₃ μ₄ ε₄ b.state (state-is b b-is)).0 tt (λ r vs. Ran xs ys b.state j.now vs.0 vs.1.0 r) (λ r vs. id⊢ 𝓤 _) S'.lowered (S'.lowers).val_is ! fm known.1.0
         (past_head ! (and_then ! (its ! 16 refl) (and_then ! (its ! 12 refl) (and_then ! (its ! 8 refl) (and_then ! (its ! 4 refl) (and_then ! (its ! 0 refl) (and_then ! (field-of ! 36 refl refl refl) (no_more !)))))))) (λ st vs o st-is.
         drop ! $ use2 𝓛 (From-run l₆ l₇ xs ys zs us μ₁ ε₁ μ₂ ε₂ μ₃ ε₃ μ₄ ε₄ b.state (state-is b b-is) vs.0 vs.1.0 vs.1.1.0) (from-run l₆ l₇ xs ys zs us μ₁ ε₁ μ₂ ε₂ μ₃ ε₃ μ₄ ε₄ b.state (state-is b b-is) vs.0 vs.1.0 vs.1.1.0) $ learn ! (λ nj.
         split ! $ split ! $ lays ! 59 $ lays ! 60 $
@@ -329,7 +326,7 @@ module _ {M : Type 1} {𝓤 : Ura M} (𝓛 : Logic 𝓤) (mem : Memory → SProp
         lifts ! 60 refl $ array-closes u32 table_cells κ₃ q₃ t ! tt vs.1.0 k₃ $ lifts ! 63 refl $ array-closes Letter near_words κ₄ q₄ n ! tt vs.1.1.0 k₄ $
         -- [the words; their token; the table; its token; ..]
         move ! (60 ∷ 61 ∷ 3 ∷ 1 ∷ 62 ∷ 63 ∷ 2 ∷ 0 ∷ 64 ∷ 65 ∷ 66 ∷ 67 ∷ []) $ closing ! 12 refl refl $
-        by ! (exits c vs.0 vs.1.0 vs.1.1.0 c-is nj (let y = checks-by s.now x j.now xs ys zs us vs.1.0 vs.1.1.0 b h.0 vs.0 st o c ec in (y, areas-by s.now x j.now vs.0 c y b.refusal (answer_in st) ec t.now vs.1.0 n.now vs.1.1.0 (λ z. let w = o.idle (λ g. subst T (h.0.refused z) g) in let u = h.1 z in (w.2 ∙ u.0, w.3 ∙ u.1))))))))))))))))))))))))))))
+        by ! (exits c vs.0 vs.1.0 vs.1.1.0 c-is nj (checks-by s.now x j.now xs ys zs us vs.1.0 b h vs.0 st o c ec)))))))))))))))))))))))))
 
 walk : Walk it
 walk M 𝓤 𝓛 mem run 𝓣 known κs qs bounds a g are =
@@ -338,4 +335,4 @@ walk M 𝓤 𝓛 mem run 𝓣 known κs qs bounds a g are =
 
 pub check-in-spec : {M : Type 1} → stated.statement M
 unfolding code.routine tables_of
-check-in-spec 𝓤 𝓛 𝓜 𝓡 = walked it 𝓛 𝓜 𝓡 code.env #check-in (code.unfolded 𝓤 𝓛.H 𝓜 𝓡) (code.calls-call-check-start::prepare, (code.calls-search-reuse::run, (code.calls-call-check::as-checked, tt))) walk
+check-in-spec 𝓤 𝓛 𝓜 𝓡 = walked it 𝓛 𝓜 𝓡 code.env #check-in (code.unfolded 𝓤 𝓛.H 𝓜 𝓡) (code.calls-call-check-start::prepare, (code.calls-search-loops::run, (code.calls-call-check::as-checked, tt))) walk

@@ -1,5 +1,5 @@
 -- Where nothing refuses, the tables are the file's, no row is linked or near, and the first pass begins. Assumes nothing.
-use mathlib.Core.Path.{refl, ◌∙◌}
+use mathlib.Core.Path.{◌∙◌}
 use borrow.Author.Rules.{rules}
 use Rattle.spec_calls.specs.Rows.{settings_of}
 use Rattle.call_check_start.proofs.Started.{starts-refused, may-open, starts}
@@ -9,7 +9,7 @@ use Rattle.call_check_start.proofs.prepare.Tie as tie
 returns : tie.Need-returns
 returns c =
     let a = c.before.before.before.before.before.before.before.args in
-    (starts-refused a.file.now (settings_of a.rows a.options) _ _ _ _ _ c.before.before.before.refusal-for.ensures c.before.if1.true _ c.wait.ensures, λ z. (refl, refl))
+    starts-refused a.file.now (settings_of a.rows a.options) _ _ _ _ _ c.before.before.before.refusal-for.ensures c.before.if1.true _ c.wait.ensures
 
 open-pass-requires : tie.Need-open-pass-requires
 open-pass-requires c κs =
@@ -41,11 +41,9 @@ returns-2 c =
     let t = s.before in
     let i = t.before.before in
     let e = i.before.before.before.before.before.before in
-    let a = e.args in (
-      starts a.file.now (settings_of a.rows a.options) _ t.letter-relations.ensures _ s.final-states.ensures _ _ _ r.rule-table.ensures _ _ u.unlink-all.ensures a.near.now _ e.requires.1 f.forget.ensures _ w.wait2.ensures _
-          p.open-pass.ensures _ c.before.all-linked.ensures _ c.stand-or-finish.ensures _ i.before.before.refusal-for.ensures i.if1.false,
-      λ z. absurd (z i.if1.false),
-    )
+    let a = e.args in
+    starts a.file.now (settings_of a.rows a.options) _ t.letter-relations.ensures _ s.final-states.ensures _ _ _ r.rule-table.ensures _ _ u.unlink-all.ensures a.near.now _ e.requires.1 f.forget.ensures _ w.wait2.ensures _
+    p.open-pass.ensures _ c.before.all-linked.ensures _ c.stand-or-finish.ensures _ i.before.before.refusal-for.ensures i.if1.false
 
 pub prepare-spec : {M : Type 1} → statement M
 prepare-spec =

@@ -8,7 +8,7 @@ use Rattle.spec_file.specs.Refusals.{Refusal, first_of}
 use Rattle.spec_unfold.specs.Moving.{narrowed}
 use Rattle.spec_unfold.specs.Calls.{narrow_refusals}
 use Rattle.call_move.specs.CallLaws.{narrow-passed, narrows}
-use Rattle.file_forms.specs.MovedLaws.{narrowed-length}
+use Rattle.call_move.specs.FrontLaws.{narrowed-length}
 use Rattle.call_move.specs.ReplyLaws.{replied-refused, replied-done}
 use Rattle.call_move.proofs.narrow.Statement.{statement}
 use Rattle.call_move.proofs.narrow.Tie as tie

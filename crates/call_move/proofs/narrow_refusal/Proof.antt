@@ -8,7 +8,7 @@ use Rattle.spec_file.specs.RefusalLaws.{said_or}
 use Rattle.spec_unfold.specs.Moving.{narrowed}
 use Rattle.spec_unfold.specs.Calls.{long_fault}
 use Rattle.call_move.specs.CallLaws.{room-test}
-use Rattle.file_forms.specs.MovedLaws.{narrowed-length}
+use Rattle.call_move.specs.FrontLaws.{narrowed-length}
 use Rattle.call_move.proofs.narrow_refusal.Statement.{statement}
 use Rattle.call_move.proofs.narrow_refusal.Tie as tie
 

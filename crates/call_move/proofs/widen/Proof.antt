@@ -8,7 +8,7 @@ use Rattle.spec_file.specs.Refusals.{Refusal, first_of}
 use Rattle.spec_unfold.specs.Moving.{widened}
 use Rattle.spec_unfold.specs.Calls.{widen_refusals}
 use Rattle.call_move.specs.CallLaws.{widen-passed, widens}
-use Rattle.file_forms.specs.MovedLaws.{widened-length}
+use Rattle.call_move.specs.FrontLaws.{widened-length}
 use Rattle.call_move.specs.ReplyLaws.{replied-refused, replied-done}
 use Rattle.call_move.proofs.widen.Statement.{statement}
 use Rattle.call_move.proofs.widen.Tie as tie

@@ -5,7 +5,7 @@ use Rattle.spec_file.specs.Answers.{refusal_of}
 use Rattle.spec_file.specs.RefusalLaws.{said_or}
 use Rattle.spec_unfold.specs.Moving.{widened}
 use Rattle.call_move.specs.CallLaws.{room-test}
-use Rattle.file_forms.specs.MovedLaws.{widened-length}
+use Rattle.call_move.specs.FrontLaws.{widened-length}
 use Rattle.call_move.proofs.widen_refusal.Statement.{statement}
 use Rattle.call_move.proofs.widen_refusal.Tie as tie
 

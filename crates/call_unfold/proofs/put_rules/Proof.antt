@@ -7,7 +7,7 @@ use native.Mathlib.Omega.{arith}
 use lib.ListN.{length, take}
 use borrow.Author.Rules.{rules}
 use Rattle.spec_records.specs.Blocks.{bytes_of}
-use Rattle.file_bytes.specs.Fronts.{over}
+use Rattle.call_move.specs.Fronts.{over}
 use Rattle.call_unfold.specs.WriteLaws.{put-turn, put-fits}
 use Rattle.unfold_order.specs.Keys.{digits_of}
 use Rattle.call_unfold.proofs.put_rules.Statement.{statement}

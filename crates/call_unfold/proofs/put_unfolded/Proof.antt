@@ -6,7 +6,7 @@ use native.Mathlib.Omega.{arith}
 use lib.ListN.{length, take, drop}
 use borrow.Author.Rules.{rules}
 use Rattle.spec_unfold.specs.Moving.{narrowed}
-use Rattle.file_bytes.specs.Fronts.{over}
+use Rattle.call_move.specs.Fronts.{over}
 use Rattle.call_unfold.specs.Results.{rules_in, keys_from, unfolded_bytes}
 use Rattle.call_unfold.specs.ResultLaws.{keys_length}
 use Rattle.call_unfold.specs.WriteLaws.{written, digits-length, put_both, tail-part}

@@ -8,7 +8,7 @@ use Rattle.spec_file.specs.Answers.{refusal_of}
 use Rattle.spec_file.specs.Refusals.{Refusal, first_of}
 use Rattle.spec_unfold.specs.Unfolding.{unfolded_file}
 use Rattle.spec_unfold.specs.Calls.{unfold_refusals}
-use Rattle.file_bytes.specs.Fronts.{over}
+use Rattle.call_move.specs.Fronts.{over}
 use Rattle.call_move.specs.ReplyLaws.{replied-refused, replied-done}
 use Rattle.unfold_count.specs.declared.Needed.{Needed}
 use Rattle.call_unfold.specs.Results.{Bounded}

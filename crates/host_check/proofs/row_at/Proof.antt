@@ -35,7 +35,7 @@ use Rattle.walk_kit.proofs.Loans.{Loan, ref, loan-of, offset-fits, takes, gives}
 use Rattle.walk_kit.proofs.Locals.{its, field-of, behind, sets, if-then}
 use Rattle.walk_kit.proofs.Opening.{entering}
 use Rattle.walk_kit.proofs.Parameters.{Param, shared, number, stays, spells, typed-all}
-use Rattle.walk_kit.proofs.PlainData.{Row as RowOf, val, Means, tells, makes, copies, typed, number as number_of, values-owned, types_of, values_of, machine-of}
+use Rattle.walk_kit.proofs.PlainData.{Row as RowOf, val, Means, tells, makes, copies, typed, number as number_of_lem, values-owned, types_of, values_of, machine-of}
 use Rattle.walk_kit.proofs.Sharing.{Shared}
 use Rattle.spec_calls.specs.Rows.{blank, Journal}
 use Rattle.spec_calls.specs.declared.Row.{Row}
@@ -66,7 +66,7 @@ module _ {M : Type 1} {𝓤 : Ura M} (𝓛 : Logic 𝓤) (mem' : Memory → SPro
 
   exits : (r : Row) → Means row r → r ≡ get_or j i blank → ent 𝓤 (⋆ 𝓛 (‵ (Shared (RowOf row) J j) ∷ [])) (Post (val row r))
   exits r is e =
-      let vs = number_of w64 i i-fits ∷ [] in
+      let vs = number_of_lem w64 i i-fits ∷ [] in
       qed 𝓛 (‵ (Shared (RowOf row) J j) ∷ []) ∵ suffices ! _ (ends_at 𝓛 f.ended (stays ps) (f.clauses 𝓛 mem' run) (x₀, tt) (val row r) r (tt, (tt, tt)) (tt, (tt, tt))) $ says ! e $
       use0 𝓛 (‵ (owns (types_of vs) (values_of vs) (machine-of vs))) (values-owned 𝓛 vs) $ nothing ! $ gives ! $ frame ! $ frame ! $ owned ! (RowOf row) (Is (RowOf row)) (makes row 𝓛) r _ is $ done !
 

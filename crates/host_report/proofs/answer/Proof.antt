@@ -1,13 +1,12 @@
--- `render` with document 01's rows and budget, over rows of zeros, and what its text tells. Assumes nothing.
+-- `render` with document 01's rows and budget, over rows of zeros. Assumes nothing.
 use borrow.Author.Rules.{rules}
 use Rattle.spec_calls.specs.Printing.{program_text}
-use Rattle.host_report.specs.CrewTruth.{answered-so}
 use Rattle.host_report.proofs.answer.Statement.{statement}
 use Rattle.host_report.proofs.answer.Tie as tie
 
 returns : tie.Need-returns
 unfolding program_text
-returns c = answered-so _ _ _ _ c.render.ensures
+returns c = c.render.ensures
 
 pub answer-spec : {M : Type 1} → statement M
 answer-spec = tie.close (tie.spec (λ c κs. search rules) (λ c κs. search rules) returns)

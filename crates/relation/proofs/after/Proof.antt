@@ -1,22 +1,14 @@
 -- `after` meets its contract. The loop's invariant: each word of `sum` has the pairs with a middle state of the first `k` words of y, and
 -- `rest` begins with the columns of the others. The measure is the words that are left, one fewer at each turn. Assumes nothing.
-use mathlib.Core.Path.{◌≡◌, sym, ap, ap₂, ◌∙◌}
-use mathlib.Core.List.{[], ◌∷◌}
-use Prim.Native.Nat.{ℕ, zero, suc, ◌+◌, ◌-◌, ◌*◌, ◌/◌, ◌^◌, ◌≤◌, ◌<◌}
-use native.Mathlib.Nat.{div-one}
-use native.Mathlib.Omega.{arith}
-use borrow.Author.Rules.{rules}
+use Rattle.std.proofs.Common.{◌≡◌, ℕ, zero, suc, ◌+◌, ◌-◌, ◌*◌, ◌/◌, ◌^◌, ◌<◌, ◌≤◌, [], ◌∷◌, get_or, sym, ap, ◌∙◌, ap₂, div-one, arith, pow_pos, shr-shr, rules}
 use lib.Bits.{bit_or}
-use lib.ListN.{get_or}
-use lib.Pow.{pow_pos, shr-shr}
-use Rattle.relation_words.specs.Rows.{pieces}
-use Rattle.relation_words.specs.RowLaws.{each_word}
 use Rattle.relation.specs.declared.Relation.{Relation}
+use Rattle.relation.specs.Digits.{pieces}
 use Rattle.relation.specs.Parts.{product-word, product-rows}
 use Rattle.relation.specs.Pieces.{pieces-same}
 use Rattle.relation.specs.Product.{product, product-none}
 use Rattle.relation.specs.Relation.{states}
-use Rattle.relation.specs.Representation.{word_digits, rows_of_word, relation_words, word, Fit, word_lt, value}
+use Rattle.relation.specs.Representation.{word_digits, rows_of_word, relation_words, word, each_word, Fit, word_lt, value}
 use Rattle.relation.proofs.after.Statement.{statement}
 use Rattle.relation.proofs.after.Tie as tie
 

@@ -1,9 +1,8 @@
 -- `by_four` meets its contract: two words of the next relation, and two more. Assumes nothing.
-use mathlib.Core.Path.{ap₂}
-use borrow.Author.Rules.{rules}
+use Rattle.std.proofs.Common.{ap₂, rules}
 use lib.Bits.{bit_or}
-use Rattle.relation_words.specs.Rows.{union}
 use Rattle.relation.specs.Columns.{word_by}
+use Rattle.relation.specs.Digits.{union}
 use Rattle.relation.proofs.by_four.Statement.{statement}
 use Rattle.relation.proofs.by_four.Tie as tie
 

@@ -1,11 +1,8 @@
 -- `by_two` meets its contract: the columns of the states 0 to 3, and of 4 to 7. Assumes nothing.
-use mathlib.Core.Path.{sym, ap, ap₂, ◌∙◌}
-use Prim.Native.Nat.{ℕ}
-use native.Mathlib.Nat.{add-zero}
-use borrow.Author.Rules.{rules}
+use Rattle.std.proofs.Common.{ℕ, sym, ap, ◌∙◌, ap₂, add-zero, rules}
 use lib.Bits.{bit_or, or_zero_l}
-use Rattle.relation_words.specs.Rows.{by_columns, cells_from, union}
-use Rattle.relation.specs.Columns.{word_by}
+use Rattle.relation.specs.Columns.{by_columns, cells_from, word_by}
+use Rattle.relation.specs.Digits.{union}
 use Rattle.relation.proofs.by_two.Statement.{statement}
 use Rattle.relation.proofs.by_two.Tie as tie
 

@@ -16,7 +16,7 @@ returns-3 : tie.Need-returns-3
 returns-3 c e =
     let k = c.before.before in
     let i = k.before.before in
-    record { real = omega arith; row = i.before.before.args.row; used = omega (arith, i.if1.false); head = k.if2.false; below = sym (rw (c.contained-first-word.ensures, c.before.read.ensures)) ∙ e }
+    record { row = i.before.before.args.row; used = omega (arith, i.if1.false); head = k.if2.false; below = sym (rw (c.contained-if-first.ensures, c.before.read.ensures)) ∙ e }
 
 pub is-below-spec : {M : Type 1} → statement M
 is-below-spec = tie.close (tie.spec returns (λ c. search rules) (λ c. search rules) (λ c. search rules) returns-2 (λ c. search rules) (λ c κs. search rules) (λ c κs. search rules) returns-3)

@@ -2,7 +2,7 @@
 use mathlib.Core.Path.{sym, ap, ◌∙◌, subst}
 use Prim.Native.Nat.{ℕ, ◌≤◌}
 use borrow.Author.Rules.{rules}
-use Rattle.search_laws.specs.Advancing.{decided-so, decided-right, stopped-running, going-running, decided-used}
+use Rattle.search_laws.specs.Advancing.{Right, decided-so, decided-right, stopped-running, going-running, decided-used}
 use Rattle.search_laws.specs.Steps.{LinksAlong}
 use Rattle.search_laws.specs.StepLaws.{remembers-links, remembers-passes}
 use Rattle.search_laws.specs.Meanings.{counts_in}
@@ -33,14 +33,13 @@ go-on-requires c κs =
     )
 
 returns : tie.Need-returns
-returns c P L aim start j₀ j d x =
+returns c P L start j₀ j d x =
     going-running x L _ c.before.before.before.before.before.before.before.before.before.before.remember-hint.ensures (sym c.before.before.before.before.before.outcome.given.1 ∙ c.before.before.before.before.before.before.before.decide.ensures ∙ decided-so x) (c.before.before.go_on.ensures P L)
 
 returns-2 : tie.Need-returns-2
-returns-2 c P L aim start j₀ j d x =
+returns-2 c P L start j₀ j d x =
     let o = c.before.before.before.before.decide in
-    let hints = c.before.before.before.before.before.before.before.remember-hint in
-    rw c.stop.ensures (stopped-running x _ (sym c.before.before.outcome2.given.1 ∙ (o.ensures ∙ decided-so x)) _ hints.ensures)
+    rw c.stop.ensures (stopped-running x _ (subst (Right x) (sym (o.ensures ∙ decided-so x) ∙ c.before.before.outcome2.given.1) (decided-right x)) _)
 
 pub advance-spec : {M : Type 1} → statement M
 advance-spec = tie.close (tie.spec (λ c κs. search rules) (λ c κs. search rules) (λ c. search rules) go-on-requires (λ c. search rules) (λ c κs. search rules) (λ c. search rules) returns (λ c. search rules) returns-2)

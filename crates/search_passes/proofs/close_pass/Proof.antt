@@ -2,17 +2,16 @@
 use mathlib.Core.Path.{◌≡◌, refl, sym, ap, ◌∙◌, subst}
 use Prim.Native.Nat.{◌+◌, ◌≤◌}
 use native.Mathlib.Nat.{le_refl}
-use native.Mathlib.Omega.{arith}
 use lib.ListN.{length, take}
 use lib.Seq.{length-take-le}
 use borrow.Author.Rules.{rules}
 use Rattle.search_laws.specs.Clauses.{Answers}
 use Rattle.search_laws.specs.Running.{Onward}
 use Rattle.search_laws.specs.States.{all_linked, finished}
-use Rattle.search_laws.specs.Walks.{walk_from, KnownFrom}
+use Rattle.search_laws.specs.Walks.{pass_in}
 use Rattle.search_laws.specs.declared.Outcome.TheVariants.{Going}
 use Rattle.search_laws.specs.Problems.{with_rules}
-use Rattle.search_laws.specs.RunningLaws.{onward-from, close-last, close-again}
+use Rattle.search_laws.specs.RunningLaws.{onward-from, close-last, close-again, close-known}
 use Rattle.search_state.specs.Layout.{row_cells}
 use Rattle.search_state.specs.NextPass.{next_pass}
 use Rattle.search_state.specs.declared.Terms.{Terms}
@@ -20,15 +19,15 @@ use Rattle.search_passes.proofs.close_pass.Statement.{statement}
 use Rattle.search_passes.proofs.close_pass.Tie as tie
 
 returns : tie.Need-returns
-returns c P L B aim j₀ first j₁ j z rows y h x known g =
+returns c P L B j₀ first j₁ j z rows y h x g =
     let s = c.before.before.before.before.before.before.before in
     let st = s.args.state in
     let rs = take s.args.state.rules s.args.rules.now in
     let Q = with_rules P rs in
     let n : st.rules ≡ length rs = sym (length-take-le st.rules s.args.rules.now s.requires.opens.count) in
     rw (c.finish.ensures, c.before.all-linked.ensures)
-    (subst (λ (b : Terms). Onward Q B aim j₀ s.args.counts (finished st b s.args.counts (all_linked b.starts s.args.table.now)) j s.args.table.now) (sym y.terms)
-    (close-last Q B aim j₀ st rows n y.at-pass y.present y.before h (subst (λ (b : Terms). Answers Q.row_of B (walk_from Q b y.all first j₁) first j₁ j (Going s.args.counts)) y.terms x) z.limit s.args.table.now g c.before.before.before.if1.true))
+    (subst (λ (b : Terms). Onward Q B j₀ s.args.counts (finished st b s.args.counts (all_linked b.starts s.args.table.now)) j s.args.table.now) (sym y.terms)
+    (close-last Q B j₀ st rows n y.at-pass y.before h (subst (λ (b : Terms). Answers Q.row_of B (pass_in Q b first j₁) first j₁ j (Going s.args.counts)) y.terms x) z.limit s.args.table.now g c.before.before.before.if1.true))
 
 asked : tie.Need-open-pass-requires
 asked c κs =
@@ -36,7 +35,7 @@ asked c κs =
     record { table = a.table; count = a.count; old = subst (λ (b : Terms). b.old ≤ row_cells) (sym c.before.next-pass.ensures) a.old; used = a.used; links = a.links }
 
 returns-2 : tie.Need-returns-2
-returns-2 c P L B aim j₀ first j₁ j z rows y h x known g =
+returns-2 c P L B j₀ first j₁ j z rows y h x g =
     let s = c.before.before.before.before.before.before.before.before.before.before.before.before in
     let st = s.args.state in
     let rs = take s.args.state.rules s.args.rules.now in
@@ -44,12 +43,12 @@ returns-2 c P L B aim j₀ first j₁ j z rows y h x known g =
     let n : st.rules ≡ length rs = sym (length-take-le st.rules s.args.rules.now s.requires.opens.count) in
     let w = s.args.counts in
     let more : w.added ≡ 0 → ⊥ = c.before.before.before.before.before.before.before.before.if1.false in
-    let gave = subst (λ (b : Terms). Answers Q.row_of B (walk_from Q b y.all first j₁) first j₁ j (Going w)) y.terms x in
+    let gave = subst (λ (b : Terms). Answers Q.row_of B (pass_in Q b first j₁) first j₁ j (Going w)) y.terms x in
     rw (c.stand-or-finish.ensures, c.before.all-linked2.ensures)
-    (onward-from Q B aim j₀ st rows n (le_refl w.joins) refl
-    (c.before.before.before.before.before.open-pass.ensures P L B aim j₀ j (y.pass + 1) y.present st refl z rows (close-again Q B aim j₀ st rows n y.at-pass y.present y.before h gave more)
-    (c.before.before.before.before.before.before.before.next-pass.ensures ∙ ap (λ (b : Terms). next_pass b w.used) y.terms) (omega (arith, y.inside, gave.grows))
-    (subst (λ (b : Terms). KnownFrom Q b.present w.used j) y.terms known) g))
+    (onward-from Q B j₀ st rows n (le_refl w.joins) refl
+    (c.before.before.before.before.before.open-pass.ensures P L B j₀ j (y.pass + 1) first.used st refl z rows (close-again Q B j₀ st rows n y.at-pass y.before h gave more)
+    (c.before.before.before.before.before.before.before.next-pass.ensures ∙ ap (λ (b : Terms). next_pass b w.used) y.terms)
+    (close-known Q B j₀ st rows n y.at-pass y.before h gave L more z.limit) g))
 
 pub close-pass-spec : {M : Type 1} → statement M
 close-pass-spec =

@@ -6,11 +6,11 @@ use lib.ListN.{length, take}
 use lib.Seq.{length-take-le}
 use borrow.Author.Rules.{rules}
 use Rattle.search_laws.specs.Clauses.{Answers}
-use Rattle.search_laws.specs.Passing.{pass-end, pass-formed}
+use Rattle.search_laws.specs.Passing.{pass-end}
 use Rattle.search_laws.specs.PassingOver.{over-stands}
 use Rattle.search_laws.specs.StepLaws.{over-counted}
 use Rattle.search_laws.specs.Steps.{LinksAlong}
-use Rattle.search_laws.specs.Walks.{walk_from}
+use Rattle.search_laws.specs.Walks.{pass_in}
 use Rattle.search_laws.specs.declared.Outcome.TheVariants.{Going}
 use Rattle.search_laws.specs.Problems.{with_rules}
 use Rattle.search_laws.specs.RunningLaws.{onward-from, stand-on}
@@ -19,7 +19,7 @@ use Rattle.search_passes.proofs.go_from.Statement.{statement}
 use Rattle.search_passes.proofs.go_from.Tie as tie
 
 returns : tie.Need-returns
-returns c P L B aim j₀ first j₁ j z rows y g =
+returns c P L B j₀ first j₁ j z rows y g =
     let o = c.before.before.before.before.before.pass-over in
     let s = c.before.before.before.before.before.before.before.before.before in
     let st = s.args.state in
@@ -27,8 +27,8 @@ returns c P L B aim j₀ first j₁ j z rows y g =
     let Q = with_rules P rs in
     let n : st.rules ≡ length rs = sym (length-take-le st.rules s.args.rules.now s.requires.0.opens.count) in
     rw c.stand-at.ensures
-    (onward-from Q B aim j₀ st rows n (over-counted rs s.args.table.now st.terms o.ensures).joins (over-counted rs s.args.table.now st.terms o.ensures).used
-    (stand-on Q B aim j₀ st rows n y (over-stands L o.ensures g) (omega (arith, c.before.if1.true, n))))
+    (onward-from Q B j₀ st rows n (over-counted rs s.args.table.now st.terms o.ensures).joins (over-counted rs s.args.table.now st.terms o.ensures).used
+    (stand-on Q B j₀ st rows n y (over-stands L o.ensures g) (omega (arith, c.before.if1.true, n))))
 
 asked : tie.Need-close-pass-requires
 asked c κs =
@@ -39,7 +39,7 @@ asked c κs =
     record { opens = record { table = a.table; count = a.count; old = a.old; used = omega (arith, same, a.used); links = subst (λ (u : ℕ). LinksAlong u s.args.table.now) (sym same) a.links }; pass = s.requires.0.pass }
 
 returns-2 : tie.Need-returns-2
-returns-2 c P L B aim j₀ first j₁ j z rows y g =
+returns-2 c P L B j₀ first j₁ j z rows y g =
     let o = c.before.before.before.before.before.before.before.before.pass-over in
     let s = c.before.before.before.before.before.before.before.before.before.before.before.before in
     let st = s.args.state in
@@ -47,11 +47,10 @@ returns-2 c P L B aim j₀ first j₁ j z rows y g =
     let Q = with_rules P rs in
     let n : st.rules ≡ length rs = sym (length-take-le st.rules s.args.rules.now s.requires.0.opens.count) in
     let r = over-stands {P = Q} L o.ensures g in
-    onward-from Q B aim j₀ st rows n (over-counted rs s.args.table.now st.terms o.ensures).joins (over-counted rs s.args.table.now st.terms o.ensures).used
-    (c.before.before.close-pass.ensures P L B aim j₀ first j₁ j z rows y r.left.same
-    (subst (λ (k : ℕ). Answers Q.row_of k (walk_from Q st.terms y.all first j₁) first j₁ j (Going o.result.counts)) (ap (λ (b : Terms). b.budget) y.terms)
+    onward-from Q B j₀ st rows n (over-counted rs s.args.table.now st.terms o.ensures).joins (over-counted rs s.args.table.now st.terms o.ensures).used
+    (c.before.before.close-pass.ensures P L B j₀ first j₁ j z rows y r.left.same
+    (subst (λ (k : ℕ). Answers Q.row_of k (pass_in Q st.terms first j₁) first j₁ j (Going o.result.counts)) (ap (λ (b : Terms). b.budget) y.terms)
     (pass-end r (omega (arith, c.before.before.before.before.if1.false, n))))
-    (pass-formed r (omega (arith, c.before.before.before.before.if1.false, n)))
     r.covering)
 
 pub go-from-spec : {M : Type 1} → statement M

@@ -14,7 +14,7 @@ use Rattle.search_passes.proofs.go_on.Statement.{statement}
 use Rattle.search_passes.proofs.go_on.Tie as tie
 
 returns : tie.Need-returns
-returns c P L B aim j₀ first j₁ j z rows here y next =
+returns c P L B j₀ first j₁ j z rows here y next =
     let s = c.before.before.before.before.before.before.before.before in
     let st = s.args.state in
     let rs = take st.rules s.args.rules.now in
@@ -23,7 +23,7 @@ returns c P L B aim j₀ first j₁ j z rows here y next =
     let q : Place = record { rule = st.place.rule; left = st.place.left; right = r.result } in
     let n : st.rules ≡ length rs = sym (length-take-le st.rules s.args.rules.now s.requires.0.opens.count) in
     rw (c.stand-at.ensures, c.before.with-right.ensures)
-    (stand-on Q B aim j₀ st rows n y (next q (follows-right (lists_in s.args.table.now) rs st.place r.result r.ensures c.before.before.if1.true)) here)
+    (stand-on Q B j₀ st rows n y (next q (follows-right (lists_in s.args.table.now) rs st.place r.result r.ensures c.before.before.if1.true)) here)
 
 asked : tie.Need-next-row-in-requires
 asked c κs =
@@ -39,9 +39,9 @@ asked-2 c κs =
     (s.requires.0, record { table = a.table; count = a.count; old = a.old; measured = a.decreases; places = (places-next (omega (arith, s.requires.1, size)) p.ensures a.places).0 })
 
 returns-2 : tie.Need-returns-2
-returns-2 c P L B aim j₀ first j₁ j z rows here y next =
+returns-2 c P L B j₀ first j₁ j z rows here y next =
     let p = c.before.before.before.before.next-row-in in
-    c.before.before.go_from.ensures P L B aim j₀ first j₁ j z rows y (next p.result p.ensures)
+    c.before.before.go_from.ensures P L B j₀ first j₁ j z rows y (next p.result p.ensures)
 
 pub go-on-spec : {M : Type 1} → statement M
 go-on-spec = tie.close (tie.spec (λ c κs. search rules) (λ c κs. search rules) (λ c κs. search rules) (λ c. search rules) returns asked asked-2 (λ c. search rules) returns-2)

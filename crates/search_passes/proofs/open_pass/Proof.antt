@@ -38,7 +38,7 @@ asked c κs =
     }
 
 returns : tie.Need-returns
-returns c P L B aim j₀ j k m st count z rows a e early known g =
+returns c P L B j₀ j k m st count z rows a e known g =
     let o = c.pass-over in
     let p = c.before.before.first-in in
     let measured = c.before.before.before.before.before.before.measure-in in
@@ -47,8 +47,8 @@ returns c P L B aim j₀ j k m st count z rows a e early known g =
     let rs = take s.args.n s.args.rules.now in
     let t = measured.new.0 in
     let Q = with_rules P rs in
-    subst (λ (b : Terms). Onward Q B aim j₀ s.args.counts (opening st b o.result (all_linked b.starts t)) j t) (sym e)
-    (open-reached Q B aim j₀ st rows (count ∙ sym (length-take-le s.args.n s.args.rules.now s.requires.count)) L z a m early known g gathered.ensures
+    subst (λ (b : Terms). Onward Q B j₀ s.args.counts (opening st b o.result (all_linked b.starts t)) j t) (sym e)
+    (open-reached Q B j₀ st rows (count ∙ sym (length-take-le s.args.n s.args.rules.now s.requires.count)) L z a m (subst (λ (b : Terms). b.old ≤ row_cells) e s.requires.old) known g gathered.ensures
     (subst (λ (b : Terms). MeasuresIn b.old gathered.new.0 t) e measured.ensures) p.result p.ensures
     (subst (λ (b : Terms). PassesOver rs t b (record { counts = s.args.counts; place = p.result }) o.result) e o.ensures))
 

@@ -2,7 +2,7 @@
 
 use crate::status::Trouble;
 use crate::words::{escaped, joined};
-use bolfrega::{Journal, Starts, MOST_ROWS, PROCEDURES, PROGRAM_BUDGET, PROGRAM_ROWS};
+use bolfrega::{Starts, MOST_ROWS, PROCEDURES, PROGRAM_BUDGET, PROGRAM_ROWS};
 use std::ffi::{OsStr, OsString};
 use std::slice::Iter;
 
@@ -16,7 +16,6 @@ pub struct Arguments {
     pub wide: bool,
     pub svg: bool,
     pub dot: bool,
-    pub force: bool,
     pub help: bool,
     /// The file with names.
     pub names: Option<OsString>,
@@ -33,7 +32,6 @@ pub fn parse(options: &[&str], words: &[OsString]) -> Result<Arguments, Trouble>
         wide: false,
         svg: false,
         dot: false,
-        force: false,
         help: false,
         names: None,
         words: Vec::new(),
@@ -65,10 +63,7 @@ impl Arguments {
             ("--wide", None) => self.wide = true,
             ("--svg", None) => self.svg = true,
             ("--dot", None) => self.dot = true,
-            ("--force", None) => self.force = true,
-            ("--json" | "--wide" | "--svg" | "--dot" | "--force", Some(_)) => {
-                return Err(Trouble::usage(format!("{name} takes no value")))
-            }
+            ("--json" | "--wide" | "--svg" | "--dot", Some(_)) => return Err(Trouble::usage(format!("{name} takes no value"))),
             _ => {
                 let value = given.or_else(|| left.next().cloned());
                 let value = value.ok_or_else(|| Trouble::usage(format!("{name} needs a value")))?;
@@ -87,16 +82,11 @@ impl Arguments {
                 for word in value.to_string_lossy().split(',') {
                     let procedure = number(name, word, 0..=u64::from(PROCEDURES) - 1)?;
                     let bits = self.named.map_or(0, Starts::bits) | 1 << procedure;
-                    self.named = Starts::from_bits(bits);
+                    self.named = Some(Starts::from_bits(bits));
                 }
             }
         }
         Ok(())
-    }
-
-    /// A journal of the rows that were asked for, which are as many as one may have.
-    pub fn journal(&self) -> Result<Journal, Trouble> {
-        Journal::new(self.rows).map_err(|refusal| Trouble::with("--rows", refusal))
     }
 
     /// The members: those named, else procedure 0.
@@ -115,9 +105,6 @@ impl Arguments {
         }
         if self.budget != PROGRAM_BUDGET {
             text += &format!(" --budget {}", self.budget);
-        }
-        if self.wide {
-            text += " --wide";
         }
         text
     }

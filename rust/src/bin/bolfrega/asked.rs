@@ -1,33 +1,20 @@
 //! What the library says to a check, and what to do about it.
 
 use crate::arguments::Arguments;
-use crate::endless::{Endless, Reached};
-use crate::plan::Plan;
 use crate::status::Status;
 use crate::words::{for_shell, joined, steps};
 use bolfrega::{AnswerRows, Journal, Refusal, Starts, VerdictRows, MOST_ROWS};
-
-/// The most procedures that a line names of those that never finish.
-const SHOWN_ENDLESS: usize = 3;
+use std::ffi::OsStr;
 
 /// The library's reply to a check, with the run of a broken one.
 pub struct Asked {
     pub reply: Result<AnswerRows, Refusal>,
     /// The run behind the row of a broken answer; refused with 10 if it is too long to be written.
     pub run: Option<Result<Vec<u8>, Refusal>>,
-    /// Where the check came to its end, holds or empty: the procedures that the members reach and that never finish.
-    pub endless: Option<Vec<Endless>>,
 }
 
 impl Asked {
-    pub fn of(journal: &mut Journal, plan: &Plan, arguments: &Arguments) -> Asked {
-        let file = match plan.file() {
-            Ok(file) => file,
-            Err(refusal) => {
-                let (reply, run, endless) = (Err(refusal), None, None);
-                return Asked { reply, run, endless };
-            }
-        };
+    pub fn of(journal: &mut Journal, file: &[u8], arguments: &Arguments) -> Asked {
         let reply = journal.check(file, arguments.starts(), arguments.budget);
         let run = match &reply {
             Ok(answer) => match answer.verdict {
@@ -36,14 +23,7 @@ impl Asked {
             },
             Err(_) => None,
         };
-        let endless = match reply.as_ref().map(|answer| answer.verdict) {
-            Ok(VerdictRows::Holds | VerdictRows::Empty) => {
-                let own = plan.records().unwrap_or_default();
-                Some(Reached::of(journal.rows(), &own, arguments.starts()).endless())
-            }
-            _ => None,
-        };
-        Asked { reply, run, endless }
+        Asked { reply, run }
     }
 
     pub fn status(&self) -> Status {
@@ -65,7 +45,7 @@ impl Asked {
         match &self.reply {
             Err(refusal) => format!("refused: {refusal}"),
             Ok(answer) => match answer.verdict {
-                VerdictRows::Holds => format!("holds: the sheet accepts every run of {members}{}", self.but()),
+                VerdictRows::Holds => format!("holds: the sheet accepts every run of {members}"),
                 VerdictRows::Broken(broken) => {
                     format!(
                         "broken: the sheet turns away {} of procedure {}",
@@ -75,35 +55,11 @@ impl Asked {
                 }
                 VerdictRows::Empty if arguments.starts().procedures().count() == 1 => format!("empty: {members} never finishes"),
                 VerdictRows::Empty => format!("empty: one of {members} never finishes"),
-                VerdictRows::Full => format!("full: undecided, the {} rows ran out{}", arguments.rows, counted(arguments)),
-                VerdictRows::Spent => format!(
-                    "spent: undecided, the budget of {} joins ran out{}",
-                    arguments.budget,
-                    counted(arguments)
-                ),
+                VerdictRows::Full => format!("full: undecided, the {} rows ran out", arguments.rows),
+                VerdictRows::Spent => format!("spent: undecided, the budget of {} joins ran out", arguments.budget),
                 _ => "no answer: an unknown verdict".to_string(),
             },
         }
-    }
-
-    /// What a check that holds leaves out: the procedures that have no run.
-    fn but(&self) -> String {
-        let endless = self.endless.as_deref().unwrap_or_default();
-        let mut named: Vec<String> = endless.iter().take(SHOWN_ENDLESS).map(Endless::to_string).collect();
-        if let Some(more @ 1..) = endless.len().checked_sub(SHOWN_ENDLESS) {
-            named.push(format!("{more} more"));
-        }
-        match &named[..] {
-            [] => String::new(),
-            [one] => format!(", but {one} never finishes"),
-            several => format!(", but {} never finish", joined(several, " and ")),
-        }
-    }
-
-    /// Whether the check holds, and leaves something out.
-    pub fn leaves_out(&self) -> bool {
-        let holds = self.reply.as_ref().is_ok_and(|answer| answer.verdict == VerdictRows::Holds);
-        holds && self.endless.as_ref().is_some_and(|endless| !endless.is_empty())
     }
 
     fn the_run(&self) -> String {
@@ -113,23 +69,18 @@ impl Asked {
         }
     }
 
-    /// What to do next, after a call of the command with this name.
-    pub fn advice(&self, name: &str, plan: &Plan, arguments: &Arguments) -> String {
-        let options = arguments.check_options();
-        let explain = |does| call(plan, &format!("explain{options}"), "", does);
+    /// What to do next.
+    pub fn advice(&self, path: &OsStr, arguments: &Arguments) -> String {
+        let (options, path) = (arguments.check_options(), for_shell(path));
         match &self.reply {
-            Err(refusal) => remedy(*refusal, plan, &format!("{name}{options}"), ""),
+            Err(refusal) => remedy(*refusal, &path),
             Ok(answer) => match answer.verdict {
-                VerdictRows::Holds if self.leaves_out() => explain("shows which rules give no run"),
                 VerdictRows::Holds => "nothing to do".to_string(),
-                VerdictRows::Broken(_) => explain("shows where, and by which rules"),
-                VerdictRows::Empty => match plan.nothing_read() {
-                    Some(words) => words.to_string(),
-                    None => explain("shows why"),
-                },
+                VerdictRows::Broken(_) => format!("`bolfrega explain{options} {path}` shows where, and by which rules"),
+                VerdictRows::Empty => format!("`bolfrega explain{options} {path}` shows why"),
                 _ => match self.next_limit(arguments) {
                     Some(limit) => format!("try {limit}"),
-                    None => format!("no larger limit is left: {SPLIT}"),
+                    None => "no larger limit is left: take out rules that are not needed, or split the file".to_string(),
                 },
             },
         }
@@ -166,60 +117,16 @@ fn members(starts: Starts) -> String {
     format!("{word} {}", joined(starts.procedures(), ", "))
 }
 
-/// Whose rows and joins are counted, where that is another plan than the one in the file.
-fn counted(arguments: &Arguments) -> &'static str {
-    if arguments.wide {
-        ", counted on the unfolded plan"
-    } else {
-        ""
-    }
-}
-
-/// A call of the command with words before and behind the file, and what it does. Standard input has been read, and must be given again.
-fn call(plan: &Plan, before: &str, behind: &str, does: &str) -> String {
-    let call = format!("`bolfrega {before} {}{behind}`", for_shell(&plan.path));
-    match (plan.path == "-", does) {
-        (true, "") => format!("{call}, with the same input again"),
-        (true, _) => format!("{call}, with the same input again, {does}"),
-        (false, "") => call,
-        (false, _) => format!("{call} {does}"),
-    }
-}
-
-/// What to do with a plan that is too large. How it is split matters: a part without the rules of a procedure that it uses may hold where the whole is
-/// broken.
-const SPLIT: &str = "split the plan by its starting procedures, as `bolfrega help check` says";
-
-/// What to do with a file that has the other form of records, in a call with these words before and behind the file; none if it has not.
-pub fn other_form(plan: &Plan, before: &str, behind: &str) -> Option<String> {
-    let (bytes, before) = match plan.wide() {
-        true => (8, before.replace(" --wide", "")),
-        false => (16, format!("{before} --wide")),
-    };
-    plan.has_other_form()
-        .then(|| format!("it has {bytes}-byte records: {}", call(plan, &before, behind, "")))
-}
-
-/// What to do where a file or a run is refused, in such a call.
-pub fn remedy(refusal: Refusal, plan: &Plan, before: &str, behind: &str) -> String {
-    if let Some(other_form) = other_form(plan, before, behind) {
-        return other_form;
-    }
-    let show = if plan.wide() { "show --wide" } else { "show" };
-    let marks = call(plan, show, "", "marks it");
+/// What to do where a file or a run is refused.
+pub fn remedy(refusal: Refusal, path: &str) -> String {
     match refusal {
-        Refusal::Length | Refusal::WideLength => "it was cut short, or something was added: fetch it again".to_string(),
-        Refusal::Records => format!("if it is a plan, {SPLIT}"),
-        Refusal::Count { .. } => format!("{marks}; {SPLIT}"),
-        Refusal::Kind { .. } | Refusal::AboveRange { .. } if !plan.wide() => {
-            format!("{marks}; if it should have 16-byte records, give --wide")
-        }
-        Refusal::Run => "a run has up to 65,534 steps, with codes from 0 to 127".to_string(),
-        Refusal::LongRun => "a longer run has no answer, and a part of it is another run".to_string(),
-        Refusal::Chains => {
-            format!("number the procedures from 0 without holes, give equal ends of bodies one procedure, or {SPLIT}")
-        }
+        Refusal::Length => "it was cut short, or has 16-byte records, which `bolfrega unfold` takes: fetch it again".to_string(),
+        Refusal::WideLength => "it was cut short, or has 8-byte records, which need no unfolding: fetch it again".to_string(),
+        Refusal::Records => "no plan file is that long: fetch it again, or take records out of it".to_string(),
+        Refusal::Run => "a run has step codes from 0 to 127".to_string(),
+        Refusal::LongRun => "give a shorter run".to_string(),
+        Refusal::Chains => "shorten some bodies, or use lower procedures".to_string(),
         Refusal::Unknown { .. } => "the library is of another version than this command".to_string(),
-        _ => marks,
+        _ => format!("`bolfrega show {path}` marks it"),
     }
 }

@@ -2,22 +2,21 @@
 
 use crate::arguments::Arguments;
 use crate::asked::Asked;
-use crate::endless::Endless;
-use crate::plan::Plan;
 use crate::status::{Status, Trouble};
 use crate::streams::Streams;
 use crate::words::{joined, quoted, shown};
-use bolfrega::{Refusal, VerdictRows};
+use bolfrega::{Journal, Refusal, VerdictRows};
+use std::ffi::OsStr;
 
 pub fn run(arguments: &Arguments, streams: &mut Streams) -> Result<Status, Trouble> {
     if arguments.words.is_empty() {
         return Err(Trouble::usage("no file is named"));
     }
-    let mut journal = arguments.journal()?;
+    let mut journal = Journal::new(arguments.rows);
     let mut worst = Status::Holds;
     for path in &arguments.words {
-        let plan = match Plan::read(path, arguments, streams) {
-            Ok(plan) => plan,
+        let file = match streams.file(path) {
+            Ok(file) => file,
             // The others are looked at all the same.
             Err(trouble) => {
                 trouble.tell();
@@ -25,12 +24,12 @@ pub fn run(arguments: &Arguments, streams: &mut Streams) -> Result<Status, Troub
                 continue;
             }
         };
-        let asked = Asked::of(&mut journal, &plan, arguments);
+        let asked = Asked::of(&mut journal, &file, arguments);
         worst = worst.max(asked.status());
         let line = if arguments.json {
-            json(&plan, &asked, arguments)
+            json(path, &asked, arguments)
         } else {
-            line(&plan, &asked, arguments)
+            line(path, &asked, arguments)
         };
         if asked.status() == Status::NoAnswer {
             Trouble::new(line).tell();
@@ -42,24 +41,18 @@ pub fn run(arguments: &Arguments, streams: &mut Streams) -> Result<Status, Troub
 }
 
 /// The verdict, and what to do.
-fn line(plan: &Plan, asked: &Asked, arguments: &Arguments) -> String {
+fn line(path: &OsStr, asked: &Asked, arguments: &Arguments) -> String {
     format!(
         "{}: {}; {}",
-        shown(&plan.path),
+        shown(path),
         asked.verdict(arguments),
-        asked.advice("check", plan, arguments)
+        asked.advice(path, arguments)
     )
 }
 
 /// The whole answer as a JSON object.
-fn json(plan: &Plan, asked: &Asked, arguments: &Arguments) -> String {
-    let mut fields = vec![("path", quoted(&plan.path.to_string_lossy()))];
-    if plan.bytes.is_empty() {
-        fields.push(("bytes", "0".to_string()));
-    }
-    if arguments.wide {
-        fields.push(("unfolded", "true".to_string()));
-    }
+fn json(path: &OsStr, asked: &Asked, arguments: &Arguments) -> String {
+    let mut fields = vec![("path", quoted(&path.to_string_lossy()))];
     match &asked.reply {
         Err(refusal) => fields.extend(refused(*refusal)),
         Ok(answer) => {
@@ -77,9 +70,6 @@ fn json(plan: &Plan, asked: &Asked, arguments: &Arguments) -> String {
                     ("procedure", broken.procedure.to_string()),
                     ("run", run_or_null(&asked.run)),
                 ]);
-            }
-            if let Some(endless) = &asked.endless {
-                fields.push(("endless", format!("[{}]", joined(endless.iter().map(endless_object), ","))));
             }
             if let Some(limit) = asked.limit(arguments) {
                 let next = asked.next_limit(arguments).map_or("null".to_string(), |next| quoted(&next));
@@ -100,16 +90,6 @@ fn refused(refusal: Refusal) -> [(&'static str, String); 4] {
         ),
         ("message", quoted(refusal.message())),
     ]
-}
-
-fn endless_object(endless: &Endless) -> String {
-    object(&[
-        ("procedure", endless.procedure.to_string()),
-        (
-            "record",
-            endless.record.map_or("null".to_string(), |record| record.to_string()),
-        ),
-    ])
 }
 
 fn run_or_null(run: &Option<Result<Vec<u8>, Refusal>>) -> String {

@@ -3,9 +3,8 @@
 use crate::explain::lost_at;
 use crate::names::Names;
 use crate::picture::{Kind, Move, Node, Picture, Run, Sheet, Stage, Step, Tree};
-use crate::plan::Rules;
 use crate::sheet::{members, Stages, FIRST};
-use bolfrega::{Record, Row, LONGEST_RUN};
+use bolfrega::{Record, Row, Symbol, LONGEST_RUN};
 use std::collections::HashSet;
 
 /// A run that is turned away: the row behind it, the stages at its start and after each step, and the place where it is lost. The run is none where it
@@ -18,11 +17,11 @@ pub struct Shown<'a> {
     pub lost: Option<usize>,
 }
 
-pub fn picture(title: &str, rules: &Rules, names: &Names, shown: Option<Shown>) -> Picture {
+pub fn picture(title: &str, records: &[Record], names: &Names, shown: Option<Shown>) -> Picture {
     let run = shown.as_ref().and_then(|shown| shown.run.map(|run| drawn_run(run, shown)));
     let tree = shown.map(|shown| {
         let mut making = Making {
-            rules,
+            records,
             names,
             shown,
             told: HashSet::new(),
@@ -33,7 +32,7 @@ pub fn picture(title: &str, rules: &Rules, names: &Names, shown: Option<Shown>) 
     });
     Picture {
         title: title.to_string(),
-        sheet: drawn_sheet(&rules.own, names),
+        sheet: drawn_sheet(records, names),
         run,
         tree,
     }
@@ -75,7 +74,7 @@ fn drawn_run(run: &[u8], shown: &Shown) -> Run {
 
 /// A tree in the making, from the rows of the journal.
 struct Making<'a> {
-    rules: &'a Rules<'a>,
+    records: &'a [Record<'a>],
     names: &'a Names,
     shown: Shown<'a>,
     /// The rows that are drawn: one that comes again is drawn without what is below it.
@@ -99,26 +98,26 @@ impl Making<'_> {
     /// Draws how a row gives its part of the run, which begins behind `before` steps. Returns its node.
     fn row(&mut self, number: usize, before: usize) -> usize {
         let row = self.shown.rows[number];
-        let given = self.rules.given(self.shown.rows, &row);
+        let rule = row.rule as usize;
         let again = !self.told.insert(number);
         let as_above = if again { ", as above" } else { "" };
-        let record = self.rules.record(&row, &given);
-        let note = record.map_or(String::new(), |record| {
-            format!("record {record}: {}{as_above}", self.names.rule(&self.rules.own[record]))
-        });
+        let note = format!("record {rule}: {}{as_above}", self.names.rule(&self.records[rule]));
         let label = self.names.head(row.procedure as u8);
         let node = self.node(Kind::Procedure, label, note, false);
+        let Record::Rule { body, .. } = self.records[rule] else {
+            return node;
+        };
         if again {
             return node;
         }
         let mut begin = before;
-        for (symbol, row) in given {
-            let child = match row {
-                None => self.step(symbol, begin),
-                Some(row) => self.row(row, begin),
+        for (&byte, pointer) in body.iter().zip([row.left, row.right]) {
+            let child = match Symbol::from(byte) {
+                Symbol::Code(code) => self.step(code, begin),
+                Symbol::Procedure(_) => self.row(pointer as usize, begin),
             };
             self.nodes[node].children.push(child);
-            begin += row.map_or(1, |row| self.shown.rows[row].length as usize);
+            begin += self.shown.rows.get(pointer as usize).map_or(1, |inner| inner.length as usize);
         }
         node
     }

@@ -3,17 +3,17 @@
 use crate::arguments::Arguments;
 use crate::asked::Asked;
 use crate::drawing::{picture, Shown};
-use crate::endless::Reached;
+use crate::endless::endless;
 use crate::names::Names;
 use crate::picture::{dot, svg};
-use crate::plan::{Plan, Rules};
 use crate::sheet::{members, Sheet, Stages};
 use crate::show::content;
 use crate::status::{Status, Trouble};
 use crate::streams::{complain, Streams};
 use crate::tree::tree;
 use crate::words::{joined, shown, steps};
-use bolfrega::{BrokenRow, Journal, Record, Refusal, VerdictRows, RECORD_BYTES, WIDE_RECORD_BYTES};
+use bolfrega::{records, BrokenRow, Journal, Record, Refusal, VerdictRows, RECORD_BYTES};
+use std::ffi::OsStr;
 
 pub fn run(arguments: &Arguments, streams: &mut Streams) -> Result<Status, Trouble> {
     let path = arguments.one_file()?;
@@ -21,29 +21,28 @@ pub fn run(arguments: &Arguments, streams: &mut Streams) -> Result<Status, Troub
         Some(path) => Names::read(&shown(path), &streams.text(path)?)?,
         None => Names::default(),
     };
-    let plan = Plan::read(path, arguments, streams)?;
-    let mut journal = arguments.journal()?;
-    let asked = Asked::of(&mut journal, &plan, arguments);
+    let file = streams.file(path)?;
+    let mut journal = Journal::new(arguments.rows);
+    let asked = Asked::of(&mut journal, &file, arguments);
     let first = format!("{}: {}\n", shown(path), asked.verdict(arguments));
     if asked.status() == Status::NoAnswer {
         return Err(Trouble::new(first.trim_end()));
     }
     if arguments.svg || arguments.dot {
-        return draw(arguments, streams, &plan, &journal, &names, &asked, first.trim_end());
+        return draw(arguments, streams, &file, &journal, &names, &asked, first.trim_end());
     }
     let text = match &asked.reply {
-        Err(refusal) => at_fault(&plan, *refusal),
+        Err(refusal) => at_fault(&file, *refusal),
         Ok(answer) => {
-            let rules = plan.rules().map_err(|refusal| Trouble::new(refusal.to_string()))?;
+            let records: Vec<Record> = records(&file).map_err(|refusal| Trouble::new(refusal.to_string()))?.collect();
             match answer.verdict {
-                VerdictRows::Broken(broken) => turned_away(&journal, &rules, &names, &asked, broken),
-                VerdictRows::Empty => endless(&journal, &rules.own, &names, arguments),
-                VerdictRows::Holds if asked.leaves_out() => endless(&journal, &rules.own, &names, arguments),
+                VerdictRows::Broken(broken) => turned_away(&journal, &records, &names, &asked, broken),
+                VerdictRows::Empty => format!("\n{}", endless(journal.rows(), &records, arguments.starts(), &names)),
                 _ => String::new(),
             }
         }
     };
-    let to_do = match to_do(&asked, &plan, arguments) {
+    let to_do = match to_do(&asked, path, arguments) {
         Some(advice) => format!("\nTo do: {advice}.\n"),
         None => String::new(),
     };
@@ -56,7 +55,7 @@ pub fn run(arguments: &Arguments, streams: &mut Streams) -> Result<Status, Troub
 fn draw(
     arguments: &Arguments,
     streams: &mut Streams,
-    plan: &Plan,
+    file: &[u8],
     journal: &Journal,
     names: &Names,
     asked: &Asked,
@@ -65,12 +64,13 @@ fn draw(
     if arguments.svg && arguments.dot {
         return Err(Trouble::usage("--svg and --dot are two pictures: ask for one"));
     }
-    let Ok(rules) = plan.rules() else {
+    let Ok(found) = records(file) else {
         complain(&format!("bolfrega: {title}; there is nothing to draw\n"));
         return Ok(asked.status());
     };
+    let records: Vec<Record> = found.collect();
     let run = asked.run.as_ref().and_then(|run| run.as_deref().ok());
-    let sheet = Sheet::of(rules.own.iter().copied());
+    let sheet = Sheet::of(records.iter().copied());
     let sets = sheet.along(run.unwrap_or_default());
     let shown = match asked.reply.as_ref().map(|answer| answer.verdict) {
         Ok(VerdictRows::Broken(broken)) => Some(Shown {
@@ -82,39 +82,29 @@ fn draw(
         }),
         _ => None,
     };
-    let picture = picture(title, &rules, names, shown);
+    let picture = picture(title, &records, names, shown);
     let text = if arguments.svg { svg(&picture) } else { dot(&picture) };
     streams.write(text.as_bytes())?;
     Ok(asked.status())
 }
 
-/// What to do where procedures never finish.
-const FORGOTTEN: &str = "look for a rule that was dropped, one that waits for none of these, put it back";
-
 /// What to do, once all of this is seen.
-fn to_do(asked: &Asked, plan: &Plan, arguments: &Arguments) -> Option<String> {
+fn to_do(asked: &Asked, path: &OsStr, arguments: &Arguments) -> Option<String> {
     let advice = match asked.reply.as_ref().map(|answer| answer.verdict) {
-        Ok(VerdictRows::Holds) if asked.leaves_out() => {
-            format!("{FORGOTTEN}; or strike the rules that give no run, which changes no run; then check again")
-        }
         Ok(VerdictRows::Holds) => return None,
         Ok(VerdictRows::Broken(_)) => "change one of these rules, or the sheet, and check again".to_string(),
-        Ok(VerdictRows::Empty) => match plan.nothing_read() {
-            Some(words) => format!("{words}; look at what should have written it, and ask again"),
-            None => format!("{FORGOTTEN}, and check again"),
-        },
-        _ => asked.advice("explain", plan, arguments),
+        Ok(VerdictRows::Empty) => "give these procedures rules that wait for none of them, and check again".to_string(),
+        _ => asked.advice(path, arguments),
     };
     Some(advice)
 }
 
 /// The record that is refused, with the one before it.
-fn at_fault(plan: &Plan, refusal: Refusal) -> String {
-    let Some(record) = refusal.record().filter(|_| !plan.has_other_form()) else {
+fn at_fault(file: &[u8], refusal: Refusal) -> String {
+    let Some(record) = refusal.record() else {
         return String::new();
     };
-    let width = if plan.wide() { WIDE_RECORD_BYTES } else { RECORD_BYTES };
-    let records = plan.bytes.chunks_exact(width).enumerate();
+    let records = file.chunks_exact(RECORD_BYTES).enumerate();
     let near = records
         .skip((record as usize).saturating_sub(1))
         .take(1 + usize::from(record > 0));
@@ -122,34 +112,17 @@ fn at_fault(plan: &Plan, refusal: Refusal) -> String {
     format!("\n{}", joined(lines, ""))
 }
 
-/// The procedures that never finish, and the rules that give no run.
-fn endless(journal: &Journal, records: &[Record], names: &Names, arguments: &Arguments) -> String {
-    let reached = Reached::of(journal.rows(), records, arguments.starts());
-    format!("\n{}", reached.why(names))
-}
-
 /// The run step by step, and how the plan gives it.
-fn turned_away(journal: &Journal, rules: &Rules, names: &Names, asked: &Asked, broken: BrokenRow) -> String {
+fn turned_away(journal: &Journal, records: &[Record], names: &Names, asked: &Asked, broken: BrokenRow) -> String {
     let along = match &asked.run {
-        Some(Ok(run)) => along(&Sheet::of(rules.own.iter().copied()), run, names),
+        Some(Ok(run)) => along(&Sheet::of(records.iter().copied()), run, names),
         _ => "The run has 65,535 or more steps, and is not written.\n".to_string(),
     };
-    let tree = tree(journal.rows(), rules, names, broken.row);
-    format!("\n{along}\nHow the plan gives it, each rule above those of its procedures:\n{tree}")
+    let rules = tree(journal.rows(), records, names, broken.row);
+    format!("\n{along}\nHow the plan gives it, each rule above those of its procedures:\n{rules}")
 }
 
-/// A run of more steps than this is not shown whole: at both ends, and at the place where it is lost, so many are.
-const WHOLE: usize = 60;
-const NEAR: usize = 10;
-
-/// Whether the line of a place is shown, of a run whose lines end at another place.
-fn is_shown(place: usize, end: usize, lost: Option<usize>) -> bool {
-    let near = |other: usize| place.abs_diff(other) <= NEAR;
-    end <= WHOLE || near(0) || near(end) || lost.is_some_and(near)
-}
-
-/// The run step by step, with the stages after each, and the place where it is lost. Where no stage is left, the other steps are in one line; of a
-/// long run some are left out between, and a line says how many.
+/// The run step by step, with the stages after each, and the place where it is lost. Where no stage is left, the other steps are in one line.
 fn along(sheet: &Sheet, run: &[u8], names: &Names) -> String {
     let sets = sheet.along(run);
     let lost = sheet.lost(&sets);
@@ -158,16 +131,7 @@ fn along(sheet: &Sheet, run: &[u8], names: &Names) -> String {
     let width = labels.iter().map(|label| label.chars().count()).max().unwrap_or(0);
     let end = sets.iter().position(|&set| set == 0).unwrap_or(run.len());
     let mut text = "The run, and the stages that the sheet can be in:\n".to_string();
-    let mut left_out = 0;
     for (place, (label, &set)) in labels.iter().zip(&sets).enumerate().take(end + 1) {
-        if !is_shown(place, end, lost) {
-            left_out += 1;
-            continue;
-        }
-        if left_out > 0 {
-            text += &format!("  {:width$}  {left_out} steps are left out here\n", "..");
-            left_out = 0;
-        }
         text += &format!("  {label:width$}  {}", stages(set, names));
         if lost == Some(place) {
             text += &format!("   <- {}", why_lost(&sets, run, place, names));

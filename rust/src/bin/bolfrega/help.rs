@@ -12,8 +12,7 @@ usage: bolfrega COMMAND ..          (bolfrega help COMMAND says more)
   gaps FILE           what was forgotten in the sheet, or stands there twice
   unfold WIDE [FILE]  a file of 8-byte records from one of 16-byte records
 
-FILE is a plan file of 8-byte records, or with --wide of 16-byte records; - is standard
-input.
+FILE is a plan file of 8-byte records; - is standard input.
 
 Exit status:
   0  every run is accepted (judge: accepted; member: derived; gaps: none)
@@ -31,42 +30,26 @@ proved.
 ";
 
 pub const CHECK: &str = "\
-usage: bolfrega check [--rows N] [--budget N] [--start P,..] [--wide] [--json] FILE..
+usage: bolfrega check [--rows N] [--budget N] [--start P,..] [--json] FILE..
 
 Says of each file, in a line, whether the sheet accepts every run of the plan, and what
 to do:
 
-  holds    every run is accepted; the line also says which procedures that a rule uses
-           never finish, since what uses them gives no run
+  holds    every run is accepted
   broken   a run is turned away, and the line has it
   empty    a procedure never finishes, so that it has no run
-  full     undecided: the journal's rows ran out, and each of them is still needed; the
-           line has the next limit
+  full     undecided: the journal's rows ran out; the line has the next limit
   spent    undecided: the budget of joins ran out; the line has the next limit
   refused  the file is damaged; the number is that of the papers
 
   --rows N       rows of the journal, 1 to 4096 (1024)
   --budget N     joins that may be made (1000000)
   --start P,..   the procedures whose runs are checked (0)
-  --wide         the files have 16-byte records. They are unfolded within the call, and
-                 joins, rows and passes are those of the unfolded plan; all else names
-                 the records of the file itself
   --json         a JSON object in each line: path, verdict, joins, used, pass; of a
                  broken check row, pairs, length, procedure and run (null if it has
                  65,535 steps or more); of one that is full or spent limit and next
-                 (null if there is none); of a refused file number, record and message;
-                 of one that holds or is empty endless, the procedures that never
-                 finish, each with the first record that uses it (null if none does);
-                 of a file of no bytes \"bytes\":0, and with --wide \"unfolded\":true.
-                 A file that cannot be read has no line. What is no UTF-8 in a path
-                 comes as U+FFFD.
-
-A plan that is too large for a file, or for the rows of a check, is split by its
-starting procedures, and not by its rules: a part gets some of them, every rule of each
-procedure that these reach, and the sheet, and is checked with --start. A part that
-lacks a rule may hold where the whole is broken, since a procedure without its rules has
-no run, and what uses it drops out in silence. The whole is broken if a part is, else
-empty if a part is, and holds if all parts hold.
+                 (null if there is none); of a refused file number, record and message.
+                 A file that cannot be read has no line.
 
 Exit status: 0 all hold, 1 one is broken or empty, 2 one cannot be read, 3 one is
 refused, 4 one is undecided; the worst of these in the order 2, 3, 1, 4, 0.
@@ -74,7 +57,7 @@ refused, 4 one is undecided; the worst of these in the order 2, 3, 1, 4, 0.
 
 pub const EXPLAIN: &str = "\
 usage: bolfrega explain [--names NAMES] [--svg | --dot] [--rows N] [--budget N]
-                        [--start P,..] [--wide] FILE
+                        [--start P,..] FILE
 
 Says why a file has the verdict that `bolfrega check` gives:
 
@@ -82,11 +65,9 @@ Says why a file has the verdict that `bolfrega check` gives:
            be in after each step, and the place from which no finishing stage can be
            reached any more; then the rules that give the run, as a tree: a rule stands
            above those that give its procedures, with its record number and the steps
-           that come from it. Of a run of more than 60 steps both ends are shown, and
-           where it is lost
+           that come from it
   empty    the procedures that never finish, with the rules of each and what they wait
-           for, and the rules of other procedures that give no run because of them
-  holds    the same, if there are such procedures
+           for
   refused  the record at fault, with the one before it
 
   --names NAMES   a text with names, a line for each: `procedure 1 rows`, `step 3
@@ -94,7 +75,7 @@ Says why a file has the verdict that `bolfrega check` gives:
   --svg           a picture in the place of the text: the sheet, the path of the run in
                   it, and the tree beside it
   --dot           the same as text for graphviz
-  --rows, --budget, --start, --wide   as of `bolfrega check`
+  --rows, --budget, --start   as of `bolfrega check`
 
 The verdict, the run and the rows are the proved library's. The stages, the place and
 the lines of the tree are this command's own.
@@ -120,7 +101,7 @@ Exit status: 0 shown, 2 the file cannot be read, 3 shown and refused.
 ";
 
 pub const MAKE: &str = "\
-usage: bolfrega make [--wide] [--force] TEXT [FILE]
+usage: bolfrega make [--wide] TEXT [FILE]
 
 Makes a plan file of the lines that `bolfrega show` prints, for tests and samples. Text
 plans are no part of the product: plans are made, kept and exchanged as files of
@@ -130,60 +111,49 @@ The lines may come in any order; numbers before a colon, blank lines and what is
 a # are not read. The file is written to FILE or, if none is named, to standard output,
 and `bolfrega show` prints the same lines again.
 
-  --wide    make 16-byte records, with up to twelve symbols in a body
-  --force   replace FILE if it is there; it is replaced whole or not at all
+  --wide   make 16-byte records, with up to twelve symbols in a body
 
 Exit status: 0 made, 2 a line is no record, or something cannot be read or written, 3
 the file would be refused, and is not written.
 ";
 
 pub const JUDGE: &str = "\
-usage: bolfrega judge [--wide] FILE STEP..
+usage: bolfrega judge FILE STEP..
 
 Says whether the sheet in a file accepts the run with these step codes. Remarks, the
 codes from 120 to 127, leave the sheet in its stage.
-
-  --wide   the file has 16-byte records
 
 Exit status: 0 accepted, 1 turned away, 2 no answer, 3 the file or the run is refused.
 ";
 
 pub const MEMBER: &str = "\
-usage: bolfrega member [--wide] FILE STEP..
+usage: bolfrega member FILE STEP..
 
 Says whether a recorded run of at most 64 steps is one of the plan's: whether procedure
 0 gives these step codes. Remarks are steps here.
-
-  --wide   the file has 16-byte records
 
 Exit status: 0 derived, 1 not derived, 2 no answer, 3 the file or the run is refused.
 ";
 
 pub const GAPS: &str = "\
-usage: bolfrega gaps [--wide] FILE
+usage: bolfrega gaps FILE
 
 Lists the stages and codes of a sheet whose number of moves is not one: gaps, with none,
 and doubles, with more.
-
-  --wide   the file has 16-byte records
 
 Exit status: 0 there is none, 1 there are some, 2 no answer, 3 the file is refused.
 ";
 
 pub const UNFOLD: &str = "\
-usage: bolfrega unfold [--start P,..] [--force] WIDE [FILE]
+usage: bolfrega unfold [--start P,..] WIDE [FILE]
 
-Makes a file of 8-byte records, which hosts and the check program take, of one of
-16-byte records: a body of more than two symbols becomes a chain of procedures. It is
-written to FILE or, if none is named, to standard output.
-
-To check or explain WIDE itself no such file is needed: `bolfrega check --wide WIDE`. A
-pipe to `bolfrega check -` is no good way: where WIDE is refused nothing is written, and
-a check of nothing says \"empty\".
+Makes a file of 8-byte records, which the other commands take, of one of 16-byte
+records: a body of more than two symbols becomes a chain of procedures. It is written to
+FILE or, if none is named, to standard output: `bolfrega unfold WIDE | bolfrega check
+-`.
 
   --start P,..   the procedures that are to be checked (0); none of them becomes part of
                  a chain
-  --force        replace FILE if it is there; it is replaced whole or not at all
 
 Exit status: 0 written, 2 something cannot be read or written, 3 the file is refused,
 and nothing is written.

@@ -14,13 +14,11 @@ mod make;
 mod names;
 mod others;
 mod picture;
-mod plan;
 mod sheet;
 mod show;
 mod status;
 mod streams;
 mod tree;
-mod whole;
 mod words;
 
 use arguments::Arguments;
@@ -40,7 +38,7 @@ struct Command {
 
 /// The options of a check, which `check` and `explain` share.
 macro_rules! check_options {
-    ($($more:literal),*) => { &["--rows", "--budget", "--start", "--wide", $($more),*] };
+    ($($more:literal),*) => { &["--rows", "--budget", "--start", $($more),*] };
 }
 
 const COMMANDS: &[Command] = &[
@@ -64,31 +62,31 @@ const COMMANDS: &[Command] = &[
     },
     Command {
         name: "make",
-        options: &["--wide", "--force"],
+        options: &["--wide"],
         run: make::run,
         help: help::MAKE,
     },
     Command {
         name: "judge",
-        options: &["--wide"],
+        options: &[],
         run: others::judge,
         help: help::JUDGE,
     },
     Command {
         name: "member",
-        options: &["--wide"],
+        options: &[],
         run: others::member,
         help: help::MEMBER,
     },
     Command {
         name: "gaps",
-        options: &["--wide"],
+        options: &[],
         run: others::list_gaps,
         help: help::GAPS,
     },
     Command {
         name: "unfold",
-        options: &["--start", "--force"],
+        options: &["--start"],
         run: others::unfold,
         help: help::UNFOLD,
     },

@@ -21,7 +21,7 @@ pub fn run(arguments: &Arguments, streams: &mut Streams) -> Result<Status, Troub
     let checked = if arguments.wide { wide_refusal(&file) } else { refusal(&file) };
     match checked {
         Ok(()) => {
-            streams.write_file(to, arguments.force, &file)?;
+            streams.write_file(to, &file)?;
             Ok(Status::Holds)
         }
         Err(refusal) => {

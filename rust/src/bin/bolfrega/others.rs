@@ -2,16 +2,15 @@
 
 use crate::arguments::Arguments;
 use crate::asked::remedy;
-use crate::plan::Plan;
 use crate::status::{Status, Trouble};
 use crate::streams::Streams;
-use crate::words::{escaped, shown};
-use bolfrega::{gaps, recognize, Gap, Judgement, Refusal};
-use std::ffi::OsString;
+use crate::words::{escaped, for_shell, shown};
+use bolfrega::{gaps, recognize, unfold_from, Gap, Judgement, Refusal};
+use std::ffi::{OsStr, OsString};
 
 /// Whether the sheet accepts a run.
 pub fn judge(arguments: &Arguments, streams: &mut Streams) -> Result<Status, Trouble> {
-    asked_of_run("judge", arguments, streams, |file, run| {
+    asked_of_run(arguments, streams, |file, run| {
         Ok(match bolfrega::judge(file, run)? {
             Judgement::Accepted => Some((true, "accepted: the sheet has a path on the run to a finishing stage")),
             Judgement::TurnedAway => Some((false, "turned away: the sheet has no path on the run to a finishing stage")),
@@ -22,7 +21,7 @@ pub fn judge(arguments: &Arguments, streams: &mut Streams) -> Result<Status, Tro
 
 /// Whether a run is one of the plan's.
 pub fn member(arguments: &Arguments, streams: &mut Streams) -> Result<Status, Trouble> {
-    asked_of_run("member", arguments, streams, |file, run| {
+    asked_of_run(arguments, streams, |file, run| {
         Ok(Some(match recognize(file, run)?.derived() {
             true => (true, "derived: procedure 0 gives the run"),
             false => (false, "not derived: procedure 0 does not give the run"),
@@ -33,9 +32,8 @@ pub fn member(arguments: &Arguments, streams: &mut Streams) -> Result<Status, Tr
 /// A yes or no with its words; none is an answer that this command does not know.
 type YesOrNo = Option<(bool, &'static str)>;
 
-/// Asks of a file and a run, which is given as step codes, for the command with this name.
+/// Asks of a file and a run, which is given as step codes.
 fn asked_of_run(
-    name: &str,
     arguments: &Arguments,
     streams: &mut Streams,
     ask: impl Fn(&[u8], &[u8]) -> Result<YesOrNo, Refusal>,
@@ -44,25 +42,15 @@ fn asked_of_run(
         return Err(Trouble::usage("no file is named"));
     };
     let run: Vec<u8> = steps.iter().map(step).collect::<Result<_, _>>()?;
-    let plan = Plan::read(path, arguments, streams)?;
-    match plan.file().and_then(|file| ask(file, &run)) {
+    let file = streams.file(path)?;
+    match ask(&file, &run) {
         Ok(Some((yes, words))) => {
-            streams.write(format!("{}: {words}{}\n", shown(path), nothing_read(&plan)).as_bytes())?;
+            streams.write(format!("{}: {words}\n", shown(path)).as_bytes())?;
             Ok(Status::of(yes))
         }
         Ok(None) => Err(Trouble::with(&shown(path), "no answer: an unknown judgement")),
-        Err(refusal) => refused(&plan, refusal, &called(name, arguments), " STEP..", streams),
+        Err(refusal) => refused(path, refusal, streams),
     }
-}
-
-/// The command as it was called, without the file.
-fn called(name: &str, arguments: &Arguments) -> String {
-    format!("{name}{}", arguments.check_options())
-}
-
-/// What to say of a file of no bytes, behind the answer.
-fn nothing_read(plan: &Plan) -> String {
-    plan.nothing_read().map_or(String::new(), |words| format!("; {words}"))
 }
 
 /// A step code. A number above 255 is above 127 as well, and refused like that.
@@ -75,12 +63,8 @@ fn step(word: &OsString) -> Result<u8, Trouble> {
 }
 
 /// Says that a file or a run is refused, and what to do.
-fn refused(plan: &Plan, refusal: Refusal, before: &str, behind: &str, streams: &mut Streams) -> Result<Status, Trouble> {
-    let line = format!(
-        "{}: refused: {refusal}; {}",
-        shown(&plan.path),
-        remedy(refusal, plan, before, behind)
-    );
+fn refused(path: &OsStr, refusal: Refusal, streams: &mut Streams) -> Result<Status, Trouble> {
+    let line = format!("{}: refused: {refusal}; {}", shown(path), remedy(refusal, &for_shell(path)));
     match Status::of_refusal(refusal) {
         Status::NoAnswer => Err(Trouble::new(line)),
         status => {
@@ -93,10 +77,10 @@ fn refused(plan: &Plan, refusal: Refusal, before: &str, behind: &str, streams: &
 /// What was forgotten in a sheet, and what stands there more than once.
 pub fn list_gaps(arguments: &Arguments, streams: &mut Streams) -> Result<Status, Trouble> {
     let path = arguments.one_file()?;
-    let plan = Plan::read(path, arguments, streams)?;
-    let found = match plan.file().and_then(gaps) {
+    let file = streams.file(path)?;
+    let found = match gaps(&file) {
         Ok(found) => found,
-        Err(refusal) => return refused(&plan, refusal, &called("gaps", arguments), "", streams),
+        Err(refusal) => return refused(path, refusal, streams),
     };
     let none = found.len() == 0;
     let first = match found.len() {
@@ -105,7 +89,7 @@ pub fn list_gaps(arguments: &Arguments, streams: &mut Streams) -> Result<Status,
         count => format!("{count} gaps and doubles; look whether they are meant"),
     };
     let lines: String = found.map(line).collect();
-    streams.write(format!("{}: {first}{}\n{lines}", shown(path), nothing_read(&plan)).as_bytes())?;
+    streams.write(format!("{}: {first}\n{lines}", shown(path)).as_bytes())?;
     Ok(Status::of(none))
 }
 
@@ -120,15 +104,15 @@ fn line(gap: Gap) -> String {
 /// Unfolds a file of sixteen-byte records to one of eight bytes, which the other commands take.
 pub fn unfold(arguments: &Arguments, streams: &mut Streams) -> Result<Status, Trouble> {
     let (from, to) = arguments.two_files()?;
-    let plan = Plan::unfolded(from, arguments, streams)?;
-    match plan.file() {
+    let file = streams.file(from)?;
+    match unfold_from(&file, arguments.starts()) {
         Ok(unfolded) => {
-            streams.write_file(to, arguments.force, unfolded)?;
+            streams.write_file(to, &unfolded)?;
             Ok(Status::Holds)
         }
         // Standard output is for the file, which is not there.
         Err(refusal) => {
-            let remedy = remedy(refusal, &plan, &called("check", arguments), "");
+            let remedy = remedy(refusal, &format!("--wide {}", for_shell(from)));
             Trouble::with(&shown(from), format!("refused: {refusal}; {remedy}")).tell();
             Ok(Status::of_refusal(refusal))
         }

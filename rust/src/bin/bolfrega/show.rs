@@ -1,8 +1,6 @@
 //! `bolfrega show`: the records of a file as text, a line for each, with its number. `make` takes the lines back.
 
 use crate::arguments::Arguments;
-use crate::asked::other_form;
-use crate::plan::Plan;
 use crate::status::{Status, Trouble};
 use crate::streams::Streams;
 use crate::words::{joined, shown};
@@ -10,19 +8,12 @@ use bolfrega::{records, refusal, step, wide_records, wide_refusal, Refusal, MOST
 
 pub fn run(arguments: &Arguments, streams: &mut Streams) -> Result<Status, Trouble> {
     let path = arguments.one_file()?;
-    let plan = Plan::read(path, arguments, streams)?;
-    let (text, refused) = if arguments.wide {
-        show_wide(&plan.bytes)
-    } else {
-        show(&plan.bytes)
-    };
+    let file = streams.file(path)?;
+    let (text, refused) = if arguments.wide { show_wide(&file) } else { show(&file) };
     if let Some(refusal @ Refusal::Unknown { .. }) = refused {
         return Err(Trouble::with(&shown(path), refusal));
     }
     streams.write(text.as_bytes())?;
-    if let Some(words) = other_form(&plan, &format!("show{}", arguments.check_options()), "") {
-        Trouble::with(&shown(path), words).tell();
-    }
     Ok(refused.map_or(Status::Holds, Status::of_refusal))
 }
 

@@ -2,11 +2,10 @@
 //! `Trouble`.
 
 use crate::status::{Status, Trouble};
-use crate::whole::put;
 use crate::words::shown;
 use bolfrega::{WIDE_BYTES, WIDE_RECORD_BYTES};
 use std::ffi::OsStr;
-use std::fs::File;
+use std::fs::{self, File};
 use std::io::{self, IsTerminal, Read, Write};
 use std::os::fd::AsFd;
 use std::sync::atomic::{AtomicU8, Ordering};
@@ -83,19 +82,13 @@ impl Streams {
         }
         let output = io::stdout().as_fd().try_clone_to_owned().map(File::from);
         let written = output.and_then(|mut output| output.write_all(bytes));
-        written.map_err(|error| match error.kind() {
-            // As behind `| head`: what was read of the answer is not all of it.
-            io::ErrorKind::BrokenPipe => Trouble::with(name, "its reader went before the whole answer was written"),
-            _ => Trouble::with(name, error),
-        })
+        written.map_err(|error| Trouble::with(name, error))
     }
 
-    /// Writes a plan file to a path, whole or not at all, and over one that is there only if `force` says so; or to standard output, which is then
-    /// no terminal.
-    pub fn write_file(&mut self, path: Option<&OsStr>, force: bool, bytes: &[u8]) -> Result<(), Trouble> {
+    /// Writes a plan file to a path, or to standard output, which is then no terminal.
+    pub fn write_file(&mut self, path: Option<&OsStr>, bytes: &[u8]) -> Result<(), Trouble> {
         match path {
-            Some(path) if path == "/dev/stdout" => self.write(bytes),
-            Some(path) => put(path.as_ref(), force, bytes).map_err(|error| Trouble::with(&shown(path), error)),
+            Some(path) => fs::write(path, bytes).map_err(|error| Trouble::with(&shown(path), error)),
             None if io::stdout().is_terminal() => Err(Trouble::usage("a plan file is no text: name a file for it, or a pipe")),
             None => self.write(bytes),
         }
@@ -118,22 +111,16 @@ fn closed(stream: u8) -> bool {
 }
 
 /// Before `main`, Rust opens /dev/null in place of a standard stream that is closed: the input would then be the empty file, and the answer gone.
-/// So this looks before Rust does, as one of the functions that the loader calls first. It also has a write beyond the limit for files (`ulimit -f`) fail
-/// as one to a full disk does: otherwise that ends the process, without a word, and with what it has begun to write left over.
+/// So this looks before Rust does, as one of the functions that the loader calls first.
 #[used]
 #[link_section = ".init_array"]
 static LOOK: extern "C" fn() = look;
 
 extern "C" fn look() {
     const F_GETFD: i32 = 1;
-    const SIGXFSZ: i32 = 25;
-    const SIG_IGN: usize = 1;
     extern "C" {
         fn fcntl(descriptor: i32, command: i32, ...) -> i32;
-        fn signal(number: i32, handler: usize) -> usize;
     }
-    // SAFETY: a signal that is ignored calls nothing.
-    unsafe { signal(SIGXFSZ, SIG_IGN) };
     for stream in [STANDARD_INPUT, STANDARD_OUTPUT] {
         // SAFETY: F_GETFD takes no further argument, and only asks whether the descriptor is open.
         if unsafe { fcntl(i32::from(stream), F_GETFD) } < 0 {

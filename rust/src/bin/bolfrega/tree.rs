@@ -1,8 +1,7 @@
 //! How a plan gives the run behind a row: the rows of the journal are the tree, each with its rule and the rows of its symbols.
 
 use crate::names::Names;
-use crate::plan::Rules;
-use bolfrega::{Row, LONGEST_RUN};
+use bolfrega::{Record, Row, LONGEST_RUN};
 use std::collections::HashSet;
 
 /// How deep lines are still moved to the right; deeper ones begin with their depth.
@@ -11,16 +10,15 @@ const DEEPEST: usize = 30;
 /// A tree in the making, as lines.
 struct Tree<'a> {
     rows: &'a [Row],
-    rules: &'a Rules<'a>,
+    rules: &'a [Record<'a>],
     names: &'a Names,
-    /// The rows that have been told: one that comes again is not told again, so that a tree has at most as many lines for each row as its body has
-    /// symbols.
+    /// The rows that have been told: one that comes again is not told again, so that a tree has at most two lines for each row.
     told: HashSet<usize>,
     lines: String,
 }
 
-/// The lines of the tree from a row. The rules are those of the file that was named, each with its record number.
-pub fn tree(rows: &[Row], rules: &Rules, names: &Names, row: usize) -> String {
+/// The lines of the tree from a row. The rules are the file's, and rule n is record n: the rules are a file's first records.
+pub fn tree(rows: &[Row], rules: &[Record], names: &Names, row: usize) -> String {
     let mut tree = Tree {
         rows,
         rules,
@@ -35,35 +33,44 @@ pub fn tree(rows: &[Row], rules: &Rules, names: &Names, row: usize) -> String {
 impl Tree<'_> {
     /// Tells how a row gives its part of the run, which begins behind `before` steps.
     fn tell(&mut self, number: usize, before: usize, depth: usize) {
-        let Some(row) = self.rows.get(number) else { return };
-        let given = self.rules.given(self.rows, row);
-        let Some(record) = self.rules.record(row, &given) else {
-            return;
-        };
+        let Some(row) = self.rows.get(number).copied() else { return };
+        let rule = row.rule as usize;
+        let text = self.rules.get(rule).map_or(String::new(), |record| self.names.rule(record));
         let again = !self.told.insert(number);
-        let inner: Vec<usize> = given.iter().filter_map(|&(_, row)| row).collect();
+        let symbols = self.symbols(&row, before);
+        let as_above = if again && !symbols.is_empty() { ", as above" } else { "" };
         self.lines += &format!(
-            "{}record {record}: {}{}{}\n",
+            "{}record {rule}: {text}{}{as_above}\n",
             indent(depth),
-            self.names.rule(&self.rules.own[record]),
-            part(before, row.length as usize),
-            if again && !inner.is_empty() { ", as above" } else { "" },
+            part(before, row.length as usize)
         );
         if again {
             return;
         }
-        let mut begin = before;
-        for (_, row) in given {
-            if let Some(row) = row {
-                self.tell(row, begin, depth + 1);
-            }
-            begin += self.length(row);
+        for (symbol, begin) in symbols {
+            self.tell(symbol, begin, depth + 1);
         }
     }
 
-    /// The number of steps that a symbol gives: those of its row, and one for a step code.
-    fn length(&self, row: Option<usize>) -> usize {
-        row.map_or(1, |row| self.rows[row].length as usize)
+    /// The rows of a row's procedure symbols, and how many steps are before each.
+    fn symbols(&self, row: &Row, before: usize) -> Vec<(usize, usize)> {
+        let body = match self.rules.get(row.rule as usize) {
+            Some(Record::Rule { body, .. }) => body,
+            _ => return Vec::new(),
+        };
+        let mut found = Vec::new();
+        let mut begin = before;
+        for (_, pointer) in body.iter().zip([row.left, row.right]) {
+            match self.rows.get(pointer as usize) {
+                // A step code.
+                None => begin += 1,
+                Some(inner) => {
+                    found.push((pointer as usize, begin));
+                    begin += inner.length as usize;
+                }
+            }
+        }
+        found
     }
 }
 

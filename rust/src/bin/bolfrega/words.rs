@@ -2,49 +2,19 @@
 
 use std::ffi::OsStr;
 use std::fmt::Display;
-use std::os::unix::ffi::OsStrExt;
 
 /// The most steps of a run that a line shows.
 const SHOWN_STEPS: usize = 20;
 
-/// A path in one line: characters that do not show themselves are escaped.
+/// A path in one line: control characters are escaped.
 pub fn shown(path: &OsStr) -> String {
     escaped(&path.to_string_lossy())
 }
 
-/// The characters besides control characters that do not show themselves, or change how others are shown: Unicode's format characters, such as U+202E,
-/// which turns a line around, and its separators of lines and paragraphs.
-const HIDDEN: [(char, char); 20] = [
-    ('\u{ad}', '\u{ad}'),
-    ('\u{600}', '\u{605}'),
-    ('\u{61c}', '\u{61c}'),
-    ('\u{6dd}', '\u{6dd}'),
-    ('\u{70f}', '\u{70f}'),
-    ('\u{890}', '\u{891}'),
-    ('\u{8e2}', '\u{8e2}'),
-    ('\u{180e}', '\u{180e}'),
-    ('\u{200b}', '\u{200f}'),
-    ('\u{2028}', '\u{202e}'),
-    ('\u{2060}', '\u{206f}'),
-    ('\u{feff}', '\u{feff}'),
-    ('\u{fff9}', '\u{fffb}'),
-    ('\u{110bd}', '\u{110bd}'),
-    ('\u{110cd}', '\u{110cd}'),
-    ('\u{13430}', '\u{1343f}'),
-    ('\u{1bca0}', '\u{1bca3}'),
-    ('\u{1d173}', '\u{1d17a}'),
-    ('\u{e0001}', '\u{e0001}'),
-    ('\u{e0020}', '\u{e007f}'),
-];
-
-fn is_hidden(c: char) -> bool {
-    c.is_control() || HIDDEN.iter().any(|&(first, last)| (first..=last).contains(&c))
-}
-
-/// A text in which each character shows itself: any other is escaped.
+/// A text without control characters: each is escaped.
 pub fn escaped(text: &str) -> String {
     let escape = |c: char| {
-        if is_hidden(c) {
+        if c.is_control() {
             c.escape_default().to_string()
         } else {
             c.to_string()
@@ -53,27 +23,18 @@ pub fn escaped(text: &str) -> String {
     text.chars().map(escape).collect()
 }
 
-/// A path as it stands in a call from a shell. One with characters that do not show themselves, or that is no text, is written by its bytes.
+/// A path as it stands in a call from a shell.
 pub fn for_shell(path: &OsStr) -> String {
-    // A path that begins so is no option.
-    let front = match path.as_bytes() {
-        [b'-', _, ..] => "./",
-        _ => "",
+    let text = match shown(path) {
+        // It is no option.
+        text if text.starts_with('-') && text != "-" => format!("./{text}"),
+        text => text,
     };
     let plain = |c: char| c.is_alphanumeric() || "/._-+:,@%".contains(c);
-    match path.to_str() {
-        Some(text) if !text.is_empty() && text.chars().all(plain) => format!("{front}{text}"),
-        Some(text) if !text.chars().any(is_hidden) => format!("'{front}{}'", text.replace('\'', r"'\''")),
-        _ => format!("$'{front}{}'", joined(path.as_bytes().iter().map(byte), "")),
-    }
-}
-
-/// A byte of a path between `$'` and `'`.
-fn byte(&byte: &u8) -> String {
-    match byte {
-        b'\'' | b'\\' => format!("\\{}", char::from(byte)),
-        b' '..=b'~' => char::from(byte).to_string(),
-        _ => format!("\\x{byte:02x}"),
+    if !text.is_empty() && text.chars().all(plain) {
+        text
+    } else {
+        format!("'{}'", text.replace('\'', r"'\''"))
     }
 }
 
@@ -96,11 +57,7 @@ pub fn steps(run: &[u8]) -> String {
 pub fn quoted(text: &str) -> String {
     let escape = |c: char| match c {
         '"' | '\\' => format!("\\{c}"),
-        c if is_hidden(c) => c
-            .encode_utf16(&mut [0; 2])
-            .iter()
-            .map(|unit| format!("\\u{unit:04x}"))
-            .collect(),
+        c if c.is_control() => format!("\\u{:04x}", u32::from(c)),
         c => c.to_string(),
     };
     format!("\"{}\"", text.chars().map(escape).collect::<String>())

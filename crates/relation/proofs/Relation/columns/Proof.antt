@@ -1,20 +1,12 @@
 -- `Relation::columns` meets its contract. The loop's invariant: the cells of the states below `state` are the columns of these. The measure is
 -- the states that are left. Assumes nothing.
-use mathlib.Core.Path.{◌≡◌, refl, sym, ap, ap₂, ◌∙◌}
-use mathlib.Core.Bool.{Bool, true, false}
-use mathlib.Core.List.{List}
-use Prim.Native.Nat.{ℕ, ◌+◌, ◌-◌, ◌*◌, ◌/◌, ◌%◌, ◌≤◌, ◌<◌}
-use native.Mathlib.Nat.{add-zero}
-use native.Mathlib.Omega.{arith}
-use borrow.Author.Rules.{rules}
-use borrow.Author.Tests.{eqb-true, eqb-false}
-use lib.Dec.{eqb}
-use lib.ListN.{length, set, length-set}
-use lib.Seq.{ext_get_or, get_or-set_same, get_or-set_other}
-use Rattle.relation_words.specs.Rows.{column_of, column_cells, cell, pieces, column}
+use Rattle.std.proofs.Common.{◌≡◌, ℕ, ◌+◌, ◌-◌, ◌*◌, ◌/◌, ◌%◌, ◌<◌, ◌≤◌, Bool, true, false, eqb, List, length, set, sym, refl, ap, ◌∙◌, ap₂, add-zero, arith, length-set, get_or-set_other, get_or-set_same, ext_get_or, rules, eqb-true}
+use borrow.Author.Tests.{eqb-false}
 use Rattle.relation.specs.declared.Relation.{Relation}
-use Rattle.relation.specs.Columns.{columns_of}
+use Rattle.relation.specs.Columns.{column_of, column_cells, columns_of, cell}
 use Rattle.relation.specs.ColumnLaws.{columns-length, cell-is}
+use Rattle.relation.specs.Digits.{pieces}
+use Rattle.relation.specs.Product.{column}
 use Rattle.relation.specs.Relation.{states}
 use Rattle.relation.specs.Representation.{relation_words, word}
 use Rattle.relation.proofs.Relation.columns.Statement.{statement}

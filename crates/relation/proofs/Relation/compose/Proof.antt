@@ -1,14 +1,9 @@
 -- `Relation::compose` meets its contract: where the upper words of both are empty, the lower two have every row and every middle state.
 -- Assumes nothing.
-use mathlib.Core.Path.{◌≡◌, refl, sym, ap, ap₂, ◌∙◌}
-use Prim.Native.Nat.{ℕ, ◌*◌, ◌/◌, ◌^◌}
-use native.Mathlib.Nat.{div-one}
-use native.Mathlib.Omega.{arith}
-use borrow.Author.Rules.{rules}
+use Rattle.std.proofs.Common.{◌≡◌, ℕ, ◌*◌, ◌/◌, ◌^◌, sym, refl, ap, ◌∙◌, ap₂, div-one, arith, rules}
 use lib.Bits.{bit_or, or_zero_l}
-use Rattle.relation_words.specs.Rows.{union, by_lowest}
 use Rattle.relation.specs.declared.Relation.{Relation}
-use Rattle.relation.specs.ColumnLaws.{by-lowest}
+use Rattle.relation.specs.Digits.{union}
 use Rattle.relation.specs.DigitLaws.{or-empty}
 use Rattle.relation.specs.Parts.{product-words}
 use Rattle.relation.specs.Product.{product, product-all}
@@ -19,12 +14,11 @@ use Rattle.relation.proofs.Relation.compose.Statement.{statement}
 use Rattle.relation.proofs.Relation.compose.Tie as tie
 
 -- the rows z through the states of the first two words of y
-through-two : (z : ℕ) (y : Relation) → Fit y → bit_or (by_lowest z y.w0) (by_lowest (z / 2 ^ rows_of_word) y.w1) ≡ product states rows_of_word 8 z (value y)
+through-two : (z : ℕ) (y : Relation) → Fit y
+    → bit_or (product states rows_of_word rows_of_word z y.w0) (product states rows_of_word rows_of_word (z / 2 ^ rows_of_word) y.w1) ≡ product states rows_of_word 8 z (value y)
 unfolding value union
 through-two z y h =
-    ap₂ bit_or
-    (by-lowest z y.w0 ∙ ap (λ (u : ℕ). product states rows_of_word rows_of_word u y.w0) (sym (div-one z)) ∙ sym (or_zero_l (part 0)))
-    (by-lowest (z / 2 ^ rows_of_word) y.w1)
+    ap (λ (u : ℕ). bit_or u (part 1)) (ap (λ (u : ℕ). product states rows_of_word rows_of_word u y.w0) (sym (div-one z)) ∙ sym (or_zero_l (part 0)))
     ∙ product-words states rows_of_word rows_of_word relation_words z (word y) part (word_lt y h) 2 (omega arith) (λ i l. refl)
   where
     part : ℕ → ℕ

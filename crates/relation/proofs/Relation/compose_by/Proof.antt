@@ -1,17 +1,11 @@
 -- `Relation::compose_by` meets its contract: each word by the columns is the composition's. Assumes nothing.
-use mathlib.Core.Path.{◌≡◌, sym, ap, ◌∙◌, subst}
-use mathlib.Core.List.{List}
-use Prim.Native.Nat.{ℕ, ◌*◌, ◌≤◌, ◌<◌}
-use native.Mathlib.Omega.{arith}
-use borrow.Author.Rules.{rules}
-use Rattle.relation_words.specs.Rows.{AreColumns, column_cells, cell}
-use Rattle.relation_words.specs.RowLaws.{each_word}
+use Rattle.std.proofs.Common.{◌≡◌, ℕ, ◌*◌, ◌<◌, ◌≤◌, List, sym, ap, ◌∙◌, subst, arith, rules}
 use Rattle.relation.specs.declared.Relation.{Relation}
-use Rattle.relation.specs.Columns.{columns_of, word_by}
+use Rattle.relation.specs.Columns.{AreColumns, column_cells, columns_of, cell, word_by}
 use Rattle.relation.specs.ColumnLaws.{columns-are, word-by}
 use Rattle.relation.specs.Product.{product}
 use Rattle.relation.specs.Relation.{states}
-use Rattle.relation.specs.Representation.{rows_of_word, relation_words, word, Fit, value}
+use Rattle.relation.specs.Representation.{rows_of_word, relation_words, word, Fit, value, each_word}
 use Rattle.relation.specs.Words.{composed-words, composed-two}
 use Rattle.relation.proofs.Relation.compose_by.Statement.{statement}
 use Rattle.relation.proofs.Relation.compose_by.Tie as tie

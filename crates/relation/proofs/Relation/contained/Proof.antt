@@ -1,21 +1,15 @@
 -- `Relation::contained` meets its contract: the test is the definition's, word by word. Assumes nothing.
-use mathlib.Core.Path.{sym, ap, ◌∙◌}
-use Prim.Native.Nat.{ℕ}
-use native.Mathlib.Omega.{arith}
-use borrow.Author.Rules.{rules}
+use Rattle.std.proofs.Common.{ℕ, eqb, sym, ap, ◌∙◌, arith, rules}
 use lib.Bits.{bit_or, or_zero_l}
-use lib.Dec.{eqb}
-use Rattle.relation_words.specs.Rows.{union}
-use Rattle.relation_words.specs.RowLaws.{each_word}
-use Rattle.relation.specs.Digits.{subset}
+use Rattle.relation.specs.Digits.{union, subset}
 use Rattle.relation.specs.DigitLaws.{union-none, all_same}
-use Rattle.relation.specs.Representation.{relation_words, of_words, word}
+use Rattle.relation.specs.Representation.{relation_words, of_words, word, each_word}
 use Rattle.relation.specs.Words.{contained-words}
 use Rattle.relation.proofs.Relation.contained.Statement.{statement}
 use Rattle.relation.proofs.Relation.contained.Tie as tie
 
 returns : tie.Need-returns
-unfolding union subset
+unfolding union
 returns c =
     let o0 = c.before.before.before.outside in
     let o1 = c.before.before.outside2 in

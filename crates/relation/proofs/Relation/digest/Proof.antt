@@ -1,11 +1,8 @@
 -- `Relation::digest` meets its contract: its words are the pieces of its value. Assumes nothing.
-use mathlib.Core.Path.{◌≡◌, sym, ap, ap₂, ◌∙◌}
-use Prim.Native.Nat.{ℕ, ◌%◌, ◌<◌}
-use native.Mathlib.Omega.{arith}
-use borrow.Author.Rules.{rules}
+use Rattle.std.proofs.Common.{◌≡◌, ℕ, ◌%◌, ◌<◌, sym, ap, ◌∙◌, ap₂, arith, rules}
 use lib.Bits.{bit_xor}
-use Rattle.relation_words.specs.Rows.{turned}
 use Rattle.relation.specs.Digits.{piece}
+use Rattle.relation.specs.Relation.{turned}
 use Rattle.relation.specs.Representation.{word_digits, relation_words, word, value}
 use Rattle.relation.specs.StoredLaws.{piece-of-value}
 use Rattle.relation.proofs.Relation.digest.Statement.{statement}

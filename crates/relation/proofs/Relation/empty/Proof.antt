@@ -1,5 +1,5 @@
 -- `Relation::empty` meets its contract: its words are 0. Assumes nothing.
-use borrow.Author.Rules.{rules}
+use Rattle.std.proofs.Common.{rules}
 use Rattle.relation.specs.Representation.{none}
 use Rattle.relation.proofs.Relation.empty.Statement.{statement}
 use Rattle.relation.proofs.Relation.empty.Tie as tie

@@ -1,9 +1,7 @@
 -- `Relation::insert` meets its contract: the pair's words are or'ed in. Assumes nothing.
-use mathlib.Core.Path.{sym, ap, ◌∙◌}
-use native.Mathlib.Omega.{arith}
-use borrow.Author.Rules.{rules}
+use Rattle.std.proofs.Common.{sym, ap, ◌∙◌, arith, rules}
 use lib.Bits.{bit_or}
-use Rattle.relation_words.specs.Rows.{pieces}
+use Rattle.relation.specs.Digits.{pieces}
 use Rattle.relation.specs.Pieces.{pieces-or}
 use Rattle.relation.specs.Relation.{states}
 use Rattle.relation.specs.RelationLaws.{insert-or}

@@ -1,16 +1,9 @@
 -- `Relation::joined` meets its contract: four rows of zeros lead nowhere, and else each word has its block. Assumes nothing.
-use mathlib.Core.Path.{◌≡◌, sym, ap, ◌∙◌}
-use mathlib.Core.List.{[], ◌∷◌}
-use Prim.Native.Nat.{ℕ, ◌*◌, ◌/◌, ◌^◌, ◌<◌}
-use native.Mathlib.Nat.{div-one}
-use native.Mathlib.Omega.{arith}
-use borrow.Author.Rules.{rules}
+use Rattle.std.proofs.Common.{◌≡◌, ℕ, ◌*◌, ◌/◌, ◌^◌, ◌<◌, sym, ap, ◌∙◌, div-one, arith, rules}
 use lib.Bits.{bit_or, or_zero_r}
-use Rattle.relation_words.specs.Rows.{repeated, crossed, cell}
-use Rattle.relation_words.specs.RowLaws.{each_word}
-use Rattle.relation.specs.Product.{product, product-empty, crossed-product}
+use Rattle.relation.specs.Product.{product, repeated, crossed, product-empty, crossed-product}
 use Rattle.relation.specs.Relation.{states}
-use Rattle.relation.specs.Representation.{rows_of_word, word}
+use Rattle.relation.specs.Representation.{rows_of_word, of_words, word, each_word}
 use Rattle.relation.proofs.Relation.joined.Statement.{statement}
 use Rattle.relation.proofs.Relation.joined.Tie as tie
 
@@ -33,7 +26,7 @@ returns-2 c =
     let r1 = s.before.before.repeated2 in
     let r2 = s.before.repeated3 in
     let r3 = s.repeated4 in
-    let rows : ℕ → ℕ = cell (r0.result ∷ r1.result ∷ r2.result ∷ r3.result ∷ []) in
+    let rows : ℕ → ℕ = word (of_words r0.result r1.result r2.result r3.result) in
     let first : r0.result ≡ repeated states rows_of_word (e.y / 2 ^ 0) = r0.ensures ∙ ap (repeated states rows_of_word) (sym (div-one e.y)) in
     let are : (m : ℕ) → m < rows_of_word → rows m ≡ repeated states rows_of_word (e.y / 2 ^ (m * states)) = each_word _ first r1.ensures r2.ensures r3.ensures in
     let each : (x : ℕ) → crossed states rows_of_word rows_of_word x rows ≡ product states rows_of_word rows_of_word x e.y = λ x. crossed-product states rows_of_word rows_of_word x e.y rows (omega arith) are in

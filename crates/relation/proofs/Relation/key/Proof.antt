@@ -1,11 +1,7 @@
 -- `Relation::key` meets its contract: its words are the pieces of its value, and the moved half loses nothing. Assumes nothing.
-use mathlib.Core.Path.{◌≡◌, sym, ap, ap₂, ◌∙◌}
-use Prim.Native.Nat.{ℕ, ◌*◌, ◌%◌, ◌^◌, ◌<◌}
-use native.Mathlib.Nat.{mod-eq_of_lt}
-use native.Mathlib.Omega.{arith}
+use Rattle.std.proofs.Common.{◌≡◌, ℕ, ◌*◌, ◌%◌, ◌^◌, ◌<◌, sym, ap, ◌∙◌, ap₂, mod-eq_of_lt, arith}
 use lib.Bits.{bit_and, bit_or, and_le_r}
-use Rattle.relation_words.specs.Rows.{pieces}
-use Rattle.relation.specs.Digits.{piece}
+use Rattle.relation.specs.Digits.{pieces, piece}
 use Rattle.relation.specs.Relation.{lower_halves, key_of}
 use Rattle.relation.specs.Representation.{word_digits, relation_words, word, value}
 use Rattle.relation.specs.StoredLaws.{piece-of-value}

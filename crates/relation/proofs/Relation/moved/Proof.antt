@@ -1,6 +1,6 @@
 -- `Relation::moved` meets its contract, word by word. Assumes nothing.
-use mathlib.Core.Path.{refl}
-use Rattle.relation_words.specs.RowLaws.{each_word}
+use Rattle.std.proofs.Common.{refl}
+use Rattle.relation.specs.Representation.{each_word}
 use Rattle.relation.proofs.Relation.moved.Statement.{statement}
 use Rattle.relation.proofs.Relation.moved.Tie as tie
 

@@ -1,6 +1,5 @@
 -- `Relation::pairs` meets its contract: the ones of the four words are the pairs. Assumes nothing.
-use mathlib.Core.Path.{◌∙◌}
-use native.Mathlib.Omega.{arith}
+use Rattle.std.proofs.Common.{◌∙◌, arith}
 use lib.Count.{ones-le}
 use Rattle.relation.specs.Digits.{sum}
 use Rattle.relation.specs.Counting.{ones-pieces, ones-pairs}

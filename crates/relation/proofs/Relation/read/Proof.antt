@@ -1,10 +1,5 @@
 -- `Relation::read` meets its contract: the four words that stand there. Assumes nothing.
-use mathlib.Core.Path.{sym, ap}
-use mathlib.Core.List.{List}
-use Prim.Native.Nat.{ℕ, ◌+◌, ◌*◌}
-use native.Mathlib.Nat.{add-zero}
-use borrow.Author.Rules.{rules}
-use lib.ListN.{get_or}
+use Rattle.std.proofs.Common.{ℕ, ◌+◌, ◌*◌, List, get_or, sym, ap, add-zero, rules}
 use Rattle.relation.specs.declared.Relation.{Relation}
 use Rattle.relation.specs.Representation.{relation_words}
 use Rattle.relation.specs.Stored.{relation_in}

@@ -1,7 +1,6 @@
 -- `Relation::rejects` meets its contract: the mask is below 2 ^ states, and the lowest row, what state 0 reaches, stands in the lowest word.
 -- Assumes nothing.
-use mathlib.Core.Path.{◌∙◌}
-use native.Mathlib.Omega.{arith}
+use Rattle.std.proofs.Common.{◌∙◌, arith}
 use Rattle.relation.specs.Digits.{bit}
 use Rattle.relation.specs.Masks.{rejects-mask, rejects-word}
 use Rattle.relation.specs.Relation.{states}

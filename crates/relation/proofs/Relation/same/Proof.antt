@@ -1,12 +1,8 @@
 -- `Relation::same` meets its contract: the words are compared. Assumes nothing.
-use mathlib.Core.Path.{sym, ap, ◌∙◌}
-use Prim.Native.Nat.{ℕ}
-use native.Mathlib.Omega.{arith}
+use Rattle.std.proofs.Common.{ℕ, eqb, sym, ap, ◌∙◌, arith}
 use lib.Bits.{bit_or, bit_xor, or_zero_l}
-use lib.Dec.{eqb}
-use Rattle.relation_words.specs.Rows.{union}
-use Rattle.relation_words.specs.RowLaws.{xor-none}
-use Rattle.relation.specs.DigitLaws.{union-none, all_same}
+use Rattle.relation.specs.Digits.{union}
+use Rattle.relation.specs.DigitLaws.{union-none, all_same, xor-none}
 use Rattle.relation.specs.Pieces.{pieces-eqb}
 use Rattle.relation.specs.Representation.{word_digits, relation_words, word, word_lt, value}
 use Rattle.relation.proofs.Relation.same.Statement.{statement}

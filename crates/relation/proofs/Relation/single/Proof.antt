@@ -1,12 +1,7 @@
 -- `Relation::single` meets its contract: a shift makes the pair's place in the word of its row. Assumes nothing.
-use mathlib.Core.Path.{◌≡◌, sym, ap, ◌∙◌}
-use Prim.Native.Nat.{ℕ, ◌+◌, ◌*◌, ◌%◌, ◌^◌, ◌<◌}
-use native.Mathlib.Nat.{le_refl, one-mul}
-use native.Mathlib.Omega.{arith}
-use lib.Pow.{shl_exact}
+use Rattle.std.proofs.Common.{◌≡◌, ℕ, ◌+◌, ◌*◌, ◌%◌, ◌^◌, ◌<◌, sym, ap, ◌∙◌, le_refl, one-mul, arith, shl_exact, rules}
 use lib.Bits.{bit_and, and_mask, mask_lt}
-use borrow.Author.Rules.{rules}
-use Rattle.relation_words.specs.Rows.{pieces}
+use Rattle.relation.specs.Digits.{pieces}
 use Rattle.relation.specs.Parts.{single-word}
 use Rattle.relation.specs.Relation.{states, single}
 use Rattle.relation.specs.RelationLaws.{single-none}

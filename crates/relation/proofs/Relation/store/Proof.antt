@@ -1,11 +1,5 @@
 -- `Relation::store` meets its contract: the words of the relation are those of its number. Assumes nothing.
-use mathlib.Core.Path.{◌≡◌, sym, ap₂}
-use mathlib.Core.List.{List}
-use Prim.Native.Nat.{ℕ, ◌+◌, ◌*◌, ◌<◌}
-use native.Mathlib.Nat.{add-zero}
-use native.Mathlib.Omega.{arith}
-use borrow.Author.Rules.{rules}
-use lib.ListN.{set, length-set}
+use Rattle.std.proofs.Common.{◌≡◌, ℕ, ◌+◌, ◌*◌, ◌<◌, List, set, sym, ap₂, add-zero, arith, length-set, rules}
 use Rattle.relation.specs.Digits.{piece}
 use Rattle.relation.specs.Representation.{word_digits, relation_words, word, value}
 use Rattle.relation.specs.Stored.{with_words, with_relation}

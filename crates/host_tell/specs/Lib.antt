@@ -1,4 +1,0 @@
-pub mod Codes
-pub mod CodeLaws
-pub mod Telling
-pub mod TellingLaws

@@ -1,6 +1,8 @@
 // The library for hosts in C and Rust: the calls of document 01 as functions on numbers and lent bytes. No function asks anything of
 // its caller. A result below 100 is the number that refused the call; from 100 on it is an answer (the verdicts' numbers are in
 // `host_result`). `include/bolfrega.h` says the same to C.
+#![tactic(auto)]
+
 ghost use Rattle.std.specs.Prelude.{◌≡◌, [], ◌∷◌, ◌++◌};
 ghost use Rattle.spec_file.specs.Answers.{said_by};
 ghost use Rattle.spec_calls.specs.Rows.{blank};

@@ -1,4 +1,6 @@
 // The inclusion check on a file. It asks nothing of its caller; a refused call does not change the journal.
+#![tactic(auto)]
+
 ghost use Rattle.std.specs.Prelude.{◌≡◌};
 ghost use Rattle.search_laws.specs.Meanings.{answer_in};
 ghost use Rattle.call_check.specs.Answers.{checked_by};
@@ -12,7 +14,7 @@ use spec_calls::{Options, Row};
 use spec_file::{LETTER_WORDS, Letters, RULE_LIMIT, Refusal};
 
 // The answer of a check, or what refused it.
-#[derive(Drop)]
+#[derive(Clone, Copy)]
 pub enum Checked {
     Refused(Refusal),
     Answered(Answer),

@@ -1,4 +1,6 @@
 // Where a check starts: what refuses it, and else the file's tables and the first pass.
+#![tactic(auto)]
+
 ghost use Rattle.std.specs.Prelude.{◌≡◌, length};
 ghost use Rattle.spec_calls.specs.Rows.{settings_of};
 ghost use Rattle.search_state.specs.Layout.{table_cells};
@@ -11,7 +13,7 @@ use spec_calls::Options;
 use spec_file::{Letters, RULE_LIMIT, Refusal};
 
 // Where the check starts: the refusal, with number 0 where there is none, and the first pass, which does not begin where something refuses.
-#[derive(Drop)]
+#[derive(Clone, Copy)]
 pub struct Start {
     pub refusal: Refusal,
     pub state: State,

@@ -1,6 +1,8 @@
 // The list of a sheet's gaps and doubles, as a call on a file and a lent buffer (document 02, C-16). One pass over the records of the file fills
 // three tables: the count of transitions for each state and letter, which states are taken and which letters are used. The list is written
 // from these.
+#![tactic(auto)]
+
 ghost use Rattle.std.specs.Prelude.{◌≡◌, false, ℕ, ◌+◌, ◌*◌, ◌≤◌, ◌<◌, length, get_or, replicate};
 ghost use Rattle.relation.specs.Relation.{states};
 ghost use Rattle.spec_language.specs.Remarks.{first_remark};
@@ -32,7 +34,7 @@ type TakenStates = [bool; STATES as usize];
 type UsedLetters = [bool; LETTERS];
 
 // The count of entries. A refusal has one of a file's numbers, or 15.
-#[derive(Drop)]
+#[derive(Clone, Copy)]
 pub enum Listed {
     Entries(usize),
     Refused(Refusal),

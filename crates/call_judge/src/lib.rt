@@ -1,4 +1,6 @@
 // Judging one word against the automaton of a file (document 01: a run against the order sheet).
+#![tactic(auto)]
+
 ghost use Rattle.std.specs.Prelude.{◌≡◌, false};
 ghost use Rattle.relation.specs.Relation.{states};
 ghost use Rattle.relation.specs.Representation.{value};
@@ -19,7 +21,7 @@ use spec_file::{LETTER_WORDS, Letters, Refusal, TERMINALS};
 const WORD_LIMIT: usize = LONG_WORD as usize - 1;
 
 // A refusal has one of a file's numbers, or 11.
-#[derive(Drop)]
+#[derive(Clone, Copy)]
 pub enum Judged {
     Accepted,
     TurnedAway,

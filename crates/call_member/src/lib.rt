@@ -1,4 +1,6 @@
 // Whether the plan of a file derives a recorded run, and which procedures derive each stretch of it (document 02, C-12), as a call on a file.
+#![tactic(auto)]
+
 ghost use Rattle.std.specs.Prelude.{◌≡◌, ◌≤◌, length};
 ghost use Rattle.spec_file.specs.Answers.{refusal_of};
 ghost use Rattle.spec_file.specs.Refusals.{fault, first_of};
@@ -11,7 +13,7 @@ use member_table::{RUN_LIMIT, STRETCH_CELLS};
 use spec_file::{RULE_LIMIT, Refusal};
 
 // A refusal has one of a file's numbers, or 11, 13 or 14.
-#[derive(Drop)]
+#[derive(Clone, Copy)]
 pub enum Recognized {
     Derived,
     NotDerived,

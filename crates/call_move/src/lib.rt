@@ -1,5 +1,7 @@
 // Moving a file to the other form of records, as two calls on a file and a lent output (document 02, C-17): `widen` moves eight-byte records
 // over to sixteen bytes, and `narrow` moves them back. `put` and `put_narrower` write a part of an output; unfolding uses them too.
+#![tactic(auto)]
+
 ghost use Rattle.std.specs.Prelude.{◌≡◌, ◌+◌, ◌*◌, ◌≤◌, ◌/◌, length};
 ghost use Rattle.std.proofs.Math.Seq.{paste};
 ghost use Rattle.spec_file.specs.Answers.{refusal_of};
@@ -13,7 +15,7 @@ use file_wide_checks::WIDTH;
 use spec_file::{RULE_KIND, Refusal};
 
 // The result's length in bytes. A refusal has one of a file's numbers, or 10, 17 or 18.
-#[derive(Drop)]
+#[derive(Clone, Copy)]
 pub enum Moved {
     Length(usize),
     Refused(Refusal),

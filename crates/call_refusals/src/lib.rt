@@ -1,4 +1,6 @@
 // What the two calls on a file and a journal share: what refuses both of them, and the file's rules in their table.
+#![tactic(auto)]
+
 ghost use Rattle.std.specs.Prelude.{◌≡◌};
 ghost use Rattle.spec_file.specs.Answers.{refusal_of};
 ghost use Rattle.spec_file.specs.Refusals.{first_of};

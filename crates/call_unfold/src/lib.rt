@@ -2,6 +2,8 @@
 // rules, with chain procedures for the bodies above two symbols, in file order, and then its other records. Specs: Answers (what is
 // promised), Results (what is written); the laws are in KeptLaws (the records that are no rules), LengthLaws, WriteLaws, ResultLaws and
 // CallLaws.
+#![tactic(auto)]
+
 ghost use Rattle.std.specs.Prelude.{◌≡◌, map, ◌*◌, ◌≤◌, length, take};
 ghost use Rattle.spec_file.specs.Answers.{refusal_of};
 ghost use Rattle.spec_file.specs.Forms.{sixteen};

@@ -1,4 +1,6 @@
 // Writing a word on a file and a journal. It asks nothing of its caller; a refused call does not change the buffer.
+#![tactic(auto)]
+
 ghost use Rattle.std.specs.Prelude.{◌≡◌, map};
 ghost use Rattle.spec_calls.specs.Rows.{row_of};
 ghost use Rattle.spec_calls.specs.Writing.{too_long};
@@ -13,7 +15,7 @@ use spec_calls::{LONG_WORD, Row};
 use spec_file::{RULE_LIMIT, Refusal};
 
 // The length of the word written, or what refused it.
-#[derive(Drop)]
+#[derive(Clone, Copy)]
 pub enum Writing {
     Refused(Refusal),
     Length(usize),
@@ -21,7 +23,7 @@ pub enum Writing {
 
 // What may be written, as far as the file and the counts decide: the refusal, with number 0 where there is none, how many rules there are,
 // and how many rows are to be looked at.
-#[derive(Drop)]
+#[derive(Clone, Copy)]
 struct Asked {
     refusal: Refusal,
     rules: usize,

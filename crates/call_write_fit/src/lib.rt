@@ -1,5 +1,7 @@
 // Whether the rows of a journal fit the rules (document 01, "Numbers a call may refuse with", 9). One loop holds the journal and is proved by
 // a walk; each test takes rows by value. A rule is four bytes: its head, its body's length, its two symbols.
+#![tactic(auto)]
+
 ghost use Rattle.std.specs.Prelude.{◌&&◌, ◌≡◌, eqb, map, ◌≤◌, length};
 ghost use Rattle.spec_file.specs.Views.{symbol_of};
 ghost use Rattle.spec_order.specs.Fitting.{all_rows_fit};
@@ -89,7 +91,7 @@ fn row_fits(rules: &[[u8; 4]], i: usize, row: Row, left: Row, right: Row) -> boo
 }
 
 // The test so far: `fits` says whether all rows tested fit, and `len` is the length in the last of them.
-#[derive(Drop)]
+#[derive(Clone, Copy)]
 pub struct Fit {
     pub fits: bool,
     pub len: u64,

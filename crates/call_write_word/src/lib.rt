@@ -1,5 +1,7 @@
 // Writing the word behind a journal row (document 01, "Writing a run"): the row writer and the symbol writer call each other, and the row
 // number falls. Nothing is tested on the way: the caller has tested that the rows fit and that the buffer has room.
+#![tactic(auto)]
+
 ghost use Rattle.std.specs.Prelude.{◌≡◌, ◌≤◌, ◌<◌, map, length};
 ghost use Rattle.spec_file.specs.Views.{symbol_of};
 ghost use Rattle.spec_file.specs.Entries.{entry_of};
@@ -13,7 +15,7 @@ use spec_file::TERMINALS;
 
 // One symbol of a row's body. If `older`, it is a nonterminal and `row` is the older row that it points to; if `terminal`, it is `symbol`;
 // otherwise there is no symbol.
-#[derive(Drop)]
+#[derive(Clone, Copy)]
 pub struct Part {
     pub older: bool,
     pub terminal: bool,
@@ -22,7 +24,7 @@ pub struct Part {
 }
 
 // The symbols of a body, from left to right.
-#[derive(Drop)]
+#[derive(Clone, Copy)]
 struct Parts {
     first: Part,
     second: Part,

@@ -1,4 +1,6 @@
 // The eight bytes of a record, by its number in the file, and what they say: a rule, a transition or a final state.
+#![tactic(auto)]
+
 ghost use Rattle.std.specs.Prelude.{◌≡◌, ◌<◌};
 ghost use Rattle.spec_file.specs.Answers.{said_by};
 ghost use Rattle.spec_file.specs.Entries.{rule_in, transition_in, whole_record};

@@ -1,4 +1,6 @@
 // Checks 3 to 7 and 12 of one record's bytes (document 01, "Numbers a call may refuse with"; C-11), each a test of its own.
+#![tactic(auto)]
+
 ghost use Rattle.std.specs.Prelude.{◌≡◌, cond};
 ghost use Rattle.spec_file.specs.Refusals as refusals;
 ghost use Rattle.file_checks.specs.BigEndian.{big_endian};

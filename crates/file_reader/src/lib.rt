@@ -2,6 +2,8 @@
 // `step_after` and `step_from` are given the counts of the records before, so that a walk over a file counts no record twice; the product uses
 // these, and `moved`. `step`, `position`, `advance` and `step_at` are document 01's own form of the step, for a caller; here only tests call
 // `step_at`.
+#![tactic(auto)]
+
 ghost use Rattle.std.specs.Prelude.{◌≡◌, ◌<◌};
 ghost use Rattle.spec_file.specs.Reading.{step_from, step_at};
 ghost use Rattle.spec_file.specs.Records.{record_count};
@@ -11,14 +13,14 @@ ghost use Rattle.file_reader.specs.Answers.{step_of, place_after};
 use spec_file::{RECORD_LIMIT, Record, Refusal};
 
 // The file's bytes, and the place of the next record.
-#[derive(Drop)]
+#[derive(Clone, Copy)]
 pub struct Reader<'a> {
     pub file: &'a [u8],
     pub place: usize,
 }
 
 // A record with the place of the next, the refusal that stopped the reader, or the end of the file.
-#[derive(Drop)]
+#[derive(Clone, Copy)]
 pub enum Step {
     Gives(Record, usize),
     Refused(Refusal),

@@ -1,5 +1,7 @@
 // What judging and the inclusion check look up in a file, read once from its bytes, whatever they are: the relation of each
 // terminal, the mask of final states, and the rules as rows of numbers.
+#![tactic(auto)]
+
 ghost use Rattle.std.specs.Prelude.{◌≡◌, cond, [], ◌≤◌, ◌<◌, eqb, length};
 ghost use Rattle.relation.specs.Relation.{states};
 ghost use Rattle.relation.specs.Digits.{number};

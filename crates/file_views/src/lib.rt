@@ -1,6 +1,8 @@
 // The views of a file: counts of its records by kind, and a record by its number, read as a rule, as a transition or as a final state. Each
 // takes any bytes: only whole records are counted, and a record past the last one reads as zeros. The product calls `rule_count`,
 // `transition_count` and the three readings; `record_count` and `final_count` complete document 01's views, and only tests call them.
+#![tactic(auto)]
+
 ghost use Rattle.std.specs.Prelude.{◌≡◌, ◌≤◌};
 ghost use Rattle.spec_file.specs.Entries.{rule_count, transition_count, final_count, rule_at, transition_at, final_at};
 ghost use Rattle.spec_file.specs.Records.{record_count, count_of};

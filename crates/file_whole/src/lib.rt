@@ -1,4 +1,6 @@
 // The walk over a whole file by steps: its refusal, and the stretch of its transitions.
+#![tactic(auto)]
+
 ghost use Rattle.std.specs.Prelude.{◌≡◌, ◌+◌, ◌<◌, ◌^◌};
 ghost use Rattle.spec_file.specs.Answers.{refusal_of, said_by};
 ghost use Rattle.spec_file.specs.Reading.{stretch};
@@ -42,7 +44,7 @@ fn transitions_in(r: Record) -> usize
 }
 
 // The walk so far: whether it is `going`, the `rules` and `transitions` that it has passed, and the refusal that stopped it, if any.
-#[derive(Drop)]
+#[derive(Clone, Copy)]
 struct Tally {
     going: bool,
     rules: usize,

@@ -1,6 +1,8 @@
 // A whole file of sixteen-byte records (document 02, C-17): the bytes of a record by its number, and the refusal of the file, numbers 16, 2
 // to 7 and 12. The tests of one record are those of `file_wide_checks`, and of `file_checks` where they read its first eight bytes alone.
 // Laws of the walk over the records are in specs/WalkLaws.
+#![tactic(auto)]
+
 ghost use Rattle.std.specs.Prelude.{◌≡◌, cond, ◌<◌, ◌≤◌, eqb};
 ghost use Rattle.spec_file.specs.Answers.{refusal_of};
 ghost use Rattle.spec_file.specs.Forms.{sixteen};

@@ -1,5 +1,7 @@
 // Checks 4, 5 and 6 of one record of sixteen bytes (document 02, C-17), each a test of its own. Checks 3, 7 and 12 read the first eight bytes
 // alone: `front` gives these to the tests of `file_checks`. Laws of a scan over the bytes of a record are in specs/Scanning.
+#![tactic(auto)]
+
 ghost use Rattle.std.specs.Prelude.{◌≡◌, ◌-◌, ◌<◌};
 ghost use Rattle.spec_file.specs.Forms.{sixteen};
 ghost use Rattle.spec_file.specs.Refusals as refusals;

@@ -1,6 +1,8 @@
 // One call for programs and hosts: the check over a journal of the library's own, and the run of a broken answer in the lent buffer. Its
 // parameters and its answer are plain values and lent bytes, so whoever calls it is proved by the toolchain. And a row of a journal
 // that a host lends.
+#![tactic(auto)]
+
 ghost use Rattle.std.specs.Prelude.{◌≡◌, get_or};
 ghost use Rattle.spec_calls.specs.Rows.{blank};
 ghost use Rattle.host_check.specs.Clauses.{ChecksAlone};

@@ -1,5 +1,7 @@
 // The check program's input. There is a file only where a read has said that the input has ended: an input that cannot be read to its end
 // gives none. Of an input that is longer than any file, only the front is held; what is handed over is refused as the whole input would be.
+#![tactic(auto)]
+
 ghost use Rattle.std.specs.Prelude.{◌≡◌, ℕ, ◌+◌, ◌≤◌, length};
 ghost use Rattle.host_input.specs.Held.{held_by, held_of, FitsIn};
 
@@ -12,7 +14,7 @@ const HELD: usize = 10376;
 pub const ROOM: usize = 10383;
 
 // The result of one read: the number of bytes that came, or that the input has ended, or that the read failed.
-#[derive(Drop)]
+#[derive(Clone, Copy)]
 enum Chunk {
     Bytes(usize),
     Ended,
@@ -21,7 +23,7 @@ enum Chunk {
 
 // What became of the input: it was read to its end, and the file is the given number of bytes at the front of the buffer; or it cannot be
 // read.
-#[derive(Drop)]
+#[derive(Clone, Copy)]
 pub enum Input {
     Whole(usize),
     Failed,

@@ -1,5 +1,7 @@
 // The lines of an answer as document 01, "The check program", has them, put into a lent buffer from the numbers of a check (`CheckResult`). Each
 // function stores into `text` from place `at` on and returns the place after what it stored, as those of crate `host_page` do.
+#![tactic(auto)]
+
 ghost use Rattle.std.specs.Prelude.{◌≡◌, [], ◌∷◌, ◌++◌, ◌+◌, ◌*◌, ◌≤◌, min, length, take};
 ghost use Rattle.spec_calls.specs.Printing.{line_feed, blanked, numbers_line, refused_line};
 ghost use Rattle.host_page.specs.Page.{page, puts};

@@ -1,6 +1,8 @@
 // Text in a lent buffer: bytes and decimal numbers, put one after the other. Each function stores into `text` from place `at` on and returns
 // the place after what it stored. What does not fit is left out, so nothing is asked of a caller; that all of an answer fits is proved where
 // the whole answer is known (crates `host_lines` and report).
+#![tactic(auto)]
+
 ghost use Rattle.std.specs.Prelude.{◌≡◌, ◌∷◌, ◌+◌, ◌<◌};
 ghost use Rattle.spec_calls.specs.Printing.{blank_byte, decimal, blanked, separated};
 ghost use Rattle.host_page.specs.Page.{page, put as put_byte, puts};

@@ -1,4 +1,6 @@
 // The answer of a check as document 01, "The check program", has it, rendered into a lent buffer.
+#![tactic(auto)]
+
 ghost use Rattle.spec_calls.specs.Rows.{settings_of};
 ghost use Rattle.spec_calls.specs.Printing.{text_of, program_room, program_text};
 ghost use Rattle.host_page.specs.Clauses.{Printed};

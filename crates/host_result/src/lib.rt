@@ -1,5 +1,7 @@
 // The result of a check as numbers for a host, and what is decided around the check: how many rows are lent, and which of them are read
 // afterwards.
+#![tactic(auto)]
+
 ghost use Rattle.std.specs.Prelude.{◌≡◌, ◌≤◌, ◌<◌};
 ghost use Rattle.spec_calls.specs.Checking.{journal_limit};
 ghost use Rattle.call_write.specs.Answers.{writing_of};
@@ -26,7 +28,7 @@ pub const EMPTY: u64 = search_laws::EMPTY as u64;
 // What a host is told: the number that refuses, or the verdict's; the refused record's number; joins, used rows and pass; and of a broken
 // answer the row, its pairs, its length, what refuses to write its run, or 0, and its nonterminal (`head`). And `sample`, a row of the journal
 // after the check.
-#[derive(Drop)]
+#[derive(Clone, Copy)]
 pub struct CheckResult {
     pub code: u64,
     pub place: u64,
@@ -42,7 +44,7 @@ pub struct CheckResult {
 }
 
 // The row of which the run is to be written, the used rows, and how many bytes of the file the writing is given.
-#[derive(Drop)]
+#[derive(Clone, Copy)]
 pub struct RowToWrite {
     pub used: usize,
     pub row: usize,

@@ -3,3 +3,4 @@
 // stretches as digits), Filling (the table while it is filled). Laws: SetLaws (sets closed under the rules are complete, whatever computed
 // them), Derivations (a rule derives what its body spells), RoundLaws, UnitLaws, SpanLaws, FillLaws (the steps of the code keep what the
 // definitions say; in `shown` spelling becomes rewriting), SliceLaws, CellLaws and ByteLaws (stretches, cells, bytes of symbols).
+#![tactic(auto)]

@@ -1,4 +1,6 @@
 // Sets of nonterminals as words, nonterminal p being in the set where bit p is set; and the set of those that derive the empty word.
+#![tactic(auto)]
+
 ghost use Rattle.std.specs.Prelude.{◌≡◌, map, ◌<◌, ◌^◌};
 ghost use Rattle.spec_file.specs.Limits.{nonterminals};
 ghost use Rattle.spec_file.specs.Views.{symbol_of};

@@ -1,6 +1,8 @@
 // What is known of the stretches of a word, as bits of words, and the rules of two symbols that spell a stretch in two parts. Bit k of entry
 // p of `ends` is set where nonterminal p derives the stretch from the row's step up to step k; bit k of cell SETS j + p of `starts` where p
 // derives the stretch from step k up to step j. So all splits of a stretch between two symbols are one `and`.
+#![tactic(auto)]
+
 ghost use Rattle.std.specs.Prelude.{◌≡◌, map, ◌+◌, ◌≤◌, ◌<◌, length, get_or, set as put};
 ghost use Rattle.spec_file.specs.Limits.{nonterminals};
 ghost use Rattle.spec_file.specs.Views.{symbol_of};

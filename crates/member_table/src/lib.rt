@@ -1,5 +1,7 @@
 // The table of a word of at most 64 letters: which nonterminals derive each stretch of it, by rules whose heads are below 64. Rows are
 // filled from the last one on, each from its shortest stretch on, so that the parts of a stretch are known before it.
+#![tactic(auto)]
+
 ghost use Rattle.std.specs.Prelude.{◌≡◌, map, ℕ, ◌+◌, ◌≤◌, ◌<◌, length, get_or, set};
 ghost use Rattle.spec_language.specs.Grammar.{production_of};
 ghost use Rattle.spec_file.specs.Limits.{terminals};

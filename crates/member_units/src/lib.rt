@@ -1,5 +1,7 @@
 // Units: rules whose body is one symbol, alone or beside a nonterminal that derives the empty word. Their head derives whatever the symbol
 // spells. For each nonterminal the closure of its units, as a table of sets.
+#![tactic(auto)]
+
 ghost use Rattle.std.specs.Prelude.{◌≡◌, map, ◌<◌};
 ghost use Rattle.spec_file.specs.Limits.{nonterminals};
 ghost use Rattle.spec_file.specs.Views.{symbol_of};

@@ -1,6 +1,8 @@
 // The check program (document 01, "The check program"): one file from standard input, one answer to standard output. What is printed is
 // proved in report, and what is read as the file in input. An input that cannot be read to its end has no verdict: nothing is printed, and
 // standard error says so, as it does of an answer that cannot be written.
+#![tactic(auto)]
+
 ghost use Rattle.std.specs.Prelude.{◌≡◌, ◌≤◌, length};
 ghost use Rattle.spec_calls.specs.Printing.{program_text};
 

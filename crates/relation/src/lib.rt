@@ -5,6 +5,8 @@
 // (numbers made of pieces: words, rows), RelationLaws, Product (composition by masks and by products, of any count of rows), Parts (composition
 // word by word), Words (containment and composition in the code's words), ColumnLaws, StoredLaws, Counting (pairs), Masks (final states),
 // KeyLaws.
+#![tactic(auto)]
+
 ghost use Rattle.std.specs.Prelude.{◌≡◌, ◌+◌, ◌*◌, ◌/◌, ◌^◌, ◌<◌, ◌≤◌, length, ◌==◌, bit_or};
 ghost use Rattle.relation.specs.Columns.{column_cells, AreColumns, by_columns, cell, cells_from, word_by, columns_of};
 ghost use Rattle.relation.specs.Digits.{bit, subset};
@@ -50,7 +52,7 @@ const DIGESTS: u64 = 32749;
 // A relation. Its words are known to this crate only: a caller makes, joins, compares and stores relations by the functions below. They are
 // fields and no array, so that a row of the journal stays a struct of numbers. Hosts have rows, and so relations, in memory of their own: C's layout.
 #[repr(C)]
-#[derive(Drop)]
+#[derive(Clone, Copy)]
 pub struct Relation {
     w0: u64,
     w1: u64,

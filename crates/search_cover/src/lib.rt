@@ -1,6 +1,8 @@
 // Looking for a row that covers a candidate. One array of words, `near`, has what is read on the way: the effect and the nonterminal of every
 // row, and the numbers of the live rows of one nonterminal, each beside a key of its effect. It has those of one nonterminal at a time, since a
 // rule's candidates are all of its head; where another is looked for, its rows are numbered along the links. No row of the journal is read.
+#![tactic(auto)]
+
 ghost use Rattle.std.specs.Prelude.{◌≡◌, true, false, ◌||◌, ◌≤◌, ◌<◌, length, set};
 ghost use Rattle.relation.specs.Relation.{contained, key_of};
 ghost use Rattle.relation.specs.Representation.{value};
@@ -38,7 +40,7 @@ pub const NEAR_WORDS: usize = WORDS * (ROW_PLACES + ROWS);
 // What looking for a cover found. Either a row covers the candidate (`covers`): `row`, where it is `linked`, that is, where no hint named it. Or
 // none does; then `cell` is the last link of the nonterminal, which a new row is to be linked to, and `larger` says whether a live row may be
 // larger than the candidate. `slot` is the cell of the hint by the candidate's effect.
-#[derive(Drop)]
+#[derive(Clone, Copy)]
 pub struct CoverAnswer {
     pub covers: bool,
     pub linked: bool,

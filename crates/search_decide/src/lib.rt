@@ -1,4 +1,6 @@
 // What becomes of a candidate, in steps on values: a hint remembers where looking for it ended, and it is counted.
+#![tactic(auto)]
+
 ghost use Rattle.std.specs.Prelude.{◌≡◌};
 ghost use Rattle.search_laws.specs.Meanings.{born_by, decided_in};
 ghost use Rattle.search_laws.specs.Steps.{MayRemember, Remembers, MayDecide};

@@ -1,6 +1,8 @@
 // A glance at the candidates of one left row: the effect of each is formed once, and the two rows that hints name are tried for it once. Where one
 // of them covers it, it is one join and nothing else. The effects and the nonterminals of all rows stand in an array of words (`near`, crate
 // `search_cover`), so that no row of the journal is read.
+#![tactic(auto)]
+
 ghost use Rattle.std.specs.Prelude.{◌≡◌, true, ◌+◌, ◌≤◌, ◌<◌, length};
 ghost use Rattle.relation.specs.Representation.{value};
 ghost use Rattle.spec_file.specs.Limits.{letter_words};
@@ -16,7 +18,7 @@ use search_state::{Counts, END, LASTS, SLOTS, State, Terms};
 use spec_file::TERMINALS;
 
 // The candidate at which `state` stands: its effect, whether a row that a hint names covers it, and the cell of the hint for its effect.
-#[derive(Drop)]
+#[derive(Clone, Copy)]
 pub struct Tried {
     pub state: State,
     pub effect: Effect,
@@ -25,7 +27,7 @@ pub struct Tried {
 }
 
 // Whether a row that a hint names covers a candidate, and the cell of the hint for its effect.
-#[derive(Drop)]
+#[derive(Clone, Copy)]
 pub struct Hinted {
     pub covers: bool,
     pub slot: usize,

@@ -12,10 +12,12 @@
 // the terms of a pass, k its number. j₀ is the journal when the search began, j₁ when the pass began, j now; t is the table, t' the table after
 // a step. s is the state, r the state or place after a step, w counts, x a place reached with its counts, p and q places; c is a candidate, f its
 // fate, l the cursor where looking for a cover ended.
+#![tactic(auto)]
+
 use search_state::{Counts, Place};
 
 // What each answer carries.
-#[derive(Drop)]
+#[derive(Clone, Copy)]
 pub struct Totals {
     pub joins: u64,
     pub used: usize,
@@ -34,7 +36,7 @@ pub const SPENT: u8 = 103;
 pub const EMPTY: u8 = 104;
 
 // A verdict that shows no row.
-#[derive(Drop)]
+#[derive(Clone, Copy)]
 pub enum Unbroken {
     Holds,
     Full,
@@ -43,28 +45,28 @@ pub enum Unbroken {
 }
 
 // The verdict with its totals; a broken answer names its row.
-#[derive(Drop)]
+#[derive(Clone, Copy)]
 pub enum Answer {
     Ended(Unbroken, Totals),
     Broken(usize, Totals),
 }
 
 // A place that a pass has reached, with the counts up to it.
-#[derive(Drop)]
+#[derive(Clone, Copy)]
 pub struct Reached {
     pub counts: Counts,
     pub place: Place,
 }
 
 // What stops a search: the verdict with the counts up to it; a broken one names its row.
-#[derive(Drop)]
+#[derive(Clone, Copy)]
 pub enum Stop {
     Ended(Unbroken, Counts),
     Broken(usize, Counts),
 }
 
 // What became of a candidate: the search is going, or stops.
-#[derive(Drop)]
+#[derive(Clone, Copy)]
 pub enum Outcome {
     Going(Counts),
     Stopped(Stop),

@@ -1,5 +1,7 @@
 // The table in which the search finds rows, of which crate `search_state` draws the layout: the laws of its links, which lead along the live rows of
 // each nonterminal, rising (specs), a table without a row, and the copying of the links to the lists when a pass begins.
+#![tactic(auto)]
+
 ghost use Rattle.std.specs.Prelude.{◌≡◌, ◌≤◌, length};
 ghost use Rattle.search_state.specs.Layout.{row_cells, list_cells, table_cells};
 ghost use Rattle.search_links.specs.Covers.{Unlinked};

@@ -1,5 +1,7 @@
 // The two loops that hold the lent journal; all else is covered code on values and on arrays of numbers. A loop reads rows, hands them to covered
 // steps, and stores what these return: what an effect is, only `search_rows` knows.
+#![tactic(auto)]
+
 ghost use Rattle.std.specs.Prelude.{T};
 ghost use Rattle.search_laws.specs.OnRelations.{NearIn, MayInsert, CandidateInserted, Running, Ran};
 

@@ -1,4 +1,6 @@
 // The passes of the search, in steps on values: the place after a candidate, the pass after this one, and the end.
+#![tactic(auto)]
+
 ghost use Rattle.std.specs.Prelude.{◌<◌, ◌≡◌, [], length};
 ghost use Rattle.relation.specs.Digits.{bit};
 ghost use Rattle.spec_file.specs.Limits.{nonterminals};

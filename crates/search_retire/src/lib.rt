@@ -1,6 +1,8 @@
 // A candidate that no row covers becomes a row, and the larger rows retire: a cursor over the live rows of its nonterminal and then the new
 // row, moved in steps that know neither a row nor a candidate. A step is given what comparing the row at the cursor with the candidate gave,
 // keeps the links, and returns the cursor at the row to compare next.
+#![tactic(auto)]
+
 ghost use Rattle.std.specs.Prelude.{◌≡◌, length};
 ghost use Rattle.search_state.specs.Layout.{table_cells};
 ghost use Rattle.search_retire.specs.Steps.{retire_from, begun, stepped, links_after};
@@ -11,7 +13,7 @@ use search_state::{Comparison, END, FIRSTS, Fate, State};
 
 // While the cursor is `active`, `row` is the row to replace next: the linked row to which the link in `cell` leads, or, if `new`, the first
 // row that is not used, and `cell` is the last link of the nonterminal.
-#[derive(Drop)]
+#[derive(Clone, Copy)]
 pub struct RetireCursor {
     pub active: bool,
     pub new: bool,

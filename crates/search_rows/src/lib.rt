@@ -1,6 +1,8 @@
 // One row of the journal, one way to take a symbol, and one candidate of the working order, each by value. All that is done with an effect in
 // a search stands here: comparing, retiring, opening, breaking. A rule is four bytes: its head, its body's size and its
 // symbols.
+#![tactic(auto)]
+
 ghost use Rattle.std.specs.Prelude.{◌≡◌, [], ◌+◌, ◌*◌, ◌≤◌, ◌<◌, length};
 ghost use Rattle.relation.specs.Relation.{contained};
 ghost use Rattle.relation.specs.Representation.{relation_words, value};
@@ -24,7 +26,7 @@ use spec_calls::{ABSENT, Row};
 use spec_file::TERMINALS;
 
 // What would become a row.
-#[derive(Drop)]
+#[derive(Clone, Copy)]
 pub struct Candidate {
     pub head: u8,
     pub rule: u64,
@@ -35,14 +37,14 @@ pub struct Candidate {
 }
 
 // A nonterminal and a rule of it.
-#[derive(Drop)]
+#[derive(Clone, Copy)]
 struct Origin {
     head: u8,
     rule: u64,
 }
 
 // One way to take a symbol, but for its effect.
-#[derive(Drop)]
+#[derive(Clone, Copy)]
 struct Choice {
     pointer: u64,
     len: u64,

@@ -1,6 +1,8 @@
 // From place to place of a pass, and past those that need no work (semi-naive evaluation). A candidate of rows that were there when the pass
 // before began was formed in that pass, so that a live row covers it: it is one join, and nothing else. Such candidates stand together, and
 // are counted by their number: the old rights of a left by a sum, the old lefts of a rule, each with all its rights, by a product.
+#![tactic(auto)]
+
 ghost use Rattle.std.specs.Prelude.{◌≤◌, ◌≡◌, true, length, take};
 ghost use Rattle.search_state.specs.Layout.{row_cells, table_cells, lists_in, end};
 ghost use Rattle.search_order.specs.Lists.{after_in};

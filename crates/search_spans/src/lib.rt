@@ -1,6 +1,8 @@
 // How far the lists of a pass go over old rows, the rows that were there when the pass before began. Rows rise along a list, so its old rows
 // come first: they are its span. When a pass begins, the span of each list is measured and noted behind the lists (crate `search_state` draws
 // the cells), so that whoever passes over them can count them by their number.
+#![tactic(auto)]
+
 ghost use Rattle.std.specs.Prelude.{◌≡◌, false, ◌≤◌, ◌<◌, length};
 ghost use Rattle.spec_file.specs.Entries.{entry_of};
 ghost use Rattle.spec_file.specs.Limits.{nonterminals};
@@ -14,7 +16,7 @@ use search_state::{ABSENT, ENDS, FIRSTS, PROCEDURES, STEPS};
 use spec_file::TERMINALS;
 
 // From the position `first`, `steps` steps along its list, each to an old row, lead to the position `last`.
-#[derive(Drop)]
+#[derive(Clone, Copy)]
 pub struct Span {
     pub first: usize,
     pub steps: u64,

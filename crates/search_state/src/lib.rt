@@ -1,5 +1,7 @@
 // The state of the search, by value, and what is said of one candidate on its way through it. No effect is named here: these types are the
 // same whatever an effect is.
+#![tactic(auto)]
+
 ghost use Rattle.std.specs.Prelude.{◌≤◌, ◌≡◌};
 ghost use Rattle.search_state.specs.Budgets.{is_spent};
 ghost use Rattle.search_state.specs.Positions.{position_row, first_at};
@@ -57,7 +59,7 @@ pub const END_CELL: u32 = END as u32;
 // ---- the state
 
 // Where a candidate stands in a pass: its rule, and the rows of its two symbols.
-#[derive(Drop)]
+#[derive(Clone, Copy)]
 pub struct Place {
     pub rule: usize,
     pub left: usize,
@@ -86,7 +88,7 @@ impl Place {
 
 // The rows used and the joins made since the check began, and the rows added since the pass began. Whether a pass was the last is read from
 // `added`: where rows may be dropped, `used` can not tell.
-#[derive(Drop)]
+#[derive(Clone, Copy)]
 pub struct Counts {
     pub used: usize,
     pub joins: u64,
@@ -96,7 +98,7 @@ pub struct Counts {
 // What does not change in a pass: the joins that may be made, the set of the nonterminals whose words have to be accepted (`starts`), the
 // final states, the number of the pass, and the rows used when it began (`present`) and when the pass before began (`old`). What is formed of
 // old rows alone was formed in the pass before.
-#[derive(Drop)]
+#[derive(Clone, Copy)]
 pub struct Terms {
     pub budget: u64,
     pub starts: u64,
@@ -134,7 +136,7 @@ impl Terms {
 // The search between two candidates. While `going`, `place` is the candidate to form next, and `left_row` and `right_row` are the journal rows
 // to read for it (0 if its body has no such row). Otherwise `verdict` is the verdict's number, as hosts are told it, and `broken` the row of a
 // broken one. `rows` is the journal's length, `rules` the number of rules.
-#[derive(Drop)]
+#[derive(Clone, Copy)]
 pub struct State {
     pub going: bool,
     pub left_row: usize,
@@ -150,7 +152,7 @@ pub struct State {
 
 // What comparing a journal row with a candidate gives: the row `covers` the candidate, or is strictly `larger` than it. A row that is not
 // live, or is of another nonterminal, does neither.
-#[derive(Drop)]
+#[derive(Clone, Copy)]
 pub struct Comparison {
     pub covers: bool,
     pub larger: bool,
@@ -158,7 +160,7 @@ pub struct Comparison {
 
 // What becomes of a candidate of the nonterminal `head`: a row covers it (`covered`), or else the journal is `full`, or else it becomes a
 // row, which `breaks` the plan or not.
-#[derive(Drop)]
+#[derive(Clone, Copy)]
 pub struct Fate {
     pub head: u8,
     pub covered: bool,

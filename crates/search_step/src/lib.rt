@@ -1,4 +1,6 @@
 // Where the search stands, in steps on values: at a place, at the end with a verdict, and what it then answers.
+#![tactic(auto)]
+
 ghost use Rattle.std.specs.Prelude.{◌≡◌};
 ghost use Rattle.search_laws.specs.Meanings.{totals_of, code_of, unbroken_at, answer_in};
 ghost use Rattle.search_laws.specs.States.{ended, standing, finished, opening, stopped_in};

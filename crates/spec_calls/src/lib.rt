@@ -7,6 +7,8 @@
 // length) and OnePath (what an empty list promises); MemberLaws (the members of a set), AsSoFar (for the initial nonterminal alone the
 // check is the one before request C-18, which is in SoFar). Computed: Cases (document 01's P table, remarks, plans without runs, sets),
 // Examples, Pins (what only a definition's text settles).
+#![tactic(auto)]
+
 ghost use Rattle.std.specs.Prelude.{◌≡◌, ◌+◌};
 ghost use Rattle.spec_order.specs.Journal.{capped};
 ghost use Rattle.spec_calls.specs.Base.{members_of, is_one_of};
@@ -27,7 +29,7 @@ pub const LONG_WORD: u64 = 65535;
 // A kept effect. A pointer is the number of an older row, or ABSENT; a length is exact below LONG_WORD; a live row is retired in pass 0. A host
 // may lend its own rows (`include/bolfrega.h` names their eleven words): C's layout.
 #[repr(C)]
-#[derive(Drop)]
+#[derive(Clone, Copy)]
 pub struct Row {
     pub head: u64,
     pub rule: u64,
@@ -60,7 +62,7 @@ impl Row {
 // What a caller chooses for a check beside the file and the journal: `budget` is the number of joins that it may make, and `starts` the set of
 // the nonterminals whose words have to be accepted, bit p for nonterminal p. One struct, so that one choice more changes the calls that make
 // it or read the field, and no call between them.
-#[derive(Drop)]
+#[derive(Clone, Copy)]
 pub struct Options {
     pub budget: u64,
     pub starts: u64,

@@ -3,6 +3,8 @@
 // Views (the grammar and the automaton), Entries (counts, readings by number), Answers (the code's types as the definitions have them). Laws of
 // a file that is not refused: Valid, Ranges, Sorted and Rising (rules first, then transitions, then finals), EntryLaws, StretchLaws; of reading
 // by steps WalkLaws; of the order of refusals RefusalLaws.
+#![tactic(auto)]
+
 ghost use Rattle.std.specs.Prelude.{◌≡◌, cond};
 ghost use Rattle.spec_file.specs.Answers.{numbered};
 ghost use Rattle.spec_file.specs.Refusals.{by_number};
@@ -38,7 +40,7 @@ pub const LETTER_WORDS: usize = TERMINALS as usize * relation::WORDS;
 pub type Letters = [relation::Letter; LETTER_WORDS];
 
 // A number that document 01 or C-11 lists, and for 3 to 7 and 12 the record's number, else 0. Number 0: nothing is refused.
-#[derive(Drop)]
+#[derive(Clone, Copy)]
 pub struct Refusal {
     pub number: u64,
     pub place: usize,
@@ -77,7 +79,7 @@ impl Refusal {
 }
 
 // A rule: its head (document 01: the procedure), its body length, and the bytes of its symbols.
-#[derive(Drop)]
+#[derive(Clone, Copy)]
 pub struct Rule {
     pub head: u8,
     pub size: u8,
@@ -86,7 +88,7 @@ pub struct Rule {
 }
 
 // Document 01: a move from stage to stage on a step code.
-#[derive(Drop)]
+#[derive(Clone, Copy)]
 pub struct Transition {
     pub source: u8,
     pub letter: u8,
@@ -94,7 +96,7 @@ pub struct Transition {
 }
 
 // What a record says; Final: document 01's finishing stage.
-#[derive(Drop)]
+#[derive(Clone, Copy)]
 pub enum Record {
     Rule(Rule),
     Transition(Transition),

@@ -4,3 +4,4 @@
 // derives, for bodies of any length), RewritingLaws (what one grammar rewrites another does too, under a substitution for nonterminals),
 // RuleLaws (a file's rules as productions), Paths (a pair of a word's relation is a path on the word; the relation of uv is that of u
 // composed with that of v), RemarkLaws, Striking (a word without its remarks has the same relation and paths).
+#![tactic(auto)]

@@ -25,3 +25,4 @@
 // Letters, in every file: E is the type of effects, A the algebra and L its laws; W is what words are, S how they are spelled and Z the laws of
 // their sizes. J is the journal's size, B the budget, k a pass, h a number of passes or a height. s, t and u are progress; c is a candidate and
 // cs a list of them; v a verdict, i a row number, a an answer. A prime marks the same of a second check.
+#![tactic(auto)]

@@ -2,3 +2,4 @@
 // apart), OnRecords (the body of a rule, the order of records; what refuses a file, said of the list, for proofs only). Laws: BlockLaws,
 // Agreement (what OnRecords says refuses a file is spec_file's `fault_in`, for every form that fits), FormLaws (a file is not refused exactly
 // where its records are sound), RecordLaws (the order of records, unused bytes, ranges).
+#![tactic(auto)]

@@ -8,3 +8,4 @@
 // number), SortingLaws and OrderLaws, RuleRecords and FewFinals (records by kind), ViewLaws, UnfoldingLaws (the unfolded file passes every
 // check), SameRuns (it derives the same), StartLaws (starting procedures are no chain procedures, C-18). Computed: Pins (edges, orders of
 // refusals, unfolded files to their bytes).
+#![tactic(auto)]

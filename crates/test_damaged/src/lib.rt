@@ -1,5 +1,7 @@
 // For tests only (test_writing): a check, one row of its journal replaced, and the run behind a row written. The parameters and the answer
 // are plain values and lent bytes, so a caller needs no walk.
+#![tactic(auto)]
+
 ghost use Rattle.test_damaged.specs.Clauses.{WritesDamaged};
 
 use call_write::Writing;

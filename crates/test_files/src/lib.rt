@@ -1,5 +1,7 @@
 // For tests only: what the programs of cases share. Files that are made record by record, in an array of `HELD` bytes, and lines that are
 // printed.
+#![tactic(auto)]
+
 use libc::STDOUT_FILENO;
 use spec_file::{FIRST_REMARK, Refusal, Rule, Transition};
 

@@ -1,5 +1,7 @@
 // Listing a sheet's gaps and doubles, case by case: one line for each, a label, what came, few entries byte by byte, and how many bytes of
 // the buffer are as they were. The stored output is what document 02, C-16, asks for.
+#![tactic(auto)]
+
 use call_gaps::{LIST_BYTES, Listed};
 use test_files::{
     HELD, LARGEST, SAMPLE, fill, front, print, print_byte, print_label, print_number,

@@ -256,7 +256,7 @@ fn shown_from(
 }
 
 // The verdict's number of a check from a set, and whether it is right.
-#[derive(Drop)]
+#[derive(Clone, Copy)]
 struct FromSet {
     code: u64,
     right: bool,
@@ -321,7 +321,7 @@ fn first_failing(
 
 // The result for one file: the verdict and the used rows, the verdict with few rows and a small budget, the verdict from a set, and the first
 // comparison that failed.
-#[derive(Drop)]
+#[derive(Clone, Copy)]
 pub struct Outcome {
     pub verdict: u64,
     pub used: u64,

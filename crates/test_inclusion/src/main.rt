@@ -18,6 +18,8 @@
 // are relations, of broken ones; of full, spent and other answers under 5; of answers under 7 that hold, are empty, are broken; of refused
 // files; of files with more relations than the search has room for, which are skipped; and of mismatches, each of which is also written with
 // the file's number and the comparison that fails.
+#![tactic(auto)]
+
 mod comparison;
 
 use comparison::Outcome;

@@ -1,5 +1,7 @@
 // Judging a run on a file, case by case: one line for each, a label and the result. The stored output is what document 01 asks for
 // ("Numbers a call may refuse with", the cases of "The check program").
+#![tactic(auto)]
+
 use call_judge::Judged;
 use test_files::{
     HELD, SAMPLE, SHEET, front, print, print_label, print_refused, put, sample, sheet,

@@ -1,5 +1,7 @@
 // Recognizing a run on a file, case by case: one line for each, a label, what came, and the cells of the table that are not 0, by their
 // numbers; of a refused call how many cells are as they were. The stored output is what document 02, C-12, asks for.
+#![tactic(auto)]
+
 use call_member::Recognized;
 use member_table::STRETCH_CELLS;
 use test_files::{

@@ -1,5 +1,7 @@
 // The cases that document 01 marks P, as far as the library can be given rows and a budget, each as the check program prints it.
 // The stored output is what document 01 asks for, and for plans without runs what C-15 of document 02 does; test_judging compares the judged runs.
+#![tactic(auto)]
+
 use libc::STDOUT_FILENO;
 use relation::Relation;
 use spec_calls::{INITIAL_ALONE, Options, Row};

@@ -1,5 +1,7 @@
 // What a plan file is refused with, case by case: one line for each, a label and the result. The stored output is what document 01
 // asks for ("Records", "Numbers a call may refuse with"), and document 02's C-11.
+#![tactic(auto)]
+
 use spec_file::Refusal;
 use test_files::{
     HELD, LARGEST, RECORDS, SAMPLE, fill, front, print, print_byte, print_label, print_number,

@@ -1,6 +1,8 @@
 // Checks and unfolding from sets of starting procedures, case by case: one line for each, a label and what came. Of a check: the verdict, joins,
 // used rows and pass, and of a broken one the row, its procedure and its run. Of an unfolding: the length, and a short result byte by byte.
 // The stored output is what document 02, C-18, asks for.
+#![tactic(auto)]
+
 use call_move::Moved;
 use file_wide_checks::WideRecord;
 use host_result::{BROKEN, CheckResult, EMPTY, FULL, HOLDS, SPENT};

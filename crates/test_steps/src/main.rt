@@ -1,5 +1,7 @@
 // The record step from places, and walks by steps, case by case: one line for each, a label and the result. The stored output is what
 // document 01 asks for ("Records", "Numbers a call may refuse with").
+#![tactic(auto)]
+
 use file_reader::{Step, step_at};
 use spec_file::Record;
 use test_files::{
@@ -128,7 +130,7 @@ fn steps_over_limits() {
 // ---- the walk over a whole file
 
 // How many records of each kind a walk passed.
-#[derive(Drop)]
+#[derive(Clone, Copy)]
 struct Tally {
     rules: u64,
     moves: u64,

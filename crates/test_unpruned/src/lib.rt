@@ -1,5 +1,7 @@
 // For tests only (test_inclusion): lists the relations of all words of each nonterminal, none left out, with no code of the inclusion check.
 // The list holds pairs of a symbol, as a rule's body spells it, and the relation of a word of that symbol.
+#![tactic(auto)]
+
 pub mod rows;
 
 // The numbers of document 01 that this search needs, written anew here so that nothing is shared with the check.
@@ -18,7 +20,7 @@ const RECORD_BYTES: usize = 8;
 const PAIRS: u64 = STATES * STATES;
 
 // A relation: a row of 16 bits for each state, which has the states that it leads to; four rows to a word, state 0 lowest.
-#[derive(Drop)]
+#[derive(Clone, Copy)]
 pub struct Relation {
     pub w0: u64,
     pub w1: u64,
@@ -280,7 +282,7 @@ fn add_letter(found: &mut Found, count: usize, file: &[u8], symbol: u64) -> usiz
 }
 
 // A rule of the file. `head` is the symbol that spells its nonterminal in a body.
-#[derive(Drop)]
+#[derive(Clone, Copy)]
 struct Rule {
     head: u64,
     size: u64,
@@ -390,7 +392,7 @@ pub fn search(file: &[u8], found: &mut Found) -> usize {
 
 // What a list says: the set of the nonterminals that have a word, the set of those of which a word is turned away, bit p for nonterminal p in
 // each, and how many relations belong to nonterminals.
-#[derive(Drop)]
+#[derive(Clone, Copy)]
 pub struct Verdict {
     pub worded: u64,
     pub turned: u64,

@@ -1,5 +1,7 @@
 // The views of a file and the stretch of its moves, case by case: one line for each, a label and the result. The stored output is what
 // document 01 asks for ("Records").
+#![tactic(auto)]
+
 use test_files::{
     HELD, LARGEST, SAMPLE, SHEET, fill, front, print, print_finishing, print_label, print_move,
     print_number, print_rule, put, sample, sheet,

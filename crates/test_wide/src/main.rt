@@ -1,5 +1,7 @@
 // Moving files over to sixteen-byte records and back, and unfolding them, case by case: one line for each, a label, what came, a short
 // result byte by byte, and how many bytes of the output are as they were. The stored output is what document 02, C-17, asks for.
+#![tactic(auto)]
+
 use call_move::Moved;
 use file_wide_checks::WideRecord;
 use spec_calls::INITIAL_ALONE;

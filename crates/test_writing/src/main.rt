@@ -1,5 +1,7 @@
 // Run writing over journals that a check made and in which one row is damaged, case by case: one line for each, what was asked and the result.
 // The stored output is what document 01 asks for (numbers 8, 9 and 10, "a row fits if", "Writing a run").
+#![tactic(auto)]
+
 use call_write::Writing;
 use relation::Relation;
 use spec_calls::{ABSENT, INITIAL_ALONE, Options, Row};
@@ -17,7 +19,7 @@ const BUFFER: usize = 65536;
 const MARK: u8 = 200;
 
 // What is asked of writing: rows lent and used, the row named, and the bytes of the buffer lent.
-#[derive(Drop)]
+#[derive(Clone, Copy)]
 struct Asked {
     lent: usize,
     used: usize,

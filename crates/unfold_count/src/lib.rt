@@ -1,6 +1,8 @@
 // What unfolding a file of sixteen-byte records needs (document 02, C-17), counted record by record: the number of its first chain
 // procedure, how many chain procedures there are to be, and how many rules there were. Specs: Counting (the counts), Parts (a part of a
 // record's bytes); their laws are in CountingLaws and PartLaws.
+#![tactic(auto)]
+
 ghost use Rattle.std.specs.Prelude.{◌≡◌, ◌+◌, ◌*◌, ◌≤◌, ◌<◌, ◌^◌, ◌/◌, max, length};
 ghost use Rattle.spec_records.specs.Blocks.{records_of};
 ghost use Rattle.spec_records.specs.OnRecords.{body_in};
@@ -13,7 +15,7 @@ use file_wide_checks::{WIDTH, WideRecord};
 use spec_file::{RULE_KIND, TERMINALS};
 
 // The number of the first chain procedure, how many chain procedures there are to be, and how many rules there were.
-#[derive(Drop)]
+#[derive(Clone, Copy)]
 pub struct Needed {
     pub first: usize,
     pub chains: usize,

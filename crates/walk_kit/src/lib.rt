@@ -18,3 +18,4 @@
 // it. Γ is the context, one entry for each thing that the walk holds; E the locals; C and Λ the tables of calls and of loops; p or z what is
 // owed at the end; k or f the callee's name, xs its operands, d the place of its result, and `rest` the statements that follow. κ, ν are
 // lifetimes, q a share of a lifetime's token, γ, δ the names of a `&mut`, b and o the block and the offset of an address.
+#![tactic(auto)]

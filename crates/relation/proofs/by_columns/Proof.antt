@@ -6,7 +6,7 @@ use Rattle.relation.specs.Representation.{each_word}
 use Rattle.relation.proofs.by_columns.Statement.{statement}
 use Rattle.relation.proofs.by_columns.Tie as tie
 
-crossed-by-requires : tie.Need-crossed-by-requires
+crossed-by-requires : tie.Need-crossed_by-requires
 crossed-by-requires c κs =
     let s = c.before.before.before.before in
     let l = s.requires.0 in
@@ -15,10 +15,10 @@ crossed-by-requires c κs =
 returns : tie.Need-returns
 returns c =
     let e = c.before.before.before.before.before.args in
-    c.crossed-by.ensures ∙ by-same _ _ e.y (each_word _ (ap (cell e.columns.now) (sym (add-zero e.at))) refl refl refl)
+    c.crossed_by.ensures ∙ by-same _ _ e.y (each_word _ (ap (cell e.columns.now) (sym (add-zero e.at))) refl refl refl)
 
-pub by-columns-spec : {M : Type 1} → statement M
-by-columns-spec =
+pub by_columns_spec : {M : Type 1} → statement M
+by_columns_spec =
     tie.close
     (tie.spec
     (λ c. search rules)

@@ -8,7 +8,7 @@ use Rattle.relation.proofs.by_four.Tie as tie
 
 returns : tie.Need-returns
 unfolding word_by union
-returns c = ap₂ bit_or (ap₂ bit_or c.before.before.by_two.ensures c.before.by-columns.ensures) c.by-columns2.ensures
+returns c = ap₂ bit_or (ap₂ bit_or c.before.before.by_two.ensures c.before.by_columns.ensures) c.by_columns-2.ensures
 
-pub by-four-spec : {M : Type 1} → statement M
-by-four-spec = tie.close (tie.spec (λ c κs. search rules) (λ c. search rules) (λ c κs. search rules) (λ c. search rules) (λ c κs. search rules) returns)
+pub by_four_spec : {M : Type 1} → statement M
+by_four_spec = tie.close (tie.spec (λ c κs. search rules) (λ c. search rules) (λ c κs. search rules) (λ c. search rules) (λ c κs. search rules) returns)

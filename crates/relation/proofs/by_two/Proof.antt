@@ -11,10 +11,10 @@ unfolding word_by union
 returns c =
     let e = c.before.before.args in
     ap₂ bit_or
-    (c.before.by-columns.ensures
+    (c.before.by_columns.ensures
     ∙ ap (λ (p : ℕ). by_columns (cells_from e.columns.now p) e.next.w0) (sym (add-zero e.w))
     ∙ sym (or_zero_l _))
-    c.by-columns2.ensures
+    c.by_columns-2.ensures
 
-pub by-two-spec : {M : Type 1} → statement M
-by-two-spec = tie.close (tie.spec (λ c κs. search rules) (λ c. search rules) (λ c κs. search rules) returns)
+pub by_two_spec : {M : Type 1} → statement M
+by_two_spec = tie.close (tie.spec (λ c κs. search rules) (λ c. search rules) (λ c κs. search rules) returns)

@@ -9,7 +9,7 @@ use Rattle.relation.specs.Representation.{rows_of_word, each_word}
 use Rattle.relation.proofs.crossed.Statement.{statement}
 use Rattle.relation.proofs.crossed.Tie as tie
 
-crossed-by-requires : tie.Need-crossed-by-requires
+crossed-by-requires : tie.Need-crossed_by-requires
 unfolding column pieces
 crossed-by-requires c κs =
     let x = c.args.x in
@@ -19,7 +19,7 @@ returns : tie.Need-returns
 unfolding column pieces
 returns c =
     let e = c.before.args in
-    c.crossed-by.ensures ∙ by_product _ e.x e.y (each_word _ (ap (λ (z : ℕ). bit_and z (column states rows_of_word)) (sym (div-one e.x))) refl refl refl)
+    c.crossed_by.ensures ∙ by_product _ e.x e.y (each_word _ (ap (λ (z : ℕ). bit_and z (column states rows_of_word)) (sym (div-one e.x))) refl refl refl)
 
-pub crossed-spec : {M : Type 1} → statement M
-crossed-spec = tie.close (tie.spec crossed-by-requires returns)
+pub crossed_spec : {M : Type 1} → statement M
+crossed_spec = tie.close (tie.spec crossed-by-requires returns)

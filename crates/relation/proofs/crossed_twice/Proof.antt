@@ -5,7 +5,7 @@ use Rattle.relation.proofs.crossed_twice.Statement.{statement}
 use Rattle.relation.proofs.crossed_twice.Tie as tie
 
 returns : tie.Need-returns
-returns c = ap₂ bit_or c.before.crossed.ensures c.crossed2.ensures
+returns c = ap₂ bit_or c.before.crossed.ensures c.crossed-2.ensures
 
-pub crossed-twice-spec : {M : Type 1} → statement M
-crossed-twice-spec = tie.close (tie.spec (λ c κs. search rules) (λ c κs. search rules) returns)
+pub crossed_twice_spec : {M : Type 1} → statement M
+crossed_twice_spec = tie.close (tie.spec (λ c κs. search rules) (λ c κs. search rules) returns)

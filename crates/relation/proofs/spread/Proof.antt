@@ -13,7 +13,7 @@ difference l r hl hr e = omega arith
 
 returns : tie.Need-returns
 unfolding spread column pieces
-returns c = difference _ _ (spread-lt states rows_of_word (omega arith) c.before.args.x) (omega arith) c.wrapping-sub-u64.ensures
+returns c = difference _ _ (spread-lt states rows_of_word (omega arith) c.before.args.x) (omega arith) c.wrapping_sub_u64.ensures
 
-pub spread-spec : {M : Type 1} → statement M
-spread-spec = tie.close (tie.spec (λ c κs. search rules) returns)
+pub spread_spec : {M : Type 1} → statement M
+spread_spec = tie.close (tie.spec (λ c κs. search rules) returns)

@@ -12,9 +12,9 @@ returns : tie.Need-returns
 unfolding union
 returns c =
     let o0 = c.before.before.before.outside in
-    let o1 = c.before.before.outside2 in
-    let o2 = c.before.outside3 in
-    let o3 = c.outside4 in
+    let o1 = c.before.before.outside-2 in
+    let o2 = c.before.outside-3 in
+    let o3 = c.outside-4 in
     let e = c.before.before.before.before.args in
     let x : ℕ → ℕ = word e.self in
     let y : ℕ → ℕ = word e.other in
@@ -24,5 +24,5 @@ returns c =
     ∙ all_same relation_words (λ k. eqb (o k) 0) (λ k. subset (x k) (y k)) (each_word _ o0.ensures o1.ensures o2.ensures o3.ensures)
     ∙ sym (contained-words e.self e.other (omega arith, omega arith, omega arith, omega arith) (omega arith, omega arith, omega arith, omega arith))
 
-pub contained-spec : {M : Type 1} → statement M
-contained-spec = tie.close (tie.spec (λ c κs. search rules) (λ c κs. search rules) (λ c κs. search rules) (λ c κs. search rules) returns)
+pub contained_spec : {M : Type 1} → statement M
+contained_spec = tie.close (tie.spec (λ c κs. search rules) (λ c κs. search rules) (λ c κs. search rules) (λ c κs. search rules) returns)

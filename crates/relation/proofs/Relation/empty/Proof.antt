@@ -8,5 +8,5 @@ returns : tie.Need-returns
 unfolding none
 returns c = c.of_words.ensures
 
-pub empty-spec : {M : Type 1} → statement M
-empty-spec = tie.close (tie.spec (λ c κs. search rules) returns)
+pub empty_spec : {M : Type 1} → statement M
+empty_spec = tie.close (tie.spec (λ c κs. search rules) returns)

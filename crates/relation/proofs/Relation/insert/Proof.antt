@@ -14,10 +14,10 @@ unfolding value pieces
 returns c =
     let s = c.before.before.before.before.before.before.before.before in
     let e = s.before.args in
-    let p = s.single.result in
+    let p = s.single-pair.result in
     sym (pieces-or word_digits relation_words (word e.self) (word p) (word_lt e.self (omega arith, omega arith, omega arith, omega arith)) (word_lt p (omega arith, omega arith, omega arith, omega arith)))
-    ∙ ap (bit_or (value e.self)) s.single.ensures
+    ∙ ap (bit_or (value e.self)) s.single-pair.ensures
     ∙ insert-or states (value e.self) e.a e.b (value-lt e.self (omega arith, omega arith, omega arith, omega arith))
 
-pub insert-spec : {M : Type 1} → statement M
-insert-spec = tie.close (tie.spec (λ c κs. search rules) returns)
+pub insert_spec : {M : Type 1} → statement M
+insert_spec = tie.close (tie.spec (λ c κs. search rules) returns)

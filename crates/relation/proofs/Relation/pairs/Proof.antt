@@ -8,17 +8,17 @@ use Rattle.relation.specs.Representation.{word_digits, relation_words, word, wor
 use Rattle.relation.proofs.Relation.pairs.Statement.{statement}
 use Rattle.relation.proofs.Relation.pairs.Tie as tie
 
-add-result : tie.Need-overflow-add-result
+add-result : tie.Need-overflow_add-result
 add-result c =
     let r = c.before.before.args.self in
     omega (arith, ones-le 64 r.w0 (omega arith), ones-le 64 r.w1 (omega arith))
 
-add-result-2 : tie.Need-overflow-add-result-2
+add-result-2 : tie.Need-overflow_add-result-2
 add-result-2 c =
     let r = c.before.before.before.args.self in
     omega (arith, ones-le 64 r.w0 (omega arith), ones-le 64 r.w1 (omega arith), ones-le 64 r.w2 (omega arith))
 
-add-result-3 : tie.Need-overflow-add-result-3
+add-result-3 : tie.Need-overflow_add-result-3
 add-result-3 c =
     let r = c.before.before.before.before.args.self in
     omega (arith, ones-le 64 r.w0 (omega arith), ones-le 64 r.w1 (omega arith), ones-le 64 r.w2 (omega arith), ones-le 64 r.w3 (omega arith))
@@ -31,5 +31,5 @@ returns c =
     omega
     (arith, ones-pieces word_digits relation_words (word r) h ∙ ones-pairs states (value r) (value-lt r (omega arith, omega arith, omega arith, omega arith)))
 
-pub pairs-spec : {M : Type 1} → statement M
-pairs-spec = tie.close (tie.spec add-result add-result-2 add-result-3 returns)
+pub pairs_spec : {M : Type 1} → statement M
+pairs_spec = tie.close (tie.spec add-result add-result-2 add-result-3 returns)

@@ -16,5 +16,5 @@ returns c =
     rejects-mask states finals r.w0 c.before.ranges.finals.fits
     ∙ rejects-word states word_digits relation_words (bit finals) (word r) (omega arith) (omega arith) (word_lt r (omega arith, omega arith, omega arith, omega arith))
 
-pub rejects-spec : {M : Type 1} → statement M
-rejects-spec = tie.close (tie.spec returns)
+pub rejects_spec : {M : Type 1} → statement M
+rejects_spec = tie.close (tie.spec returns)

@@ -37,53 +37,53 @@ module _ (v p q s t : ℕ) where
   fourth-word : v * p + (0 * q + (0 * s + (0 * t + 0))) ≡ v * p
   fourth-word = omega arith
 
-returns : tie.Need-returns
+returns : tie.Need-returns-then-from-ge-SIDE
 returns c =
     let e = c.before.before.args in
     ap value c.empty.ensures ∙ value_none ∙ single-none states e.a e.b (λ p q. omega arith)
 
-returns-2 : tie.Need-returns-2
+returns-2 : tie.Need-returns-then-to-ge-SIDE
 returns-2 c =
     let e = c.before.before.before.args in
-    ap value c.empty2.ensures ∙ value_none ∙ single-none states e.a e.b (λ p q. omega arith)
+    ap value c.empty-then-to-ge-SIDE.ensures ∙ value_none ∙ single-none states e.a e.b (λ p q. omega arith)
 
-mul-bit : tie.Need-overflow-mul-bit
+mul-bit : tie.Need-overflow_mul-bit
 mul-bit c = omega (arith, mask_lt c.before.before.args.a 2)
 
-add-bit : tie.Need-overflow-add-bit
+add-bit : tie.Need-overflow_add-bit
 add-bit c = omega (arith, mask_lt c.before.before.args.a 2)
 
-cast-bit : tie.Need-overflow-cast-bit
+cast-bit : tie.Need-overflow_cast-bit
 cast-bit c = omega (arith, mask_lt c.before.before.args.a 2)
 
-shl-bit : tie.Need-overflow-shl-bit
+shl-bit : tie.Need-overflow_shl-bit
 shl-bit c = omega (arith, mask_lt c.before.before.args.a 2)
 
-returns-3 : tie.Need-returns-3
+returns-3 : tie.Need-returns-then-from-lt4
 unfolding value pieces
 returns-3 c =
     let e = c.before.before.before.before.args in
     ap value c.of_words.ensures ∙ first_word (bit_of e.a e.b) (2 ^ 192) (2 ^ 128) (2 ^ 64) (2 ^ 0) ∙ in-word e.a e.b 0 (omega arith) (omega arith) (omega arith)
 
-returns-4 : tie.Need-returns-4
+returns-4 : tie.Need-returns-then-from-lt8
 unfolding value pieces
 returns-4 c =
     let e = c.before.before.before.before.before.args in
-    ap value c.of-words2.ensures ∙ second_word (bit_of e.a e.b) (2 ^ 192) (2 ^ 128) (2 ^ 64) (2 ^ 0) ∙ in-word e.a e.b 1 (omega arith) (omega arith) (omega arith)
+    ap value c.of_words-then-from-lt8.ensures ∙ second_word (bit_of e.a e.b) (2 ^ 192) (2 ^ 128) (2 ^ 64) (2 ^ 0) ∙ in-word e.a e.b 1 (omega arith) (omega arith) (omega arith)
 
-returns-5 : tie.Need-returns-5
+returns-5 : tie.Need-returns-then-from-lt12
 unfolding value pieces
 returns-5 c =
     let e = c.before.before.before.before.before.before.args in
-    ap value c.of-words3.ensures ∙ third-word (bit_of e.a e.b) (2 ^ 192) (2 ^ 128) (2 ^ 64) (2 ^ 0) ∙ in-word e.a e.b 2 (omega arith) (omega arith) (omega arith)
+    ap value c.of_words-then-from-lt12.ensures ∙ third-word (bit_of e.a e.b) (2 ^ 192) (2 ^ 128) (2 ^ 64) (2 ^ 0) ∙ in-word e.a e.b 2 (omega arith) (omega arith) (omega arith)
 
-returns-6 : tie.Need-returns-6
+returns-6 : tie.Need-returns
 unfolding value pieces
 returns-6 c =
     let e = c.before.before.before.before.before.before.args in
-    ap value c.of-words4.ensures ∙ fourth-word (bit_of e.a e.b) (2 ^ 192) (2 ^ 128) (2 ^ 64) (2 ^ 0) ∙ in-word e.a e.b 3 (omega arith) (omega arith) (omega arith)
+    ap value c.of_words-2.ensures ∙ fourth-word (bit_of e.a e.b) (2 ^ 192) (2 ^ 128) (2 ^ 64) (2 ^ 0) ∙ in-word e.a e.b 3 (omega arith) (omega arith) (omega arith)
 
-pub single-spec : {M : Type 1} → statement M
-single-spec =
+pub single_spec : {M : Type 1} → statement M
+single_spec =
     tie.close
     (tie.spec (λ c κs. search rules) returns (λ c κs. search rules) returns-2 mul-bit add-bit cast-bit shl-bit (λ c κs. search rules) returns-3 (λ c κs. search rules) returns-4 (λ c κs. search rules) returns-5 (λ c κs. search rules) returns-6)

@@ -7,13 +7,13 @@ use Rattle.relation.specs.StoredLaws.{piece-of-value}
 use Rattle.relation.proofs.Relation.store.Statement.{statement}
 use Rattle.relation.proofs.Relation.store.Tie as tie
 
-slice-write-table-2 : tie.Need-slice-write-table-2
+slice-write-table-2 : tie.Need-bounds-table-first-2
 slice-write-table-2 c = simp length-set (omega arith)
 
-slice-write-table-3 : tie.Need-slice-write-table-3
+slice-write-table-3 : tie.Need-bounds-table-first-3
 slice-write-table-3 c = simp length-set (omega arith)
 
-slice-write-table-4 : tie.Need-slice-write-table-4
+slice-write-table-4 : tie.Need-bounds-table-first-4
 slice-write-table-4 c = simp length-set (omega arith)
 
 returns : tie.Need-returns

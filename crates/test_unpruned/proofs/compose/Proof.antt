@@ -4,8 +4,8 @@ use Rattle.std.proofs.Common.{◌-◌, arith}
 use Rattle.test_unpruned.proofs.compose.Statement.{statement}
 use Rattle.test_unpruned.proofs.compose.Tie as tie
 
-abbrev decreases-loop : tie.decreases-loop
-decreases-loop x y relation₀ i₀ relation i = 256 - i
+abbrev decreases-loop-i : tie.decreases-loop-i
+decreases-loop-i x y relation₀ i₀ relation i = 256 - i
 
-pub compose-spec : {M : Type 1} → statement M
-compose-spec = tie.close (tie.spec (λ x y relation₀ i₀ relation i. Unit {0}) decreases-loop (λ c κs. tt) (λ c. tt) (λ c κs. tt) (λ c. omega arith) (λ c. omega arith) (λ c. tt) (λ c. tt))
+pub compose_spec : {M : Type 1} → statement M
+compose_spec = tie.close (tie.spec (λ x y relation₀ i₀ relation i. Unit {0}) decreases-loop-i (λ c κs. tt) (λ c. tt) (λ c κs. tt) (λ c. omega arith) (λ c. omega arith) (λ c. tt) (λ c. tt))

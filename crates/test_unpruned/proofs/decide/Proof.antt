@@ -4,8 +4,8 @@ use Rattle.std.proofs.Common.{◌-◌, arith}
 use Rattle.test_unpruned.proofs.decide.Statement.{statement}
 use Rattle.test_unpruned.proofs.decide.Tie as tie
 
-abbrev decreases-loop : tie.decreases-loop
-decreases-loop file found count said₀ i₀ said i = count - i
+abbrev decreases-loop-i : tie.decreases-loop-i
+decreases-loop-i file found count said₀ i₀ said i = count - i
 
-pub decide-spec : {M : Type 1} → statement M
-decide-spec = tie.close (tie.spec (λ file found count said₀ i₀ said i. Unit {0}) decreases-loop (λ c. tt) (λ c κs. tt) (λ c κs. tt) (λ c. omega arith) (λ c. omega arith) (λ c. tt) (λ c. tt))
+pub decide_spec : {M : Type 1} → statement M
+decide_spec = tie.close (tie.spec (λ file found count said₀ i₀ said i. Unit {0}) decreases-loop-i (λ c. tt) (λ c κs. tt) (λ c κs. tt) (λ c. omega arith) (λ c. omega arith) (λ c. tt) (λ c. tt))

@@ -4,8 +4,8 @@ use Rattle.std.proofs.Common.{◌-◌, arith}
 use Rattle.test_unpruned.proofs.identity.Statement.{statement}
 use Rattle.test_unpruned.proofs.identity.Tie as tie
 
-abbrev decreases-loop : tie.decreases-loop
-decreases-loop relation₀ a₀ relation a = 16 - a
+abbrev decreases-loop-a : tie.decreases-loop-a
+decreases-loop-a relation₀ a₀ relation a = 16 - a
 
-pub identity-spec : {M : Type 1} → statement M
-identity-spec = tie.close (tie.spec (λ relation₀ a₀ relation a. Unit {0}) decreases-loop (λ c κs. tt) (λ c. tt) (λ c κs. tt) (λ c. omega arith) (λ c. omega arith) (λ c. tt) (λ c. tt))
+pub identity_spec : {M : Type 1} → statement M
+identity_spec = tie.close (tie.spec (λ relation₀ a₀ relation a. Unit {0}) decreases-loop-a (λ c κs. tt) (λ c. tt) (λ c κs. tt) (λ c. omega arith) (λ c. omega arith) (λ c. tt) (λ c. tt))

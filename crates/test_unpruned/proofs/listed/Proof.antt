@@ -4,8 +4,8 @@ use Rattle.std.proofs.Common.{◌-◌, arith}
 use Rattle.test_unpruned.proofs.listed.Statement.{statement}
 use Rattle.test_unpruned.proofs.listed.Tie as tie
 
-abbrev decreases-loop : tie.decreases-loop
-decreases-loop found count pair i₀ i = count - i
+abbrev decreases-loop-i : tie.decreases-loop-i
+decreases-loop-i found count pair i₀ i = count - i
 
-pub listed-spec : {M : Type 1} → statement M
-listed-spec = tie.close (tie.spec (λ found count pair i₀ i. Unit {0}) decreases-loop (λ c. tt) (λ c κs. tt) (λ c κs. tt) (λ c. tt) (λ c. omega arith) (λ c. omega arith) (λ c. tt) (λ c. tt))
+pub listed_spec : {M : Type 1} → statement M
+listed_spec = tie.close (tie.spec (λ found count pair i₀ i. Unit {0}) decreases-loop-i (λ c. tt) (λ c κs. tt) (λ c κs. tt) (λ c. tt) (λ c. omega arith) (λ c. omega arith) (λ c. tt) (λ c. tt))

@@ -4,8 +4,8 @@ use Rattle.std.proofs.Common.{◌-◌, arith}
 use Rattle.test_unpruned.proofs.rejecting.Statement.{statement}
 use Rattle.test_unpruned.proofs.rejecting.Tie as tie
 
-abbrev decreases-loop : tie.decreases-loop
-decreases-loop file relation r₀ r = 24 - r
+abbrev decreases-loop-r : tie.decreases-loop-r
+decreases-loop-r file relation r₀ r = 24 - r
 
-pub rejecting-spec : {M : Type 1} → statement M
-rejecting-spec = tie.close (tie.spec (λ file relation r₀ r. Unit {0}) decreases-loop (λ c. tt) (λ c κs. tt) (λ c. tt) (λ c. omega arith) (λ c. omega arith) (λ c. tt) (λ c. tt))
+pub rejecting_spec : {M : Type 1} → statement M
+rejecting_spec = tie.close (tie.spec (λ file relation r₀ r. Unit {0}) decreases-loop-r (λ c. tt) (λ c κs. tt) (λ c. tt) (λ c. omega arith) (λ c. omega arith) (λ c. tt) (λ c. tt))

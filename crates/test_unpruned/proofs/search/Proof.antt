@@ -4,8 +4,8 @@ use Rattle.std.proofs.Common.{◌-◌, arith}
 use Rattle.test_unpruned.proofs.search.Statement.{statement}
 use Rattle.test_unpruned.proofs.search.Tie as tie
 
-abbrev decreases-loop : tie.decreases-loop
-decreases-loop file found₀ count₀ turn₀ found count turn = 513 - turn
+abbrev decreases-loop-turn : tie.decreases-loop-turn
+decreases-loop-turn file found₀ count₀ turn₀ found count turn = 513 - turn
 
-pub search-spec : {M : Type 1} → statement M
-search-spec = tie.close (tie.spec (λ file found₀ count₀ turn₀ found count turn. Unit {0}) decreases-loop (λ c. tt) (λ c κs. tt) (λ c. omega arith) (λ c. omega arith) (λ c. tt) (λ c. tt))
+pub search_spec : {M : Type 1} → statement M
+search_spec = tie.close (tie.spec (λ file found₀ count₀ turn₀ found count turn. Unit {0}) decreases-loop-turn (λ c. tt) (λ c κs. tt) (λ c. omega arith) (λ c. omega arith) (λ c. tt) (λ c. tt))

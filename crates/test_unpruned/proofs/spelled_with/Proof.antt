@@ -4,8 +4,8 @@ use Rattle.std.proofs.Common.{◌-◌, arith}
 use Rattle.test_unpruned.proofs.spelled_with.Statement.{statement}
 use Rattle.test_unpruned.proofs.spelled_with.Tie as tie
 
-abbrev decreases-loop : tie.decreases-loop
-decreases-loop found₀ count rule pair firsts count₀ j₀ found count' j = firsts - j
+abbrev decreases-loop-j : tie.decreases-loop-j
+decreases-loop-j found₀ count rule pair firsts count₀ j₀ found count' j = firsts - j
 
-pub spelled-with-spec : {M : Type 1} → statement M
-spelled-with-spec = tie.close (tie.spec (λ found₀ count rule pair firsts count₀ j₀ found count' j. Unit {0}) decreases-loop (λ c. tt) (λ c κs. tt) (λ c. omega arith) (λ c. omega arith) (λ c. tt) (λ c. tt))
+pub spelled_with_spec : {M : Type 1} → statement M
+spelled_with_spec = tie.close (tie.spec (λ found₀ count rule pair firsts count₀ j₀ found count' j. Unit {0}) decreases-loop-j (λ c. tt) (λ c κs. tt) (λ c. omega arith) (λ c. omega arith) (λ c. tt) (λ c. tt))

@@ -4,8 +4,8 @@ use Rattle.std.proofs.Common.{◌-◌, arith}
 use Rattle.test_unpruned.proofs.word.Statement.{statement}
 use Rattle.test_unpruned.proofs.word.Tie as tie
 
-abbrev decreases-loop : tie.decreases-loop
-decreases-loop file buffer size relation₀ i₀ relation i = size - i
+abbrev decreases-loop-i : tie.decreases-loop-i
+decreases-loop-i file buffer size relation₀ i₀ relation i = size - i
 
-pub word-spec : {M : Type 1} → statement M
-word-spec = tie.close (tie.spec (λ file buffer size relation₀ i₀ relation i. Unit {0}) decreases-loop (λ c κs. tt) (λ c. tt) (λ c κs. tt) (λ c. omega arith) (λ c. omega arith) (λ c. tt) (λ c. tt))
+pub word_spec : {M : Type 1} → statement M
+word_spec = tie.close (tie.spec (λ file buffer size relation₀ i₀ relation i. Unit {0}) decreases-loop-i (λ c κs. tt) (λ c. tt) (λ c κs. tt) (λ c. omega arith) (λ c. omega arith) (λ c. tt) (λ c. tt))

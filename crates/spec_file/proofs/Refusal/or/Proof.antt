@@ -4,11 +4,11 @@ use Rattle.spec_file.specs.RefusalLaws.{number-some, number-none}
 use Rattle.spec_file.proofs.Refusal.or.Statement.{statement}
 use Rattle.spec_file.proofs.Refusal.or.Tie as tie
 
-returns : tie.Need-returns
-returns c = sym (number-some _ _ _ c.if1.true)
+returns : tie.Need-returns-then-self-ne0
+returns c = sym (number-some _ _ _ c.if-self-ne0.true)
 
-returns-2 : tie.Need-returns-2
-returns-2 c = sym (number-none _ _ _ c.if1.false)
+returns-2 : tie.Need-returns
+returns-2 c = sym (number-none _ _ _ c.if-self-ne0.false)
 
-pub or-spec : {M : Type 1} → statement M
-or-spec = tie.close (tie.spec returns returns-2)
+pub or_spec : {M : Type 1} → statement M
+or_spec = tie.close (tie.spec returns returns-2)

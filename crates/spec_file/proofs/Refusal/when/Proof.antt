@@ -3,11 +3,11 @@ use borrow.Author.Rules.{rules}
 use Rattle.spec_file.proofs.Refusal.when.Statement.{statement}
 use Rattle.spec_file.proofs.Refusal.when.Tie as tie
 
-returns : tie.Need-returns
-returns c = rw c.if1.true
+returns : tie.Need-returns-then-holds
+returns c = rw c.if-holds.true
 
-returns-2 : tie.Need-returns-2
-returns-2 c = rw c.before.if1.false c.none.ensures
+returns-2 : tie.Need-returns
+returns-2 c = rw c.before.if-holds.false c.none.ensures
 
-pub when-spec : {M : Type 1} → statement M
-when-spec = tie.close (tie.spec returns (λ c κs. search rules) returns-2)
+pub when_spec : {M : Type 1} → statement M
+when_spec = tie.close (tie.spec returns (λ c κs. search rules) returns-2)

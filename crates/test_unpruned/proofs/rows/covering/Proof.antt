@@ -4,8 +4,8 @@ use Rattle.std.proofs.Common.{◌-◌, arith}
 use Rattle.test_unpruned.proofs.rows.covering.Statement.{statement}
 use Rattle.test_unpruned.proofs.rows.covering.Tie as tie
 
-abbrev decreases-loop : tie.decreases-loop
-decreases-loop journal used found count i₀ i = count - i
+abbrev decreases-loop-i : tie.decreases-loop-i
+decreases-loop-i journal used found count i₀ i = count - i
 
-pub covering-spec : {M : Type 1} → statement M
-covering-spec = tie.close (tie.spec (λ journal used found count i₀ i. Unit {0}) decreases-loop (λ c. tt) (λ c κs. tt) (λ c κs. tt) (λ c. tt) (λ c. omega arith) (λ c. omega arith) (λ c. tt) (λ c. tt))
+pub covering_spec : {M : Type 1} → statement M
+covering_spec = tie.close (tie.spec (λ journal used found count i₀ i. Unit {0}) decreases-loop-i (λ c. tt) (λ c κs. tt) (λ c κs. tt) (λ c. tt) (λ c. omega arith) (λ c. omega arith) (λ c. tt) (λ c. tt))

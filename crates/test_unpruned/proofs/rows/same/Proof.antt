@@ -4,8 +4,8 @@ use Rattle.std.proofs.Common.{◌-◌, arith}
 use Rattle.test_unpruned.proofs.rows.same.Statement.{statement}
 use Rattle.test_unpruned.proofs.rows.same.Tie as tie
 
-abbrev decreases-loop : tie.decreases-loop
-decreases-loop one other from end i₀ i = end - i
+abbrev decreases-loop-i : tie.decreases-loop-i
+decreases-loop-i one other from end i₀ i = end - i
 
 pub same_spec : {M : Type 1} → statement M
-same_spec = tie.close (tie.spec (λ one other from end i₀ i. Unit {0}) decreases-loop (λ c. tt) (λ c κs. tt) (λ c. tt) (λ c. omega arith) (λ c. omega arith) (λ c. tt) (λ c. tt))
+same_spec = tie.close (tie.spec (λ one other from end i₀ i. Unit {0}) decreases-loop-i (λ c. tt) (λ c κs. tt) (λ c. tt) (λ c. omega arith) (λ c. omega arith) (λ c. tt) (λ c. tt))

@@ -5,11 +5,11 @@ use Rattle.spec_calls.specs.MemberLaws.{member-beyond, member-digit}
 use Rattle.spec_calls.proofs.is_member.Statement.{statement}
 use Rattle.spec_calls.proofs.is_member.Tie as tie
 
-returns : tie.Need-returns
-returns c = member-beyond c.before.args.set c.before.args.p c.if1.true
+returns : tie.Need-returns-then-p-ge-NONTERMINALS
+returns c = member-beyond c.before.args.set c.before.args.p c.if-p-ge-NONTERMINALS.true
 
-returns-2 : tie.Need-returns-2
-returns-2 c = member-digit c.before.args.set c.before.args.p c.if1.false
+returns-2 : tie.Need-returns
+returns-2 c = member-digit c.before.args.set c.before.args.p c.if-p-ge-NONTERMINALS.false
 
-pub is-member-spec : {M : Type 1} → statement M
-is-member-spec = tie.close (tie.spec returns (λ c. search rules) (λ c. search rules) returns-2)
+pub is_member_spec : {M : Type 1} → statement M
+is_member_spec = tie.close (tie.spec returns (λ c. search rules) (λ c. search rules) returns-2)

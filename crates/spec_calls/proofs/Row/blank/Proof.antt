@@ -13,5 +13,5 @@ with r = record { head = 0; rule = 0; relation = r; left = 0; right = 0; len = 0
 returns : tie.Need-returns
 returns c = ap with c.empty.ensures
 
-pub blank-spec : {M : Type 1} → statement M
-blank-spec = tie.close (tie.spec (λ c κs. search rules) returns)
+pub blank_spec : {M : Type 1} → statement M
+blank_spec = tie.close (tie.spec (λ c κs. search rules) returns)

@@ -55,7 +55,7 @@ module _ {S : Type 0} (call : ℕ → S) where
   unfolding unfolded
   unfolded-short n [] h = refl
   unfolded-short n (p ∷ ps) h =
-      ap₂ (λ (a b : List (RuleOver S)). a ++ b) (chain-short p.head n p.body (h p (inl refl))) (unfolded-short _ ps (λ q m. h q (inr m)))
+      ap₂ (λ (a b : List (RuleOver S)). a ++ b) (chain-short p.head n p.body (h p (inl refl))) (unfolded-short (n + chains_for p) ps (λ q m. h q (inr m)))
 
 -- ---- lists of records
 

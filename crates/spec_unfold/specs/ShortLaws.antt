@@ -21,7 +21,7 @@ use Rattle.spec_records.specs.OnRecords.{precedes}
 use Rattle.spec_records.specs.Agreement.{sixteen-fits}
 use Rattle.spec_records.specs.FormLaws.{Alone, count_among, sound}
 use Rattle.spec_records.specs.RecordLaws.{precedes-first, rule-bytes}
-use Rattle.spec_unfold.specs.Chains.{RuleOver, chains_in, chain, unfolded}
+use Rattle.spec_unfold.specs.Chains.{chains_for, RuleOver, chains_in, chain, unfolded}
 use Rattle.spec_unfold.specs.Sorting.{sort}
 use Rattle.spec_unfold.specs.SortingLaws.{Ordered, sort-ordered}
 use Rattle.spec_unfold.specs.OrderLaws.{strict, rising-ordered}

@@ -43,8 +43,7 @@ loop-i-preserved c = record {
 
 pub returns : goal.returns
 returns c =
-    let e : c.loop-i.i ≡ c.args.rows = omega arith in
-    (
+    let e : c.loop-i.i ≡ c.args.rows = omega arith in (
       subst (λ (k : ℕ). c.loop-i.fit.fits ≡ all_rows_fit no_forms (map row_of c.args.journal.now) (map entry_of c.args.rules.now) k) e c.loop-i.invariant.fits,
       subst (λ (k : ℕ). c.loop-i.fit.len ≡ last_len (map row_of c.args.journal.now) k) e c.loop-i.invariant.len,
     )

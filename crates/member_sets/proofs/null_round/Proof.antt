@@ -1,6 +1,5 @@
 -- The loop's invariant: `out` is `set` with what the first i rules add. Assumes nothing.
 use mathlib.Core.Path.{sym, ◌∙◌, subst}
-use mathlib.Core.Logic.{⊎_elim}
 use mathlib.Core.List.{[]}
 use Prim.Native.Nat.{◌+◌, ◌≤◌, ◌-◌}
 use native.Mathlib.Omega.{arith}
@@ -10,6 +9,7 @@ use Rattle.spec_file.specs.Entries.{entry_of}
 use Rattle.member_laws.specs.RoundLaws.{NullUpto, null-none, null-miss, null-hit, null-all, row_in}
 use Rattle.member_sets.proofs.null_round.Statement.{statement}
 use Rattle.member_sets.proofs.null_round.Tie as tie
+use Rattle.member_sets.proofs.null_round.Lts.{then-body_in, else-body_in}
 
 abbrev invariant-loop-i : tie.invariant-loop-i
 invariant-loop-i rules set out₀ i₀ out i = (i ≤ length rules) × NullUpto rules set i out
@@ -43,10 +43,10 @@ loop-again c =
     let l = c.before.before.before.before.loop-i in
     let e = c.before.body_in.ensures in (
       omega arith,
-      ⊎_elim
-          (λ w. subst (NullUpto a.rules.now a.set (l.i + 1)) (sym (w.2 ∙ w.1.ensures)) (null-hit a.rules.now a.set l.i l.out (omega arith) l.invariant.1 (sym e ∙ w.0.taken)))
-          (λ w. subst (NullUpto a.rules.now a.set (l.i + 1)) (sym w.1) (null-miss a.rules.now a.set l.i l.out (omega arith) l.invariant.1 (sym e ∙ w.0.left)))
-          c.if-body_in.branch,
+      elim c.if-body_in.branch [
+          then-body_in w ↦ subst (NullUpto a.rules.now a.set (l.i + 1)) (sym (w.out-is ∙ w.with_one-out.ensures)) (null-hit a.rules.now a.set l.i l.out (omega arith) l.invariant.1 (sym e ∙ w.if-body_in.true))
+        | else-body_in w ↦ subst (NullUpto a.rules.now a.set (l.i + 1)) (sym w.out-is) (null-miss a.rules.now a.set l.i l.out (omega arith) l.invariant.1 (sym e ∙ w.if-body_in.false))
+      ],
     )
 
 returns : tie.Need-returns invariant-loop-i decreases-loop-i

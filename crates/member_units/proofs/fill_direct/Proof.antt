@@ -49,8 +49,8 @@ loop-again c =
     let rules = map entry_of a.rules.now in (
       omega arith,
       (
-        length-set l.direct-1 l.q c.unit_heads.result ∙ l.invariant.1.0,
-        entries_next (λ k r. UnitHeads rules a.empties (nonterminal k) r) l.direct-1 l.q c.unit_heads.result (omega arith) l.invariant.1.1
+        length-set l.direct l.q c.unit_heads.result ∙ l.invariant.1.0,
+        entries_next (λ k r. UnitHeads rules a.empties (nonterminal k) r) l.direct l.q c.unit_heads.result (omega arith) l.invariant.1.1
             (subst (λ (s : Symbol). UnitHeads rules a.empties s c.unit_heads.result) (nonterminal-byte l.q) c.unit_heads.ensures),
       ),
     )

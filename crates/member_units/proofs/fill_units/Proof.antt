@@ -41,8 +41,8 @@ loop-again c =
     let l = c.before.before.loop-q in (
       omega arith,
       (
-        length-set l.units-1 l.q c.closure.result ∙ l.invariant.1.0,
-        entries_next (λ k r. ClosureOf a.direct.now k r) l.units-1 l.q c.closure.result (omega arith) l.invariant.1.1 c.closure.ensures,
+        length-set l.units l.q c.closure.result ∙ l.invariant.1.0,
+        entries_next (λ k r. ClosureOf a.direct.now k r) l.units l.q c.closure.result (omega arith) l.invariant.1.1 c.closure.ensures,
       ),
     )
 

@@ -1,6 +1,5 @@
 -- The loop's invariant: `out` is the union of the entries below q of the set's nonterminals. Assumes nothing.
 use mathlib.Core.Path.{sym, ◌∙◌, subst}
-use mathlib.Core.Logic.{⊎_elim}
 use Prim.Native.Nat.{◌+◌, ◌≤◌, ◌-◌}
 use native.Mathlib.Omega.{arith}
 use borrow.Author.Rules.{rules}
@@ -8,6 +7,7 @@ use Rattle.member_laws.specs.ByteLaws.{among-byte}
 use Rattle.member_laws.specs.UnitLaws.{UnionBelow, union-none, union-skip, union-next, union-all}
 use Rattle.member_units.proofs.union.Statement.{statement}
 use Rattle.member_units.proofs.union.Tie as tie
+use Rattle.member_units.proofs.union.Lts.{then-among, else-among}
 
 abbrev invariant-loop-q : tie.invariant-loop-q
 invariant-loop-q entries set out₀ q₀ out q = (q ≤ 64) × UnionBelow entries set q out
@@ -42,14 +42,11 @@ loop-again c =
     let l = c.before.before.before.loop-q in
     let e = sym (c.before.among.ensures ∙ among-byte a.set l.q) in (
       omega arith,
-      ⊎_elim
-          (λ w. subst (UnionBelow a.entries.now a.set (l.q + 1)) (sym w.2) (union-next a.entries.now a.set l.q l.out-1 l.invariant.1 (e ∙ w.0.taken)))
-          (λ w. subst (UnionBelow a.entries.now a.set (l.q + 1)) (sym w.1) (union-skip a.entries.now a.set l.q l.out-1 l.invariant.1 (e ∙ w.0.left)))
-          c.if-among.branch,
+      elim c.if-among.branch [ then-among w ↦ subst (UnionBelow a.entries.now a.set (l.q + 1)) (sym w.out-is) (union-next a.entries.now a.set l.q l.out l.invariant.1 (e ∙ w.if-among.true)) | else-among w ↦ subst (UnionBelow a.entries.now a.set (l.q + 1)) (sym w.out-is) (union-skip a.entries.now a.set l.q l.out l.invariant.1 (e ∙ w.if-among.false)) ],
     )
 
 returns : tie.Need-returns invariant-loop-q decreases-loop-q
-returns c = let l = c.before.loop-q in union-all c.before.before.args.entries.now c.before.before.args.set l.q l.out-1 (omega arith) l.invariant.1
+returns c = let l = c.before.loop-q in union-all c.before.before.args.entries.now c.before.before.args.set l.q l.out (omega arith) l.invariant.1
 
 pub union_spec : {M : Type 1} → statement M
 union_spec =

@@ -1,6 +1,5 @@
 -- The loop's invariant: `out` has the heads of those of the first i rules whose body is a unit. Assumes nothing.
 use mathlib.Core.Path.{sym, ◌∙◌, subst}
-use mathlib.Core.Logic.{⊎_elim}
 use mathlib.Core.List.{[]}
 use Prim.Native.Nat.{◌+◌, ◌≤◌, ◌-◌}
 use native.Mathlib.Omega.{arith}
@@ -11,6 +10,7 @@ use Rattle.spec_file.specs.Entries.{entry_of}
 use Rattle.member_laws.specs.RoundLaws.{UnitUpto, unit-none, unit-miss, unit-hit, unit-all, row_in}
 use Rattle.member_units.proofs.unit_heads.Statement.{statement}
 use Rattle.member_units.proofs.unit_heads.Tie as tie
+use Rattle.member_units.proofs.unit_heads.Lts.{then-is_unit, else-is_unit}
 
 abbrev invariant-loop-i : tie.invariant-loop-i
 invariant-loop-i rules symbol empties out₀ i₀ out i = (i ≤ length rules) × UnitUpto rules empties (symbol_of symbol) i out
@@ -48,10 +48,7 @@ loop-again c =
     let l = c.before.before.before.before.loop-i in
     let e = c.before.is_unit.ensures in (
       omega arith,
-      ⊎_elim
-          (λ w. subst (UnitUpto rules n x (l.i + 1)) (sym (w.2 ∙ w.1.ensures)) (unit-hit rules n s.requires.1 x l.i l.out (omega arith) l.invariant.1 (sym e ∙ w.0.taken)))
-          (λ w. subst (UnitUpto rules n x (l.i + 1)) (sym w.1) (unit-miss rules n s.requires.1 x l.i l.out (omega arith) l.invariant.1 (sym e ∙ w.0.left)))
-          c.if-is_unit.branch,
+      elim c.if-is_unit.branch [ then-is_unit w ↦ subst (UnitUpto rules n x (l.i + 1)) (sym (w.out-is ∙ w.with_one-out.ensures)) (unit-hit rules n s.requires.1 x l.i l.out (omega arith) l.invariant.1 (sym e ∙ w.if-is_unit.true)) | else-is_unit w ↦ subst (UnitUpto rules n x (l.i + 1)) (sym w.out-is) (unit-miss rules n s.requires.1 x l.i l.out (omega arith) l.invariant.1 (sym e ∙ w.if-is_unit.false)) ],
     )
 
 returns : tie.Need-returns invariant-loop-i decreases-loop-i

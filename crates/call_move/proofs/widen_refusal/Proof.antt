@@ -2,7 +2,7 @@
 use mathlib.Core.Path.{ap, ◌∙◌}
 use borrow.Author.Rules.{rules}
 use Rattle.spec_file.specs.Answers.{refusal_of}
-use Rattle.spec_file.specs.RefusalLaws.{said_or}
+use Rattle.spec_file.proofs.RefusalLaws.{said_or}
 use Rattle.spec_unfold.specs.Moving.{widened}
 use Rattle.call_move.specs.CallLaws.{room-test}
 use Rattle.call_move.specs.FrontLaws.{widened-length}

@@ -5,7 +5,7 @@ use Prim.Native.Nat.{◌-◌, ◌≤◌, ◌<◌}
 use native.Mathlib.Omega.{arith}
 use borrow.Author.Rules.{rules}
 use Rattle.spec_file.specs.Limits.{nonterminals}
-use Rattle.spec_unfold.specs.StartLaws.{above-none, above_in, above-out}
+use Rattle.spec_unfold.proofs.StartLaws.{above-none, above_in, above-out}
 use Rattle.spec_unfold.specs.Unfolding.{above_members}
 use Rattle.call_unfold.proofs.least_for.Statement.{statement}
 use Rattle.call_unfold.proofs.least_for.Tie as tie

@@ -6,7 +6,7 @@ use lib.Dec.{ltb}
 use borrow.Author.Rules.{rules}
 use Rattle.spec_file.specs.Answers.{refusal_of}
 use Rattle.spec_file.specs.Refusals.{refuse}
-use Rattle.spec_file.specs.RefusalLaws.{said_or, first-last}
+use Rattle.spec_file.proofs.RefusalLaws.{said_or, first-last}
 use Rattle.unfold_count.specs.declared.Needed.{Needed}
 use Rattle.call_unfold.specs.Results.{needs_more, needed_bytes}
 use Rattle.call_unfold.proofs.refusal_for.Statement.{statement}

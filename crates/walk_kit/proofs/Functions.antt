@@ -16,7 +16,7 @@ use base.Logic.{SProp, ent, sep, via, fst∗}
 use prog.Memory.{Memory}
 use prog.Wp.{Heap, Tables, Closed, WpFn}
 use prog.Model.{Model}
-use prog.Routine.{Name, Env, Routine}
+use prog.Routine.{Callee as Name, Env, Routine}
 use types.Logic.{Logic}
 use contract.Lifetimes.{Lfts, Shares, AllOutlive, Outlives}
 use contract.Monad.{Fun}
@@ -58,7 +58,7 @@ pub record Callee : Type 3 where
 
 abbrev pub callee : (T : Ended) (c : (M : Type 1) (𝓤 : Ura M) (𝓛 : Logic 𝓤) → (Memory → SProp 𝓤) → (Routine → Fun 𝓤) → Clauses 𝓤 T) → Name → (r : Routine)
     → ((M : Type 1) (𝓤 : Ura M) (𝓛 : Logic 𝓤) (𝓜 : Model 𝓤 𝓛.H) (𝓡 : Running 𝓤 𝓛.H 𝓜) → Triple 𝓤 (𝓡.run r) (Called 𝓛 T (c M 𝓤 𝓛 𝓜.mem 𝓡.run))) → Callee
-callee T c k r met = record { ended = T; clauses = λ {M}. c M; name = k; routine = r; met = λ {M}. met M }
+callee T c k r met = record { ended = T; clauses = λ {M} {𝓤}. c M 𝓤; name = k; routine = r; met = λ {M} {𝓤}. met M 𝓤 }
 
 module _ {M : Type 1} {𝓤 : Ura M} (𝓛 : Logic 𝓤) (mem : Memory → SProp 𝓤) (run : Routine → Fun 𝓤) (𝓣 : Tables 𝓤 𝓛.H) where
   abbrev pub Knows : List Callee → Type 1

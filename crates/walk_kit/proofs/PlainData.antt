@@ -56,7 +56,7 @@ pub record Value : Type 2 where
   pub it : type.Denot
   pub machine : Val
   -- what it owns is had for nothing
-  pub free : {M : Type 1} {𝓤 : Ura M} (𝓛 : Logic 𝓤) → ent 𝓤 (emp 𝓤) (sem 𝓛 (type.own it (machine ∷ [])))
+  pub free : {M : Type 1} {𝓤 : Ura M} (𝓛 : Logic 𝓤) → ent 𝓤 (emp 𝓤) (sem 𝓛 (type.own_val it (machine ∷ [])))
 
 -- a value of a declared type
 abbrev pub value : (D : Data) (x : (Row D).Denot) → Means D x → Value

@@ -1,6 +1,7 @@
 -- A call as one step of a walk, for a callee that takes slices and after them plain data, and whose `requires` and `ensures` are facts. What the walk holds of the slices stands first, and stands there again afterwards.
 --     Hand             a slice that is handed over: lent on as a `&mut [T]` (`again`) or as a `&[T]` (`seen`), where the walk holds a `&mut [T]`, or copied, where it holds a `&[T]` (`copied`)
---     Names            the lifetime and the name that are made for each.        Lasts     what the callee says of each at the end
+--     Law              what that takes of the slice's type. Plain data has it (`PlainData.antt`)
+--     Names            the lifetime and the name that are made for each. A `&[T]` has no name, and the one here says nothing.        Lasts     what the callee says of each at the end
 --     Holding, After   what the walk holds before the call, and after it
 --     calls-handing    the call.        calls-handing-last     where it is the last statement of its part
 -- Definitions assume nothing; the steps assume `Logic`.
@@ -43,7 +44,7 @@ pub data Mode : Type 0 where
   seen : Mode
   copied : Mode
 
--- what handing it over takes of its type: a `&[T]` of a `&mut [T]` that it holds no `&mut`, and a copy of a `&[T]` that what a `&` to an element holds can be had twice
+-- what this takes of the type: to lend a `&[T]`, that it holds no `&mut`, and to copy one, that what a `&` to an element holds can be had twice
 abbrev pub Law : Mode → RattleType → Type 2
 Law again R = Unit
 Law seen R = (M : Type 1) (𝓤 : Ura M) (𝓛 : Logic 𝓤) → SharesLaw 𝓛 R []

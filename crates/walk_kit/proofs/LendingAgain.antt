@@ -1,6 +1,6 @@
 -- A `&mut [T]` that a walk holds (`Loans.antt`) is lent on for a call: as a `&mut [T]`, which comes back at the last list that the callee says,
 -- or as a `&[T]`, which comes back as it was.
---     passed_on L ν δ      what the callee is lent: the same elements, for the lifetime ν that is made for the call, under a name δ of its own
+--     passed_on L ν δ      what the callee is lent: the same elements, for the lifetime ν that is made for the call, under a name δ of its own. A `&[T]` has no name, so there δ is L's
 --     Keeping              what the holder keeps meanwhile: the lender's part at ν, its own borrow, open, and both halves of its name
 --     Kept, KeptSeen       that, for either loan
 --     passes_on, comes_back, shows-on, seen_back       the loan, and its end
@@ -78,7 +78,7 @@ module _ {M : Type 1} {𝓤 : Ura M} {𝓛 : Logic 𝓤} {K : Type 0} {Γ : List
       pure_i t (mut_slice_at R (ref R L zs) (mut_slice_vals (ref R L zs))) (tt, (tt, tt)) (refl, subst (Room R) (sym e) p) $ fjoin t $ fjoin t $ k e))
 
 module _ {M : Type 1} {𝓤 : Ura M} {𝓛 : Logic 𝓤} {K : Type 0} {Γ : List (Item 𝓤)} {G : Goal 𝓤 𝓛.H} where
-  -- the type holds no `&mut`, so the token of the lifetime that is made is all that sharing the elements takes (`denote.Shares`)
+  -- the type holds no `&mut`, so sharing its elements takes no token but that of the lifetime that is made (`denote.Shares`). `PlainData.sharable` is it at plain data
   pub shows-on : K → Soaks G → (R : RattleType) → Shares 𝓛 R [] → (L : Loan) (ys : List R.Denot) → ((ν : ℕ) → Seq K 𝓛 (‵ (Shared R (passed_on L ν L.label) ys) ∷ ‵ (KeptSeen R L ν ys) ∷ Γ) G) → Seq K 𝓛 (‵ (Lent R L ys) ∷ Γ) G
   shows-on t z R shared L ys k =
       let b = L.block in

@@ -14,11 +14,10 @@ use seplogic.Ra.Ura.{Ura}
 use base.Fraction.{full_share}
 use mir.Syntax.{named}
 use mir.Val.{Val}
-use base.Logic.{ent, sep, ex}
-use base.Fml.{Lft, GName, Share, Fml, fsep, fobs, fauth, fobor, flent, flft, fdead}
+use base.Fml.{Lft, GName, Share, Fml, fsep, fobs, fauth, fobor, flent, flft}
 use types.Logic.{Logic}
 use contract.Lifetimes.{lft_at}
-use types.Kit.{Goal, Soaks, Item, Seq, Step, step, ‵, ◌⊛◌, some, given, later, mean, ◌$◌, ◌∵◌, !, qed, move, drop, use1, use3, split, join, pick, learn, rewrite, fsplit, fjoin, fjoin3, feq_l, feq_i, await, updating, now as at_once, check, show, frame, done}
+use types.Kit.{Goal, Soaks, Item, Seq, Step, step, ‵, ◌⊛◌, some, later, ◌$◌, move, drop, use1, use3, split, pick, rewrite, fsplit, fjoin, fjoin3, feq_l, feq_i, await}
 use types.Mut.{open_ref, close_ref}
 use types.SemTy.{cells, Arr, Body}
 use types.Share.{arr_parts}
@@ -31,9 +30,9 @@ use denote.Lend.{Held, lends_slice, slice_back}
 use denote.Memory.{mem, shares}
 use denote.RattleType.{RattleType}
 use denote.Ref.{MutBor, MutRef, mut_vals, at_last, mut_Tells, mut_Lawful}
-use denote.Signature.{Slot, AllWithin, plain, mut_ref_to}
+use denote.Signature.{Slot, AllWithin, mut_ref_to}
 use denote.Slice.{slice_val, MutSlice, Room, finally}
-use denote.Triple.Walked.{Stay, Goes, stay_ref, gave_ref, Goes-ref, Goes-gave_ref}
+use denote.Triple.Walked.{stay_ref, gave_ref, Goes-ref, Goes-gave_ref}
 use Rattle.walk_kit.proofs.Parameters.{Param}
 use Rattle.walk_kit.proofs.Tokens.{tok}
 

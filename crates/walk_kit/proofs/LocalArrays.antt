@@ -220,7 +220,7 @@ module _ {M : Type 1} {𝓤 : Ura M} (𝓛 : Logic 𝓤) (R : RattleType) where
       rewrite ! 1 (λ (n : ℕ). ‵ (all rest b (place (mem R).size zero n))) (sym l) refl $ use2 𝓛 (‵ (all (zs ++ rest) b zero)) (together zs rest b zero) $
       rewrite ! 0 (λ (us : List R.Denot). ‵ (all us b zero)) e refl $ at_once ! $ check ! l $ done !)
 
-  -- the type holds no `&mut`, so the token of the lifetime that is made is all that sharing takes (`denote.Shares`)
+  -- the type holds no `&mut`, so sharing its elements takes no token but that of the lifetime that is made (`denote.Shares`). `PlainData.sharable` is it at plain data
   shares_out : Shares 𝓛 R [] → (xs ys rest : List R.Denot) → ys ++ rest ≡ xs → (m : ℕ) → length ys ≡ m → Room R m → (b : ℕ)
       → ent 𝓤 ⟦ Elements R xs b ⟧ (H.⇛ (ex 𝓤 (λ (ν : ℕ). mean 𝓛 (OutShared m ys b ν) ∗ ⟦ Shared R ν ys rest b ⟧)))
   unfolding Elements Shared

@@ -13,7 +13,7 @@ use seplogic.Ra.Ura.{Ura}
 use mir.Syntax.{Callee, Place, Opd as Operand, Body, seq, call, named}
 use mir.Val.{Val}
 use base.Logic.{ent, sep, emp, via, comm∗, emp∗, mono∗}
-use base.Fml.{GName, Fml, ftrue, fsep, feq, flft}
+use base.Fml.{GName, Fml, ftrue, fsep, flft}
 use prog.Wp.{Env, Calls, Loops}
 use types.Logic.{Logic, sem}
 use sound.WpLaws.{FmC}
@@ -26,7 +26,7 @@ use denote.Laws.{Is, Tells}
 use denote.Bor.{Bor}
 use denote.MutBor.{MutBor}
 use denote.Shares.{Shares as SharesLaw}
-use denote.Slice.{slice_val, MutSlice, ShrSlice, finally}
+use denote.Slice.{slice_val, MutSlice, ShrSlice}
 use denote.Steps.{nothing}
 use denote.Triple.Bound.{Bound}
 use denote.Triple.Clauses.{Ended, Clauses, Lasts as LastsOf, at_exit, lasts}
@@ -36,7 +36,7 @@ use Rattle.walk_kit.proofs.CallStep.{Called, Result, After as AfterCall, calls-l
 use Rattle.walk_kit.proofs.CallPlain.{past_head}
 use Rattle.walk_kit.proofs.PlainData.{Value, types_of, values_of, machine-of, values-owned}
 use Rattle.walk_kit.proofs.Loans.{Loan, Lent, ref}
-use Rattle.walk_kit.proofs.LendingAgain.{passed_on, Kept, KeptSeen, passes_on, comes_back, shows-on, seen_back}
+use Rattle.walk_kit.proofs.LendingAgain.{passed_on, Kept, KeptSeen, Left, passes_on, comes_back, shows-on, seen_back}
 use Rattle.walk_kit.proofs.Sharing.{Sees, Shared, copies, shown}
 
 pub data Mode : Type 0 where
@@ -98,10 +98,10 @@ Last again R = List R.Denot
 Last seen R = Unit
 Last copied R = Unit
 
-abbrev Says : (m : Mode) (R : RattleType) → ℕ × GName → List R.Denot → Last m R → Fml
-Says again R c ys zs = fsep (finally R c.1 zs) (feq ℕ (length zs) (length ys))
-Says seen R c ys zs = ftrue
-Says copied R c ys zs = ftrue
+abbrev Says : (m : Mode) (R : RattleType) → Loan → ℕ × GName → List R.Denot → Last m R → Fml
+Says again R L c ys zs = Left R (passed_on L c.0 c.1) ys zs
+Says seen R L c ys zs = ftrue
+Says copied R L c ys zs = ftrue
 
 abbrev last : (m : Mode) (R : RattleType) → List R.Denot → Last m R → List R.Denot
 last again R ys zs = zs
@@ -116,7 +116,7 @@ module _ {M : Type 1} {𝓤 : Ura M} {𝓛 : Logic 𝓤} {K : Type 0} {Γ : List
   hands t z copied R w L ys e k = copies t R w L ys $ fsplit t $ rewrite t 0 (λ (n : ℕ). ‵ (Has copied R L ys n)) e refl $ k (0, L.label)
 
   back : K → Soaks G → (m : Mode) (R : RattleType) (L : Loan) (c : ℕ × GName) (ys : List R.Denot) (zs : Last m R) → (length (last m R ys zs) ≡ length ys → Seq K 𝓛 (‵ (Held m R L (last m R ys zs)) ∷ Γ) G)
-      → Seq K 𝓛 (‵ (flft (to-callee m L c).lifetime (to-callee m L c).share) ∷ ‵ (Says m R c ys zs) ∷ ‵ (Keeps m R L c ys) ∷ Γ) G
+      → Seq K 𝓛 (‵ (flft (to-callee m L c).lifetime (to-callee m L c).share) ∷ ‵ (Says m R L c ys zs) ∷ ‵ (Keeps m R L c ys) ∷ Γ) G
   back t z again R L c ys zs k = comes_back t z R L ys zs k
   back t z seen R L c ys zs k = move t (1 ∷ []) $ drop t $ seen_back t z R L ys $ k refl
   back t z copied R L c ys zs k = move t (1 ∷ []) $ drop t $ move t (1 ∷ 0 ∷ []) $ fjoin t $ k refl
@@ -146,7 +146,7 @@ Keepings (h ∷ hs) cs = fsep (Keeps h.mode h.type h.loan cs.0 h.elements) (Keep
 -- with what is said of the plain data
 abbrev Sayings : (hs : List Hand) → Names hs → Lasts hs → Fml → Fml
 Sayings [] cs zs P = P
-Sayings (h ∷ hs) cs zs P = fsep (Says h.mode h.type cs.0 h.elements zs.0) (Sayings hs cs.1 zs.1 P)
+Sayings (h ∷ hs) cs zs P = fsep (Says h.mode h.type h.loan cs.0 h.elements zs.0) (Sayings hs cs.1 zs.1 P)
 
 abbrev pub Holding : {M : Type 1} {𝓤 : Ura M} → List Hand → List (Item 𝓤) → List (Item 𝓤)
 Holding [] Γ = Γ

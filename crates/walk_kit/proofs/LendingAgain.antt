@@ -3,6 +3,7 @@
 --     passed_on L ν δ      what the callee is lent: the same elements, for the lifetime ν that is made for the call, under a name δ of its own. A `&[T]` has no name, so there δ is L's
 --     Keeping              what the holder keeps meanwhile: the lender's part at ν, its own borrow, open, and both halves of its name
 --     Kept, KeptSeen       that, for either loan
+--     Left                 what the callee leaves of a `&mut [T]`
 --     passes_on, comes_back, shows-on, seen_back       the loan, and its end
 -- Assumes `Logic`.
 use mathlib.Core.Path.{◌≡◌, refl, sym, ap, subst}
@@ -25,6 +26,7 @@ use types.Run.{init, stop, hop, fld, from, addr, and_then, no_more}
 use types.SemTy.{cells, Arr}
 use types.Share.{arr_parts}
 use types.Tokens.{lft_new, lft_end, lent_back}
+use denote.Exit.{left, yes}
 use denote.RattleType.{RattleType}
 use denote.Shadow.{pure_l, pure_i}
 use denote.Memory.{mem, shares}
@@ -47,6 +49,10 @@ Keeping R L ν lent ys = fsep (room R (length ys)) (fsep (flent (ν ∷ []) lent
 abbrev pub Kept : (R : RattleType) → Loan → ℕ → GName → List R.Denot → Fml
 Kept R L ν δ ys = Keeping R L ν (Held R (length ys) L.block L.start δ) ys
 
+-- what a callee leaves of a slice that it was lent at ys, and that it left at zs: the last list, and the borrow, closed
+abbrev pub Left : (R : RattleType) → Loan → List R.Denot → List R.Denot → Fml
+Left R L ys zs = left ((MutSlice (named 0) L.lifetime R).exit yes) (ref R L ys) zs
+
 -- all elements, shared out
 abbrev Seen : (R : RattleType) → Loan → List R.Denot → Fml
 Seen R L ys = (arr_parts (shares R) (length ys)).part full_share ys L.block L.start
@@ -66,13 +72,13 @@ module _ {M : Type 1} {𝓤 : Ura M} {𝓛 : Logic 𝓤} {K : Type 0} {Γ : List
       -- [the new slice; the lender's part; the token; the open borrow; obs; auth]
       move t (4 ∷ 5 ∷ []) $ fjoin t $ move t (4 ∷ 0 ∷ []) $ fjoin t $ move t (2 ∷ 0 ∷ []) $ fjoin t $ pure_i t (room R (length ys)) (tt, tt) p.1 $ fjoin t $ move t (1 ∷ 2 ∷ []) $ fjoin t $ k ν δ)))
 
-  -- what the callee's `post` says of the last list stands between the token and what was kept
+  -- what the callee's `post` leaves of the slice stands between the token and what was kept
   pub comes_back : K → Soaks G → (R : RattleType) (L : Loan) {ν : ℕ} {δ : GName} (ys zs : List R.Denot) → (length zs ≡ length ys → Seq K 𝓛 (‵ (Lent R L zs) ∷ Γ) G)
-      → Seq K 𝓛 (tok ν ∷ ‵ (fsep (finally R δ zs) (feq ℕ (length zs) (length ys))) ∷ ‵ (Kept R L ν δ ys) ∷ Γ) G
+      → Seq K 𝓛 (tok ν ∷ ‵ (Left R (passed_on L ν δ) ys zs) ∷ ‵ (Kept R L ν δ ys) ∷ Γ) G
   comes_back t z R L {ν} {δ} ys zs k =
       let b = L.block in
       let o = L.start in
-      lft_end t z $ move t (1 ∷ []) $ fsplit t $ move t (1 ∷ []) $ feq_l t (λ e. move t (2 ∷ []) $ fsplit t $ pure_l t (room R (length ys)) (λ p. fsplit t $ move t (3 ∷ 0 ∷ 2 ∷ []) $
+      lft_end t z $ move t (1 ∷ []) $ fsplit t $ move t (1 ∷ []) $ drop t $ fsplit t $ move t (1 ∷ []) $ feq_l t (λ e. move t (2 ∷ []) $ fsplit t $ pure_l t (room R (length ys)) (λ p. fsplit t $ move t (3 ∷ 0 ∷ 2 ∷ []) $
       use3 𝓛 (later (‵ ((Arr (mem R) (length ys)).own_at zs b o))) (slice_back 𝓛 R (ν ∷ []) δ zs (length ys) b o) $ await t z $ fsplit t $ drop t $ use1 𝓛 (‵ (row R full_share zs b o)) (whole_out 𝓛 R zs b o) $
       move t (1 ∷ []) $ fsplit t $ move t (1 ∷ []) $ fsplit t $ move t (3 ∷ 2 ∷ 0 ∷ 1 ∷ []) $ closes_slice t z R ys zs e b o $ fjoin t $
       pure_i t (mut_slice_at R (ref R L zs) (mut_slice_vals (ref R L zs))) (tt, (tt, tt)) (refl, subst (Room R) (sym e) p) $ fjoin t $ fjoin t $ k e))

@@ -15,7 +15,7 @@ use seplogic.Ra.Ura.{Ura}
 use base.Fraction.{full_share}
 use mir.Syntax.{Ty, Lifetime, Mutability, named, ty_ref, deref, field, place, copy, addr_of, aggregate, Body, seq, assign}
 use mir.Val.{vptr, has_ty}
-use base.Fml.{GName, Fml, fsep, feq, fat, froom, flft, fobs, fauth, flent, fobor}
+use base.Fml.{GName, Fml, fsep, fat, froom, flft, fobs, fauth, flent, fobor}
 use prog.Memory.{field_of}
 use prog.Wp.{Env, Calls, Loops, spot_of}
 use types.Logic.{Logic}
@@ -31,7 +31,7 @@ use denote.RattleType.{RattleType}
 use denote.Shadow.{pure_l, pure_i}
 use denote.Memory.{mem, shares}
 use denote.Shares.{Shares}
-use denote.Slice.{slice_ty, slice_val, MutSlice, Room, room, finally, heres, coded_holeys, mut_slice_at, mut_slice_vals}
+use denote.Slice.{slice_ty, slice_val, MutSlice, Room, room, heres, coded_holeys, mut_slice_at, mut_slice_vals}
 use denote.Lend.{Held, lends_slice, slice_back, lends_shr_slice}
 use denote.Index.{row, whole_out, whole_in, opens_slice, closes_slice}
 use Rattle.walk_kit.proofs.Locals.{its, reads-field, field-of, sets}

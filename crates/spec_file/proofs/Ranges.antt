@@ -35,17 +35,14 @@ rule-range r a k =
     let n = byte r 2 in
     let H = leb nonterminals (byte r 1) in
     let N = ltb 2 n in
-    let S = leb symbol_bytes (byte r 3) in
-    let T = leb symbol_bytes (byte r 4) in
-    let A = (H || N) || ((ltb 0 n && S) || (ltb 1 n && T)) in
-    let used = guarded (eqb (byte r 0) rule_kind) A (eq-eqb (byte r 0) rule_kind k) (or-neither (eqb (byte r 0) rule_kind && A) _ a).0 in
-    let both = or-neither (H || N) ((ltb 0 n && S) || (ltb 1 n && T)) used in
+    let used = guarded (eqb (byte r 0) rule_kind) _ (eq-eqb (byte r 0) rule_kind k) (or-neither _ _ a).0 in
+    let both = or-neither (H || N) _ used in
     let front = or-neither H N both.0 in
-    let symbols = or-neither (ltb 0 n && S) (ltb 1 n && T) both.1 in record {
+    let symbols = or-neither _ _ both.1 in record {
       head = leb-false nonterminals (byte r 1) front.0;
       size = ltb-false 2 n front.1;
-      first = λ h. leb-false symbol_bytes (byte r 3) (guarded (ltb 0 n) S (lt-ltb 0 n h) symbols.0);
-      second = λ h. leb-false symbol_bytes (byte r 4) (guarded (ltb 1 n) T (lt-ltb 1 n h) symbols.1);
+      first = λ h. leb-false symbol_bytes (byte r 3) (guarded (ltb 0 n) _ (lt-ltb 0 n h) symbols.0);
+      second = λ h. leb-false symbol_bytes (byte r 4) (guarded (ltb 1 n) _ (lt-ltb 1 n h) symbols.1);
     }
 
 module _ (bs : List ℕ) (v : (fault bs).number ≡ 0) where

@@ -1,6 +1,6 @@
 -- What the records of a file that is not refused pass, that the states of its automaton are states, and that none of its transitions is on
 -- a remark. Assumes nothing.
-use Rattle.std.specs.Prelude.{◌≡◌, refl, Bool, true, false, ◌&&◌, ◌||◌, List, ℕ, zero, suc, ◌+◌, ◌%◌, ◌≤◌, ◌<◌, eqb, leb, ltb, length}
+use Rattle.std.specs.Prelude.{◌≡◌, refl, Bool, true, false, ◌&&◌, ◌||◌, List, ℕ, zero, suc, ◌+◌, ◌%◌, ◌≤◌, ◌<◌, eqb, leb, length}
 use Rattle.std.proofs.Common.{sym, ap, ◌∙◌, inl, inr, le_refl, not-suc-le-zero, le_of_suc-le-suc, arith, eqb-true, eq-eqb, leb-false, ltb-false}
 use Rattle.std.proofs.Math.Path.{subst}
 use Rattle.std.proofs.lemmas.Bool.{not-false}
@@ -10,7 +10,7 @@ use Rattle.relation.specs.Relation.{states}
 use Rattle.spec_language.specs.Remarks.{first_remark, is_remark}
 use Rattle.spec_language.proofs.RemarkLaws.{below-remarks}
 use Rattle.spec_language.specs.Automaton.{Transition, Within}
-use Rattle.spec_file.specs.Limits.{record_limit, terminals, nonterminals, symbol_bytes}
+use Rattle.spec_file.specs.Limits.{record_limit, terminals}
 use Rattle.spec_file.specs.Records.{record_count, record_at, byte, kind_at, rule_kind, transition_kind, final_kind, count_of}
 use Rattle.spec_file.specs.Forms.{eight}
 use Rattle.spec_file.specs.Refusals.{refuse, kind_known, above_range, above_range_in, stray_byte, exceeds, on_remark, over_limit, record_tests, length_tests_in, length_fault, length_fault_in, fault_by_in, fault_at, fault_at_in, or_next, fault_from, fault_from_in, fault, fault_in}
@@ -86,9 +86,8 @@ collect-at {A} k g bs x (suc m) i h = by (eqb (kind_at bs i) k) refl h (collect-
 pub transition-range : (r : List ℕ) → above_range r ≡ false → byte r 0 ≡ transition_kind → (byte r 1 < states) × (byte r 2 < terminals) × (byte r 3 < states)
 unfolding above_range_in
 transition-range r a k =
-    let P = eqb (byte r 0) rule_kind && ((leb nonterminals (byte r 1) || ltb 2 (byte r 2)) || ((ltb 0 (byte r 2) && leb symbol_bytes (byte r 3)) || (ltb 1 (byte r 2) && leb symbol_bytes (byte r 4)))) in
     let T = (leb states (byte r 1) || leb terminals (byte r 2)) || leb states (byte r 3) in
-    let p = (or-neither P ((eqb (byte r 0) transition_kind && T) || (eqb (byte r 0) final_kind && leb states (byte r 1))) a).1 in
+    let p = (or-neither _ ((eqb (byte r 0) transition_kind && T) || (eqb (byte r 0) final_kind && leb states (byte r 1))) a).1 in
     let q = (or-neither (eqb (byte r 0) transition_kind && T) (eqb (byte r 0) final_kind && leb states (byte r 1)) p).0 in
     let s : T ≡ false = sym (ap (λ (b : Bool). b && T) (eq-eqb (byte r 0) transition_kind k)) ∙ q in
     let u = or-neither (leb states (byte r 1) || leb terminals (byte r 2)) (leb states (byte r 3)) s in
@@ -98,10 +97,9 @@ transition-range r a k =
 pub final-range : (r : List ℕ) → above_range r ≡ false → byte r 0 ≡ final_kind → byte r 1 < states
 unfolding above_range_in
 final-range r a k =
-    let P = eqb (byte r 0) rule_kind && ((leb nonterminals (byte r 1) || ltb 2 (byte r 2)) || ((ltb 0 (byte r 2) && leb symbol_bytes (byte r 3)) || (ltb 1 (byte r 2) && leb symbol_bytes (byte r 4)))) in
     let T = eqb (byte r 0) transition_kind && ((leb states (byte r 1) || leb terminals (byte r 2)) || leb states (byte r 3)) in
     let F = eqb (byte r 0) final_kind && leb states (byte r 1) in
-    let q = (or-neither T F (or-neither P (T || F) a).1).1 in
+    let q = (or-neither T F (or-neither _ (T || F) a).1).1 in
     leb-false states (byte r 1) (sym (ap (λ (b : Bool). b && leb states (byte r 1)) (eq-eqb (byte r 0) final_kind k)) ∙ q)
 
 -- check 12

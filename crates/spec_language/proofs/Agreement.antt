@@ -23,7 +23,8 @@ module _ (rules : List Production) (D : ℕ → List ℕ → Type 0) (each : (p 
       let first : Steps rules (s ∷ ss) (map terminal u ++ ss) = inside rules [] ss (sym-steps s u r.3) in
       let rest : Steps rules (map terminal u ++ (ss ++ [])) (map terminal u ++ (map terminal v ++ [])) = inside rules (map terminal u) [] (spell-steps ss v r.4) in
       let rest' : Steps rules (map terminal u ++ ss) (map terminal u ++ map terminal v) = rw (append-nil ss, append-nil (map terminal v)) at rest in
-      rw (r.2, map-append terminal u v) (trans rules first rest')
+      subst (λ (x : List ℕ). Steps rules (s ∷ ss) (map terminal x)) (sym r.2)
+      (subst (λ (x : List Symbol). Steps rules (s ∷ ss) x) (sym (map-append terminal u v)) (trans rules first rest'))
 
 pub within-steps : (rules : List Production) (h p : ℕ) (w : List ℕ) → DerivesWithin rules h p w → Language rules p w
 within-steps rules zero p w d = absurd d

@@ -1,7 +1,7 @@
 -- A pair of a word's relation is a path on the word (demand 2), and the relation of a word put together from two is the composition
 -- (document 000, Lemma 2). Assumes nothing.
 use Rattle.std.specs.Prelude.{◌≡◌, refl, true, false, ◌&&◌, cond, eqb}
-use Rattle.std.proofs.Common.{sym, ap, ◌∙◌, subst}
+use Rattle.std.proofs.Common.{sym, ap, ◌∙◌, subst, arith}
 use Rattle.std.proofs.Math.Bool.{Bool}
 use mathlib.Core.List.{List, [], ◌∷◌, ◌++◌}
 use Prim.Native.Nat.{ℕ, ◌*◌, ◌^◌, ◌<◌}
@@ -19,16 +19,16 @@ use Rattle.spec_language.specs.WordRelation.{moves, letter_relation, word_relati
 
 pub word_relation-lt : (n : ℕ) (ts : List Transition) (w : List ℕ) → word_relation n ts w < 2 ^ (n * n)
 unfolding word_relation
-word_relation-lt n ts [] = identity-lt n
-word_relation-lt n ts (c ∷ w) = compose-lt n (letter_relation n ts c) (word_relation n ts w)
+word_relation-lt n ts [] = omega (arith, identity-lt n)
+word_relation-lt n ts (c ∷ w) = compose-lt n _ _
 
 pub letter_relation-lt : (n : ℕ) (ts : List Transition) (c : ℕ) → letter_relation n ts c < 2 ^ (n * n)
 unfolding letter_relation
-letter_relation-lt n ts c = by (is_remark c)
+letter_relation-lt n ts c = by (is_remark c) _ (omega (arith, identity-lt n))
   where
-    by : (r : Bool) → cond r (identity n) (table n (moves ts c)) < 2 ^ (n * n)
-    by true = identity-lt n
-    by false = table-lt n (moves ts c)
+    by : (r : Bool) (x : ℕ) → x < 2 ^ (n * n) → cond r x (table n (moves ts c)) < 2 ^ (n * n)
+    by true x l = l
+    by false x l = table-lt n (moves ts c)
 
 -- a remark has the relation of the empty word, and any other terminal that of its transitions
 pub letter_relation-remark : (n : ℕ) (ts : List Transition) (c : ℕ) → is_remark c ≡ true → letter_relation n ts c ≡ identity n
@@ -60,7 +60,7 @@ word_relation-none n ts = refl
 pub moves-in : (ts : List Transition) (c a b : ℕ) → moves ts c a b ≡ true → Moves ts a c b
 unfolding moves
 moves-in ts c a b h =
-    let r = any_of (λ (m : Transition). (eqb m.source a && eqb m.letter c) && eqb m.target b) ts h in
+    let r = any_of _ ts h in
     let m : Transition = r.0 in
     let p : (eqb m.source a && eqb m.letter c) ≡ true = and-fst (eqb m.source a && eqb m.letter c) (eqb m.target b) r.2 in
     let same : m ≡ record { source = a; letter = c; target = b } =

@@ -12,7 +12,7 @@ module _ (ps : List Production) where
 
   -- a production, used on its nonterminal alone
   pub once : (p : Production) → In p ps → Steps ps (nonterminal p.head ∷ []) p.symbols
-  once p h = more (record { before = []; after = []; rule = p; listed = h; old = refl; new = sym (append-nil p.symbols) }) done
+  once p h = more (record { before = []; after = []; rule = p; listed = h; old = refl; new = let e = append-nil p.symbols in cc }) done
 
   in_step : (π ω : List Symbol) {α β : List Symbol} → Step ps α β → Step ps (π ++ (α ++ ω)) (π ++ (β ++ ω))
   in_step π ω {α} {β} s =
@@ -21,7 +21,7 @@ module _ (ps : List Production) where
         after = s.after ++ ω;
         rule = s.rule;
         listed = s.listed;
-        old = ap (λ (x : List Symbol). π ++ (x ++ ω)) s.old ∙ shape (nonterminal s.rule.head ∷ s.after);
+        old = ap (λ (x : List Symbol). π ++ (x ++ ω)) s.old ∙ shape _;
         new = ap (λ (x : List Symbol). π ++ (x ++ ω)) s.new ∙ shape (s.rule.symbols ++ s.after)
             ∙ ap (λ (x : List Symbol). π ++ s.before ++ x) (append_assoc s.rule.symbols s.after ω);
       }

@@ -5,7 +5,7 @@ use Rattle.host_page.proofs.put_blanked.Statement.{statement}
 use Rattle.host_page.proofs.put_blanked.Tie as tie
 
 returns : tie.Need-returns
-returns c = puts-byte _ _ _ _ _ c.before.before.before.before.before.before.put.ensures c.before.before.put-decimal.ensures
+returns c = puts-byte _ _ _ _ _ c.put-next.ensures c.put_decimal.ensures
 
-pub put-blanked-spec : {M : Type 1} → statement M
-put-blanked-spec = tie.close (tie.spec (λ c κs. search rules) (λ c κs. search rules) (λ c. search rules) returns)
+pub put_blanked_spec : {M : Type 1} → statement M
+put_blanked_spec = tie.close (tie.spec (λ c κs. search rules) (λ c κs. search rules) (λ c. search rules) returns)

@@ -7,12 +7,12 @@ use Rattle.spec_calls.specs.Checking.{journal_limit}
 use Rattle.host_result.proofs.lent_rows.Statement.{statement}
 use Rattle.host_result.proofs.lent_rows.Tie as tie
 
-returns : tie.Need-returns
-returns c = let n = c.before.args.rows in (sym (ap (λ (b : Bool). cond b n 0) (le-leb n journal_limit c.if1.true)), c.if1.true)
+returns : tie.Need-returns-then-rows-le-JOURNAL_LIMIT
+returns c = let n = c.before.args.rows in (sym (ap (λ (b : Bool). cond b n 0) (le-leb n journal_limit c.if-rows-le-JOURNAL_LIMIT.true)), c.if-rows-le-JOURNAL_LIMIT.true)
 
-returns-2 : tie.Need-returns-2
-returns-2 c = let n = c.before.args.rows in (sym (ap (λ (b : Bool). cond b n 0) (lt-leb n journal_limit c.if1.false)), omega arith)
+returns-2 : tie.Need-returns
+returns-2 c = let n = c.before.args.rows in (sym (ap (λ (b : Bool). cond b n 0) (lt-leb n journal_limit c.if-rows-le-JOURNAL_LIMIT.false)), omega arith)
 
-pub lent-rows-spec : {M : Type 1} → statement M
-lent-rows-spec =
+pub lent_rows_spec : {M : Type 1} → statement M
+lent_rows_spec =
     tie.close (tie.spec returns returns-2)

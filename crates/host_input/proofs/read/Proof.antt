@@ -4,18 +4,18 @@ use borrow.Author.Rules.{rules}
 use Rattle.host_input.proofs.read.Statement.{statement}
 use Rattle.host_input.proofs.read.Tie as tie
 
-abbrev invariant-loop : tie.invariant-loop
-invariant-loop buffer₀ at₀ turns₀ buffer at turns = at ≤ 10383
+abbrev invariant-loop-turns : tie.invariant-loop-turns
+invariant-loop-turns buffer₀ at₀ turns₀ buffer at turns = at ≤ 10383
 
-abbrev decreases-loop : tie.decreases-loop
-decreases-loop buffer₀ at₀ turns₀ buffer at turns = turns
+abbrev decreases-loop-turns : tie.decreases-loop-turns
+decreases-loop-turns buffer₀ at₀ turns₀ buffer at turns = turns
 
 pub read_spec : {M : Type 1} → statement M
 read_spec =
     tie.close
     (tie.spec
-    invariant-loop
-    decreases-loop
+    invariant-loop-turns
+    decreases-loop-turns
     (λ c. search rules)
     (λ c κs. search rules)
     (λ c. search rules)

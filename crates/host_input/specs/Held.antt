@@ -1,5 +1,6 @@
 -- What a read says, and how much of an input the check program hands over as the file. Definitions only. Assumes nothing.
-use Rattle.std.specs.Prelude.{◌≡◌, cond, List, ℕ, zero, suc, min, ◌+◌, ◌*◌, ◌-◌, ◌%◌, ◌≤◌, ltb, ℤ, pos, negsuc, length, take}
+use Rattle.std.specs.Prelude.{◌≡◌, cond, List, ℕ, zero, suc, min, ◌+◌, ◌*◌, ◌-◌, ◌%◌, ◌≤◌, ltb, length, take, Ok, Err}
+use Rattle.std.specs.declared.result.Result.{Result}
 use Rattle.spec_file.specs.Limits.{record_limit}
 use Rattle.host_input.specs.declared.Chunk.{Chunk}
 use Rattle.host_input.specs.declared.Chunk.TheVariants as chunk
@@ -9,10 +10,10 @@ use Rattle.host_input.specs.declared.Input.TheVariants as input
 -- ---- a read
 
 -- what a read into a buffer of n bytes says: it failed, the input has ended, or bytes have come, at most n
-abbrev pub held_by : ℤ → ℕ → Chunk
-held_by (negsuc k) room = chunk.Failed
-held_by (pos zero) room = chunk.Ended
-held_by (pos (suc k)) room = chunk.Bytes (min (suc k) room)
+abbrev pub held_by : {E : Type 0} → Result ℕ E → ℕ → Chunk
+held_by (Err e) room = chunk.Failed
+held_by (Ok zero) room = chunk.Ended
+held_by (Ok (suc k)) room = chunk.Bytes (min (suc k) room)
 
 -- ---- the file
 

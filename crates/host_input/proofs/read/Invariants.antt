@@ -1,0 +1,9 @@
+-- The invariant: `at`, the bytes that are handed over, is within the buffer. The measure is `turns`, which each turn counts down.
+use Rattle.std.proofs.Common.{◌≤◌}
+use Rattle.host_input.proofs.read.Given as goal
+
+abbrev pub invariant-loop-turns : goal.invariant-loop-turns
+invariant-loop-turns g l = l.at ≤ 10383
+
+abbrev pub decreases-loop-turns : goal.decreases-loop-turns
+decreases-loop-turns g l = l.turns

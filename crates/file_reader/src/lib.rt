@@ -116,7 +116,7 @@ fn place_after(s: Step, place: usize) -> usize
     }
 }
 
-// ---- the reader: thin functions, each proved by hand
+// ---- the reader: thin functions
 
 impl<'a> Reader<'a> {
     pub fn new(file: &'a [u8]) -> Reader<'a>

@@ -4,17 +4,17 @@ use borrow.Author.Tests.{eq-eqb, ne_eqb}
 use Rattle.file_bytes.proofs.record_of.Statement.{statement}
 use Rattle.file_bytes.proofs.record_of.Tie as tie
 
-returns : tie.Need-returns
-returns c = rw (eq-eqb _ _ c.before.if1.true, c.rule-of.ensures)
+returns : tie.Need-returns-then-r-eq-RULE_KIND
+returns c = rw (eq-eqb _ _ c.before.if-r-eq-RULE_KIND.true, c.rule_of.ensures)
 
-returns-2 : tie.Need-returns-2
-returns-2 c = rw (ne_eqb _ _ c.before.before.if1.false, eq-eqb _ _ c.before.if2.true, c.transition-of.ensures)
+returns-2 : tie.Need-returns-then-r-eq-TRANSITION_KIND
+returns-2 c = rw (ne_eqb _ _ c.before.before.if-r-eq-RULE_KIND.false, eq-eqb _ _ c.before.if-r-eq-TRANSITION_KIND.true, c.transition_of.ensures)
 
-returns-3 : tie.Need-returns-3
-returns-3 c = rw (ne_eqb _ _ c.before.if1.false, ne_eqb _ _ c.if2.false)
+returns-3 : tie.Need-returns
+returns-3 c = rw (ne_eqb _ _ c.before.if-r-eq-RULE_KIND.false, ne_eqb _ _ c.if-r-eq-TRANSITION_KIND.false)
 
-pub record-of-spec : {M : Type 1} → statement M
-record-of-spec =
+pub record_of_spec : {M : Type 1} → statement M
+record_of_spec =
     tie.close
     (tie.spec
     (λ c. search rules)

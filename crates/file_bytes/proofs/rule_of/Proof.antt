@@ -7,5 +7,5 @@ use Rattle.file_bytes.proofs.rule_of.Tie as tie
 returns : tie.Need-returns
 returns c = refl
 
-pub rule-of-spec : {M : Type 1} → statement M
-rule-of-spec = tie.close (tie.spec (λ c. search rules) (λ c. search rules) (λ c. search rules) (λ c. search rules) returns)
+pub rule_of_spec : {M : Type 1} → statement M
+rule_of_spec = tie.close (tie.spec (λ c. search rules) (λ c. search rules) (λ c. search rules) (λ c. search rules) returns)

@@ -7,5 +7,5 @@ use Rattle.file_bytes.proofs.transition_of.Tie as tie
 returns : tie.Need-returns
 returns c = refl
 
-pub transition-of-spec : {M : Type 1} → statement M
-transition-of-spec = tie.close (tie.spec (λ c. search rules) (λ c. search rules) (λ c. search rules) returns)
+pub transition_of_spec : {M : Type 1} → statement M
+transition_of_spec = tie.close (tie.spec (λ c. search rules) (λ c. search rules) (λ c. search rules) returns)

@@ -9,6 +9,6 @@ returns : tie.Need-returns
 unfolding above_range_in
 returns c = refl
 
-pub above-range-spec : {M : Type 1} → statement M
-above-range-spec =
+pub above_range_spec : {M : Type 1} → statement M
+above_range_spec =
     tie.close (tie.spec (λ c. search rules) (λ c. search rules) (λ c. search rules) (λ c. search rules) (λ c. search rules) returns)

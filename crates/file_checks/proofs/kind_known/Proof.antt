@@ -9,5 +9,5 @@ returns : tie.Need-returns
 unfolding kind_known
 returns c = refl
 
-pub kind-known-spec : {M : Type 1} → statement M
-kind-known-spec = tie.close (tie.spec (λ c. search rules) (λ c. search rules) returns)
+pub kind_known_spec : {M : Type 1} → statement M
+kind_known_spec = tie.close (tie.spec (λ c. search rules) (λ c. search rules) returns)

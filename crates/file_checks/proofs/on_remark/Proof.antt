@@ -9,5 +9,5 @@ returns : tie.Need-returns
 unfolding on_remark
 returns c = refl
 
-pub on-remark-spec : {M : Type 1} → statement M
-on-remark-spec = tie.close (tie.spec (λ c. search rules) (λ c. search rules) returns)
+pub on_remark_spec : {M : Type 1} → statement M
+on_remark_spec = tie.close (tie.spec (λ c. search rules) (λ c. search rules) returns)

@@ -9,5 +9,5 @@ returns : tie.Need-returns
 unfolding over_limit
 returns c = refl
 
-pub over-limit-spec : {M : Type 1} → statement M
-over-limit-spec = tie.close (tie.spec (λ c. search rules) (λ c. search rules) returns)
+pub over_limit_spec : {M : Type 1} → statement M
+over_limit_spec = tie.close (tie.spec (λ c. search rules) (λ c. search rules) returns)

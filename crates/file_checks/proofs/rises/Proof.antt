@@ -13,7 +13,7 @@ returns c =
     let a = c.before.before.args in
     let hr : (i : ℕ) → Fits w8 (byte a.r i) = search rules in
     let hs : (i : ℕ) → Fits w8 (byte a.s i) = search rules in
-    rw (c.before.number_of_lem.ensures, c.number-of2.ensures) (rises-as-numbers 256 a.r a.s (λ i. (hr i).fits) (λ i. (hs i).fits) 7)
+    rw (c.before.number_of.ensures, c.number_of-2.ensures) (rises-as-numbers 256 a.r a.s (λ i. (hr i).fits) (λ i. (hs i).fits) 7)
 
-pub rises-spec : {M : Type 1} → statement M
-rises-spec = tie.close (tie.spec (λ c κs. search rules) (λ c κs. search rules) returns)
+pub rises_spec : {M : Type 1} → statement M
+rises_spec = tie.close (tie.spec (λ c κs. search rules) (λ c κs. search rules) returns)

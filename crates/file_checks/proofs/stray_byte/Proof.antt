@@ -9,6 +9,6 @@ returns : tie.Need-returns
 unfolding stray_byte_in
 returns c = refl
 
-pub stray-byte-spec : {M : Type 1} → statement M
-stray-byte-spec =
+pub stray_byte_spec : {M : Type 1} → statement M
+stray_byte_spec =
     tie.close (tie.spec (λ c. search rules) (λ c. search rules) (λ c. search rules) (λ c. search rules) (λ c. search rules) (λ c. search rules) (λ c. search rules) returns)

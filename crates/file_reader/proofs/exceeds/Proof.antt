@@ -10,21 +10,21 @@ use Rattle.spec_file.specs.EntryLaws.{whole}
 use Rattle.file_reader.proofs.exceeds.Statement.{statement}
 use Rattle.file_reader.proofs.exceeds.Tie as tie
 
-returns : tie.Need-returns
+returns : tie.Need-returns-then-i-eq0
 unfolding exceeds_in
-returns c = rw (eq-eqb _ _ c.if1.true)
+returns c = rw (eq-eqb _ _ c.if-i-eq0.true)
 
-returns-2 : tie.Need-returns-2
+returns-2 : tie.Need-returns
 unfolding exceeds_in
 returns-2 c =
     let a = c.before.before.before.before.before.args in
     let f = a.file.now in
     let i = a.i in
-    rw (ne_eqb _ _ c.before.before.before.if1.false)
-    (c.rises.ensures ∙ ap₂ (λ (r s : List ℕ). rises r s) (c.before.before.whole-record.ensures ∙ sym (whole f (i - 1) (omega arith))) (c.before.whole-record2.ensures ∙ sym (whole f i (omega arith))))
+    rw (ne_eqb _ _ c.before.before.before.if-i-eq0.false)
+    (c.rises.ensures ∙ ap₂ (λ (r s : List ℕ). rises r s) (c.before.before.whole_record.ensures ∙ sym (whole f (i - 1) (omega arith))) (c.before.whole_record-2.ensures ∙ sym (whole f i (omega arith))))
 
-pub exceeds-spec : {M : Type 1} → statement M
-exceeds-spec =
+pub exceeds_spec : {M : Type 1} → statement M
+exceeds_spec =
     tie.close
     (tie.spec
     returns (λ c. search rules) (λ c κs. search rules) (λ c κs. search rules) (λ c κs. search rules) returns-2)

@@ -12,32 +12,32 @@ use Rattle.spec_file.specs.WalkLaws.{refuse-by}
 use Rattle.file_reader.proofs.step_from.Statement.{statement}
 use Rattle.file_reader.proofs.step_from.Tie as tie
 
-returns : tie.Need-returns
+returns : tie.Need-returns-then-file-ne0
 unfolding step_from length_fault_in
-returns c = rw (ne_eqb _ _ c.if1.true)
+returns c = rw (ne_eqb _ _ c.if-file-ne0.true)
 
-returns-2 : tie.Need-returns-2
+returns-2 : tie.Need-returns-then-records-gt-RECORD_LIMIT
 unfolding step_from length_fault_in
-returns-2 c = rw (eq-eqb _ _ c.before.if1.false, lt-ltb _ _ c.if2.true)
+returns-2 c = rw (eq-eqb _ _ c.before.if-file-ne0.false, lt-ltb _ _ c.if-records-gt-RECORD_LIMIT.true)
 
-returns-3 : tie.Need-returns-3
+returns-3 : tie.Need-returns-then-records-place
 unfolding step_from length_fault_in
-returns-3 c = rw (eq-eqb _ _ c.before.before.if1.false, le-ltb _ _ c.before.if2.false, le-leb _ _ c.if3.true)
+returns-3 c = rw (eq-eqb _ _ c.before.before.if-file-ne0.false, le-ltb _ _ c.before.if-records-gt-RECORD_LIMIT.false, le-leb _ _ c.if-records-place.true)
 
-returns-4 : tie.Need-returns-4
+returns-4 : tie.Need-returns-then-f-ne0
 unfolding step_from length_fault_in
-returns-4 c = rw (eq-eqb _ _ c.before.before.before.before.if1.false, le-ltb _ _ c.before.before.before.if2.false, lt-leb _ _ c.before.before.if3.false) (refuse-by _ _ _ _ c.if4.true c.before.fault-by.ensures)
+returns-4 c = rw (eq-eqb _ _ c.before.before.before.before.if-file-ne0.false, le-ltb _ _ c.before.before.before.if-records-gt-RECORD_LIMIT.false, lt-leb _ _ c.before.before.if-records-place.false) (refuse-by _ _ _ _ c.if-f-ne0.true c.before.fault_by-f.ensures)
 
-returns-5 : tie.Need-returns-5
+returns-5 : tie.Need-returns
 unfolding step_from length_fault_in
 returns-5 c =
     let a = c.before.before.before.before.before.before.before.before.args in
-    let w = c.before.whole-record.ensures ∙ sym (whole a.file.now a.place (omega arith)) in
-    rw (eq-eqb _ _ c.before.before.before.before.before.before.if1.false, le-ltb _ _ c.before.before.before.before.before.if2.false, lt-leb _ _ c.before.before.before.before.if3.false, sym c.before.before.before.fault-by.ensures ∙ c.before.before.if4.false)
+    let w = c.before.whole_record.ensures ∙ sym (whole a.file.now a.place (omega arith)) in
+    rw (eq-eqb _ _ c.before.before.before.before.before.before.if-file-ne0.false, le-ltb _ _ c.before.before.before.before.before.if-records-gt-RECORD_LIMIT.false, lt-leb _ _ c.before.before.before.before.if-records-place.false, sym c.before.before.before.fault_by-f.ensures ∙ c.before.before.if-f-ne0.false)
     (ap (λ (r : Record). gives r (a.place + 1)) (c.record_of.ensures ∙ ap record_of w))
 
-pub step-from-spec : {M : Type 1} → statement M
-step-from-spec =
+pub step_from_spec : {M : Type 1} → statement M
+step_from_spec =
     tie.close
     (tie.spec
     returns

@@ -6,7 +6,7 @@ use Rattle.file_views.proofs.final_at.Statement.{statement}
 use Rattle.file_views.proofs.final_at.Tie as tie
 
 returns : tie.Need-returns
-returns c = ap final_of c.whole-record.ensures
+returns c = ap final_of c.whole_record-r.ensures
 
-pub final-at-spec : {M : Type 1} → statement M
-final-at-spec = tie.close (tie.spec (λ c κs. search rules) (λ c. search rules) returns)
+pub final_at_spec : {M : Type 1} → statement M
+final_at_spec = tie.close (tie.spec (λ c κs. search rules) (λ c. search rules) returns)

@@ -6,5 +6,5 @@ use Rattle.file_views.proofs.final_count.Tie as tie
 returns : tie.Need-returns
 returns c = c.count_of.ensures
 
-pub final-count-spec : {M : Type 1} → statement M
-final-count-spec = tie.close (tie.spec (λ c κs. search rules) returns)
+pub final_count_spec : {M : Type 1} → statement M
+final_count_spec = tie.close (tie.spec (λ c κs. search rules) returns)

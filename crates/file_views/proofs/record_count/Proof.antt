@@ -6,5 +6,5 @@ use Rattle.file_views.proofs.record_count.Tie as tie
 returns : tie.Need-returns
 returns c = refl
 
-pub record-count-spec : {M : Type 1} → statement M
-record-count-spec = tie.close (tie.spec returns)
+pub record_count_spec : {M : Type 1} → statement M
+record_count_spec = tie.close (tie.spec returns)

@@ -6,7 +6,7 @@ use Rattle.file_views.proofs.rule_at.Statement.{statement}
 use Rattle.file_views.proofs.rule_at.Tie as tie
 
 returns : tie.Need-returns
-returns c = c.rule-of.ensures ∙ ap rule_in c.before.whole-record.ensures
+returns c = c.rule_of.ensures ∙ ap rule_in c.before.whole_record.ensures
 
-pub rule-at-spec : {M : Type 1} → statement M
-rule-at-spec = tie.close (tie.spec (λ c κs. search rules) (λ c κs. search rules) returns)
+pub rule_at_spec : {M : Type 1} → statement M
+rule_at_spec = tie.close (tie.spec (λ c κs. search rules) (λ c κs. search rules) returns)

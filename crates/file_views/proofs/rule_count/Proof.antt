@@ -6,5 +6,5 @@ use Rattle.file_views.proofs.rule_count.Tie as tie
 returns : tie.Need-returns
 returns c = c.count_of.ensures
 
-pub rule-count-spec : {M : Type 1} → statement M
-rule-count-spec = tie.close (tie.spec (λ c κs. search rules) returns)
+pub rule_count_spec : {M : Type 1} → statement M
+rule_count_spec = tie.close (tie.spec (λ c κs. search rules) returns)

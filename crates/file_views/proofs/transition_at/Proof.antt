@@ -6,7 +6,7 @@ use Rattle.file_views.proofs.transition_at.Statement.{statement}
 use Rattle.file_views.proofs.transition_at.Tie as tie
 
 returns : tie.Need-returns
-returns c = c.transition-of.ensures ∙ ap transition_in c.before.whole-record.ensures
+returns c = c.transition_of.ensures ∙ ap transition_in c.before.whole_record.ensures
 
-pub transition-at-spec : {M : Type 1} → statement M
-transition-at-spec = tie.close (tie.spec (λ c κs. search rules) (λ c κs. search rules) returns)
+pub transition_at_spec : {M : Type 1} → statement M
+transition_at_spec = tie.close (tie.spec (λ c κs. search rules) (λ c κs. search rules) returns)

@@ -6,5 +6,5 @@ use Rattle.file_views.proofs.transition_count.Tie as tie
 returns : tie.Need-returns
 returns c = c.count_of.ensures
 
-pub transition-count-spec : {M : Type 1} → statement M
-transition-count-spec = tie.close (tie.spec (λ c κs. search rules) returns)
+pub transition_count_spec : {M : Type 1} → statement M
+transition_count_spec = tie.close (tie.spec (λ c κs. search rules) returns)

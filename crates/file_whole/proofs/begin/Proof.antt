@@ -9,5 +9,5 @@ use Rattle.file_whole.proofs.begin.Tie as tie
 returns : tie.Need-returns
 returns c = ap (λ (r : Refusal). record { going = true; rules = 0; transitions = 0; refusal = r }) c.none.ensures
 
-pub begin-spec : {M : Type 1} → statement M
-begin-spec = tie.close (tie.spec (λ c κs. search rules) returns)
+pub begin_spec : {M : Type 1} → statement M
+begin_spec = tie.close (tie.spec (λ c κs. search rules) returns)

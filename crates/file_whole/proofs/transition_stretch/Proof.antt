@@ -13,32 +13,32 @@ use Rattle.spec_file.specs.Sorted.{counts-le}
 use Rattle.file_whole.proofs.transition_stretch.Statement.{statement}
 use Rattle.file_whole.proofs.transition_stretch.Tie as tie
 
-returns : tie.Need-returns
+returns : tie.Need-returns-then-r-ne0
 unfolding stretch
-returns c = rw (ne_eqb (fault c.before.before.before.before.before.args.file.now).number 0 (λ e. c.before.if1.true (ap (λ (r : Refusal). r.number) c.before.before.before.file-refusal.ensures ∙ e)))
+returns c = rw (ne_eqb (fault c.before.before.before.before.args.file.now).number 0 (λ e. c.if-r-ne0.true (ap (λ (r : Refusal). r.number) c.before.before.file_refusal-r.ensures ∙ e)))
 
-mul-first : tie.Need-overflow-mul-first
-mul-first c = omega (arith, counts-le c.before.before.before.before.before.args.file.now (record_count c.before.before.before.before.before.args.file.now), c.rule-count.ensures, c.before.before.before.before.before.well-formed.0.0)
+mul-first : tie.Need-overflow_mul-first
+mul-first c = omega (arith, counts-le c.before.before.before.before.before.args.file.now (record_count c.before.before.before.before.before.args.file.now), c.rule_count-first.ensures, c.before.before.before.before.before.well_formed.0.0)
 
-mul-end : tie.Need-overflow-mul-end
-mul-end c = omega (arith, counts-le c.before.before.before.before.before.before.args.file.now (record_count c.before.before.before.before.before.before.args.file.now), c.transition-count.ensures, c.before.before.before.before.before.before.well-formed.0.0)
+mul-end : tie.Need-overflow_mul-end
+mul-end c = omega (arith, counts-le c.before.before.before.before.before.before.args.file.now (record_count c.before.before.before.before.before.before.args.file.now), c.transition_count.ensures, c.before.before.before.before.before.before.well_formed.0.0)
 
-add-end : tie.Need-overflow-add-end
-add-end c = omega (arith, counts-le c.before.before.before.before.before.before.args.file.now (record_count c.before.before.before.before.before.before.args.file.now), c.before.rule-count.ensures, c.transition-count.ensures, c.before.before.before.before.before.before.well-formed.0.0)
+add-end : tie.Need-overflow_add-end
+add-end c = omega (arith, counts-le c.before.before.before.before.before.before.args.file.now (record_count c.before.before.before.before.before.before.args.file.now), c.before.rule_count-first.ensures, c.transition_count.ensures, c.before.before.before.before.before.before.well_formed.0.0)
 
-part-result-end : tie.Need-slice-bounds-result-end
-part-result-end c = omega (arith, counts-le c.before.before.before.before.before.before.args.file.now (record_count c.before.before.before.before.before.before.args.file.now), c.before.rule-count.ensures, c.transition-count.ensures)
+part-result-end : tie.Need-slice_bounds-result-end
+part-result-end c = omega (arith, counts-le c.before.before.before.before.args.file.now (record_count c.before.before.before.before.args.file.now), c.before.rule_count-first.ensures, c.transition_count.ensures)
 
-returns-2 : tie.Need-returns-2
+returns-2 : tie.Need-returns
 unfolding stretch
 returns-2 c =
     let f = c.before.before.before.before.before.before.before.args.file.now in
-    rw (eq-eqb (fault f).number 0 (sym (ap (λ (r : Refusal). r.number) c.before.before.before.before.before.file-refusal.ensures) ∙ c.before.before.before.if1.false))
-    (ap (λ (k : ℕ). take k (drop (c.before.before.rule-count.result * 8) f)) (add-sub_cancel_left (c.before.before.rule-count.result * 8) (c.before.transition-count.result * 8))
-    ∙ ap₂ (λ (a b : ℕ). take (b * 8) (drop (a * 8) f)) c.before.before.rule-count.ensures c.before.transition-count.ensures)
+    rw (eq-eqb (fault f).number 0 (sym (ap (λ (r : Refusal). r.number) c.before.before.before.before.before.file_refusal-r.ensures) ∙ c.before.before.before.if-r-ne0.false))
+    (ap (λ (k : ℕ). take k (drop (c.before.before.rule_count-first.result * 8) f)) (add-sub_cancel_left (c.before.before.rule_count-first.result * 8) (c.before.transition_count.result * 8))
+    ∙ ap₂ (λ (a b : ℕ). take (b * 8) (drop (a * 8) f)) c.before.before.rule_count-first.ensures c.before.transition_count.ensures)
 
-pub transition-stretch-spec : {M : Type 1} → statement M
-transition-stretch-spec =
+pub transition_stretch_spec : {M : Type 1} → statement M
+transition_stretch_spec =
     tie.close
     (tie.spec
     (λ c κs. search rules)

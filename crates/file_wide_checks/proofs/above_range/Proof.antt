@@ -7,15 +7,15 @@ use Rattle.file_wide_checks.specs.Scanning.{other-range, rule-range}
 use Rattle.file_wide_checks.proofs.above_range.Statement.{statement}
 use Rattle.file_wide_checks.proofs.above_range.Tie as tie
 
-returns : tie.Need-returns
+returns : tie.Need-returns-then-r-ne-RULE_KIND
 returns c =
-    c.above-range.ensures ∙ ap (above_range_in eight) c.before.front.ensures ∙ other-range c.before.before.before.args.t1 c.before.before.if1.true
+    c.above_range.ensures ∙ ap (above_range_in eight) c.before.front.ensures ∙ other-range c.before.before.before.args.r c.before.before.if-r-ne-RULE_KIND.true
 
-returns-2 : tie.Need-returns-2
-returns-2 c = rw c.high-symbol.ensures (rule-range c.before.before.args.t1 c.before.if1.false)
+returns-2 : tie.Need-returns
+returns-2 c = rw c.high_symbol.ensures (rule-range c.before.before.args.r c.before.if-r-ne-RULE_KIND.false)
 
-pub above-range-spec : {M : Type 1} → statement M
-above-range-spec =
+pub above_range_spec : {M : Type 1} → statement M
+above_range_spec =
     tie.close
     (tie.spec
     (λ c. search rules)

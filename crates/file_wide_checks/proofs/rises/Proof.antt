@@ -10,38 +10,38 @@ use Rattle.file_wide_checks.specs.Scanning.{rises-here, rises-on, rises-last}
 use Rattle.file_wide_checks.proofs.rises.Statement.{statement}
 use Rattle.file_wide_checks.proofs.rises.Tie as tie
 
-abbrev invariant-loop : tie.invariant-loop
-invariant-loop r s j₀ j = (j ≤ sixteen.width - 1) × (rises_from (sixteen.width - 1 - j) j r s ≡ rises_in sixteen r s)
+abbrev invariant-loop-j : tie.invariant-loop-j
+invariant-loop-j r s j₀ j = (j ≤ sixteen.width - 1) × (rises_from (sixteen.width - 1 - j) j r s ≡ rises_in sixteen r s)
 
-abbrev decreases-loop : tie.decreases-loop
-decreases-loop r s j₀ j = sixteen.width - 1 - j
+abbrev decreases-loop-j : tie.decreases-loop-j
+decreases-loop-j r s j₀ j = sixteen.width - 1 - j
 
-loop-holds : tie.Need-loop-init invariant-loop decreases-loop
+loop-holds : tie.Need-loop-j-init invariant-loop-j decreases-loop-j
 loop-holds c = (omega arith, refl)
 
-returns : tie.Need-returns invariant-loop decreases-loop
+returns : tie.Need-returns-then-r-j invariant-loop-j decreases-loop-j
 returns c =
     let a = c.before.before.before.args in
-    let at = c.before.before.loop in
-    rises-here a.t1 a.t2 at.j (sixteen.width - 1) (omega arith) c.if1.true ∙ at.invariant.1
+    let at = c.before.before.loop-j in
+    rises-here a.r a.s at.j (sixteen.width - 1) (omega arith) c.if-r-j.true ∙ at.invariant.1
 
-loop-again : tie.Need-loop-preserved invariant-loop decreases-loop
+loop-again : tie.Need-loop-j-preserved invariant-loop-j decreases-loop-j
 loop-again c =
     let a = c.before.before.before.args in
-    let at = c.before.before.loop in
-    (omega arith, rises-on a.t1 a.t2 at.j (sixteen.width - 1) (omega arith) c.if1.false ∙ at.invariant.1)
+    let at = c.before.before.loop-j in
+    (omega arith, rises-on a.r a.s at.j (sixteen.width - 1) (omega arith) c.if-r-j.false ∙ at.invariant.1)
 
-returns-2 : tie.Need-returns-2 invariant-loop decreases-loop
+returns-2 : tie.Need-returns invariant-loop-j decreases-loop-j
 returns-2 c =
     let a = c.before.before.args in
-    rises-last a.t1 a.t2 c.before.loop.j (sixteen.width - 1) (omega arith) ∙ c.before.loop.invariant.1
+    rises-last a.r a.s c.before.loop-j.j (sixteen.width - 1) (omega arith) ∙ c.before.loop-j.invariant.1
 
-pub rises-spec : {M : Type 1} → statement M
-rises-spec =
+pub rises_spec : {M : Type 1} → statement M
+rises_spec =
     tie.close
     (tie.spec
-    invariant-loop
-    decreases-loop
+    invariant-loop-j
+    decreases-loop-j
     loop-holds
     (λ c. search rules)
     (λ c. search rules)

@@ -11,36 +11,36 @@ use Rattle.file_wide_checks.specs.Scanning.{some_at, some_from, scan-here, scan-
 use Rattle.file_wide_checks.proofs.some_byte.Statement.{statement}
 use Rattle.file_wide_checks.proofs.some_byte.Tie as tie
 
-abbrev invariant-loop : tie.invariant-loop
-invariant-loop from r j₀ j = some_from (some_at r) (sixteen.width - j) j ≡ some_byte (sixteen.width - 1 - from) from r
+abbrev invariant-loop-j : tie.invariant-loop-j
+invariant-loop-j from r j₀ j = some_from (some_at r) (sixteen.width - j) j ≡ some_byte (sixteen.width - 1 - from) from r
 
-abbrev decreases-loop : tie.decreases-loop
-decreases-loop from r j₀ j = sixteen.width - j
+abbrev decreases-loop-j : tie.decreases-loop-j
+decreases-loop-j from r j₀ j = sixteen.width - j
 
-loop-holds : tie.Need-loop-init invariant-loop decreases-loop
+loop-holds : tie.Need-loop-j-init invariant-loop-j decreases-loop-j
 loop-holds c =
     let z : sixteen.width - c.args.from ≡ suc (sixteen.width - 1 - c.args.from) = omega arith in
-    ap (λ (m : ℕ). some_from (some_at c.args.t1) m c.args.from) z ∙ byte-scan c.args.t1 (sixteen.width - 1 - c.args.from) c.args.from
+    ap (λ (m : ℕ). some_from (some_at c.args.r) m c.args.from) z ∙ byte-scan c.args.r (sixteen.width - 1 - c.args.from) c.args.from
 
-returns : tie.Need-returns invariant-loop decreases-loop
+returns : tie.Need-returns-then-r-j-gt0 invariant-loop-j decreases-loop-j
 returns c =
-    let at = c.before.before.loop in
-    sym (scan-here (some_at c.before.before.before.args.t1) at.j sixteen.width (omega arith) (lt-ltb 0 _ c.if1.true)) ∙ at.invariant
+    let at = c.before.before.loop-j in
+    sym (scan-here (some_at c.before.before.before.args.r) at.j sixteen.width (omega arith) (lt-ltb 0 _ c.if-r-j-gt0.true)) ∙ at.invariant
 
-loop-again : tie.Need-loop-preserved invariant-loop decreases-loop
+loop-again : tie.Need-loop-j-preserved invariant-loop-j decreases-loop-j
 loop-again c =
-    let at = c.before.before.loop in
-    scan-next (some_at c.before.before.before.args.t1) at.j sixteen.width (omega arith) (le-ltb 0 _ c.if1.false) ∙ at.invariant
+    let at = c.before.before.loop-j in
+    scan-next (some_at c.before.before.before.args.r) at.j sixteen.width (omega arith) (le-ltb 0 _ c.if-r-j-gt0.false) ∙ at.invariant
 
-returns-2 : tie.Need-returns-2 invariant-loop decreases-loop
-returns-2 c = sym (scan-end (some_at c.before.before.args.t1) c.before.loop.j sixteen.width (omega arith)) ∙ c.before.loop.invariant
+returns-2 : tie.Need-returns invariant-loop-j decreases-loop-j
+returns-2 c = sym (scan-end (some_at c.before.before.args.r) c.before.loop-j.j sixteen.width (omega arith)) ∙ c.before.loop-j.invariant
 
-pub some-byte-spec : {M : Type 1} → statement M
-some-byte-spec =
+pub some_byte_spec : {M : Type 1} → statement M
+some_byte_spec =
     tie.close
     (tie.spec
-    invariant-loop
-    decreases-loop
+    invariant-loop-j
+    decreases-loop-j
     loop-holds
     (λ c. search rules)
     returns

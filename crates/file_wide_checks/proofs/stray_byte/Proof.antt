@@ -7,21 +7,21 @@ use Rattle.file_wide_checks.specs.Scanning.{rule-stray, transition-stray, final-
 use Rattle.file_wide_checks.proofs.stray_byte.Statement.{statement}
 use Rattle.file_wide_checks.proofs.stray_byte.Tie as tie
 
-returns : tie.Need-returns
-returns c = rw c.stray-symbol.ensures (rule-stray c.before.before.args.t1 c.before.if1.true)
+returns : tie.Need-returns-then-kind-eq-RULE_KIND
+returns c = rw c.stray_symbol.ensures (rule-stray c.before.before.args.r c.before.if-kind-eq-RULE_KIND.true)
 
-returns-2 : tie.Need-returns-2
-returns-2 c = c.some_byte.ensures ∙ transition-stray c.before.before.before.args.t1 c.before.if2.true
+returns-2 : tie.Need-returns-then-kind-eq-TRANSITION_KIND
+returns-2 c = c.some_byte.ensures ∙ transition-stray c.before.before.before.args.r c.before.if-kind-eq-TRANSITION_KIND.true
 
-returns-3 : tie.Need-returns-3
-returns-3 c = c.some-byte2.ensures ∙ final-stray c.before.before.before.before.args.t1 c.before.if3.true
+returns-3 : tie.Need-returns-then-kind-eq-FINAL_KIND
+returns-3 c = c.some_byte-then-kind-eq-FINAL_KIND.ensures ∙ final-stray c.before.before.before.before.args.r c.before.if-kind-eq-FINAL_KIND.true
 
-returns-4 : tie.Need-returns-4
+returns-4 : tie.Need-returns
 unfolding stray_byte_in
-returns-4 c = rw (ne_eqb _ _ c.before.before.if1.false, ne_eqb _ _ c.before.if2.false, ne_eqb _ _ c.if3.false)
+returns-4 c = rw (ne_eqb _ _ c.before.before.if-kind-eq-RULE_KIND.false, ne_eqb _ _ c.before.if-kind-eq-TRANSITION_KIND.false, ne_eqb _ _ c.if-kind-eq-FINAL_KIND.false)
 
-pub stray-byte-spec : {M : Type 1} → statement M
-stray-byte-spec =
+pub stray_byte_spec : {M : Type 1} → statement M
+stray_byte_spec =
     tie.close
     (tie.spec
     (λ c. search rules)

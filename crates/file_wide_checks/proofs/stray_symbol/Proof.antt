@@ -10,35 +10,35 @@ use Rattle.file_wide_checks.specs.Scanning.{stray_at, some_from, scan-here, scan
 use Rattle.file_wide_checks.proofs.stray_symbol.Statement.{statement}
 use Rattle.file_wide_checks.proofs.stray_symbol.Tie as tie
 
-abbrev invariant-loop : tie.invariant-loop
-invariant-loop r size j₀ j = some_from (stray_at r) (sixteen.body_limit - j) j ≡ stray_symbol (sixteen.body_limit - 1) 0 r
+abbrev invariant-loop-j : tie.invariant-loop-j
+invariant-loop-j r size j₀ j = some_from (stray_at r) (sixteen.body_limit - j) j ≡ stray_symbol (sixteen.body_limit - 1) 0 r
 
-abbrev decreases-loop : tie.decreases-loop
-decreases-loop r size j₀ j = sixteen.body_limit - j
+abbrev decreases-loop-j : tie.decreases-loop-j
+decreases-loop-j r size j₀ j = sixteen.body_limit - j
 
-loop-holds : tie.Need-loop-init invariant-loop decreases-loop
-loop-holds c = stray-scan c.args.t1 (sixteen.body_limit - 1) 0
+loop-holds : tie.Need-loop-j-init invariant-loop-j decreases-loop-j
+loop-holds c = stray-scan c.args.r (sixteen.body_limit - 1) 0
 
-returns : tie.Need-returns invariant-loop decreases-loop
+returns : tie.Need-returns-then-size-j invariant-loop-j decreases-loop-j
 returns c =
-    let at = c.before.before.loop in
-    sym (scan-here (stray_at c.before.before.before.args.t1) at.j sixteen.body_limit (omega arith) c.if1.true) ∙ at.invariant
+    let at = c.before.before.loop-j in
+    sym (scan-here (stray_at c.before.before.before.args.r) at.j sixteen.body_limit (omega arith) c.if-size-j.true) ∙ at.invariant
 
-loop-again : tie.Need-loop-preserved invariant-loop decreases-loop
+loop-again : tie.Need-loop-j-preserved invariant-loop-j decreases-loop-j
 loop-again c =
-    let at = c.before.before.loop in
-    scan-next (stray_at c.before.before.before.args.t1) at.j sixteen.body_limit (omega arith) c.if1.false ∙ at.invariant
+    let at = c.before.before.loop-j in
+    scan-next (stray_at c.before.before.before.args.r) at.j sixteen.body_limit (omega arith) c.if-size-j.false ∙ at.invariant
 
-returns-2 : tie.Need-returns-2 invariant-loop decreases-loop
+returns-2 : tie.Need-returns invariant-loop-j decreases-loop-j
 returns-2 c =
-    sym (scan-end (stray_at c.before.before.args.t1) c.before.loop.j sixteen.body_limit (omega arith)) ∙ c.before.loop.invariant
+    sym (scan-end (stray_at c.before.before.args.r) c.before.loop-j.j sixteen.body_limit (omega arith)) ∙ c.before.loop-j.invariant
 
-pub stray-symbol-spec : {M : Type 1} → statement M
-stray-symbol-spec =
+pub stray_symbol_spec : {M : Type 1} → statement M
+stray_symbol_spec =
     tie.close
     (tie.spec
-    invariant-loop
-    decreases-loop
+    invariant-loop-j
+    decreases-loop-j
     (λ c. search rules)
     (λ c. search rules)
     loop-holds

@@ -1,2 +1,0 @@
-mod Behind
-pub mod Readers

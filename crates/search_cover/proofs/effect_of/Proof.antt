@@ -8,5 +8,5 @@ use Rattle.search_cover.proofs.effect_of.Tie as tie
 returns : tie.Need-returns
 returns c = ap value c.read.ensures
 
-pub effect-of-spec : {M : Type 1} → statement M
-effect-of-spec = tie.close (tie.spec (λ c. search rules) (λ c. search rules) (λ c. search rules) (λ c. search rules) (λ c κs. search rules) returns)
+pub effect_of_spec : {M : Type 1} → statement M
+effect_of_spec = tie.close (tie.spec (λ c. search rules) (λ c. search rules) (λ c. search rules) (λ c. search rules) (λ c κs. search rules) returns)

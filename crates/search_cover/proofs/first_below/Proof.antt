@@ -12,35 +12,35 @@ use Rattle.search_cover.specs.Near.{effect_at}
 use Rattle.search_cover.proofs.first_below.Statement.{statement}
 use Rattle.search_cover.proofs.first_below.Tie as tie
 
-abbrev invariant-loop : tie.invariant-loop
-invariant-loop near count effect key i₀ i = (i ≤ count) × ((k : ℕ) → k < i → contained (effect_at near k) (value effect) ≡ false)
+abbrev invariant-loop-i : tie.invariant-loop-i
+invariant-loop-i near count effect key i₀ i = (i ≤ count) × ((k : ℕ) → k < i → contained (effect_at near k) (value effect) ≡ false)
 
-abbrev decreases-loop : tie.decreases-loop
-decreases-loop near count effect key i₀ i = count - i
+abbrev decreases-loop-i : tie.decreases-loop-i
+decreases-loop-i near count effect key i₀ i = count - i
 
-loop-holds : tie.Need-loop-init invariant-loop decreases-loop
+loop-holds : tie.Need-loop-i-init invariant-loop-i decreases-loop-i
 loop-holds c = (omega arith, λ k l. absurd (omega arith))
 
-row-there : tie.Need-is-below-requires invariant-loop decreases-loop
+row-there : tie.Need-is_below-requires invariant-loop-i decreases-loop-i
 row-there c κs =
     let k = c.before.before in
-    let st = k.before.before in (st.requires.0, omega (arith, st.requires.1), k.key.ensures)
+    let st = k.before.before in (st.requires.0, omega (arith, st.requires.1), k.key-key.ensures)
 
-returns : tie.Need-returns invariant-loop decreases-loop
+returns : tie.Need-returns-then-is_below invariant-loop-i decreases-loop-i
 returns c =
     record {
-      within = c.before.before.before.loop.invariant.0;
-      here = λ _. sym c.before.is_below.ensures ∙ c.if1.true;
-      before = c.before.before.before.loop.invariant.1;
+      within = c.before.before.before.loop-i.invariant.0;
+      here = λ _. sym c.before.is_below.ensures ∙ c.if-is_below.true;
+      before = c.before.before.before.loop-i.invariant.1;
     }
 
-loop-again : tie.Need-loop-preserved invariant-loop decreases-loop
-loop-again c = (omega arith, below_more _ _ c.before.before.before.loop.invariant.1 (sym c.before.is_below.ensures ∙ c.if1.false))
+loop-again : tie.Need-loop-i-preserved invariant-loop-i decreases-loop-i
+loop-again c = (omega arith, below_more _ _ c.before.before.before.loop-i.invariant.1 (sym c.before.is_below.ensures ∙ c.if-is_below.false))
 
-returns-2 : tie.Need-returns-2 invariant-loop decreases-loop
-returns-2 c = record { within = omega arith; here = λ l. absurd (omega arith); before = λ k l. c.before.loop.invariant.1 k (omega arith) }
+returns-2 : tie.Need-returns invariant-loop-i decreases-loop-i
+returns-2 c = record { within = omega arith; here = λ l. absurd (omega arith); before = λ k l. c.before.loop-i.invariant.1 k (omega arith) }
 
-pub first-below-spec : {M : Type 1} → statement M
-first-below-spec =
+pub first_below_spec : {M : Type 1} → statement M
+first_below_spec =
     tie.close
-    (tie.spec invariant-loop decreases-loop (λ c κs. search rules) loop-holds row-there returns (λ c. search rules) (λ c. search rules) loop-again returns-2)
+    (tie.spec invariant-loop-i decreases-loop-i (λ c κs. search rules) loop-holds row-there returns (λ c. search rules) (λ c. search rules) loop-again returns-2)

@@ -7,53 +7,53 @@ use borrow.Author.Tests.{lt-ltb, le-ltb}
 use Rattle.search_cover.proofs.look_through.Statement.{statement}
 use Rattle.search_cover.proofs.look_through.Tie as tie
 
-count-there : tie.Need-shared-slice-read-count
+count-there : tie.Need-bounds-near-1
 count-there c = let st = c.before.before in omega (arith, st.requires.size)
 
-first-requires : tie.Need-first-below-requires
+first-requires : tie.Need-first_below-i-requires
 first-requires c κs = let st = c.before.before in (st.requires, refl)
 
-number_fits : tie.Need-overflow-add-t9
-number_fits c = let st = c.before.before.before.before in omega (arith, st.requires.few, c.if1.true)
+number_fits : tie.Need-overflow_add-result
+number_fits c = let st = c.before.before.before.before in omega (arith, st.requires.few, c.if-i-count.true)
 
-number-scaled : tie.Need-overflow-mul-t10
-number-scaled c = let st = c.before.before.before.before in omega (arith, st.requires.few, c.if1.true)
+number-scaled : tie.Need-offset_bounds-near-i
+number-scaled c = let st = c.before.before.before.before in omega (arith, st.requires.few, c.if-i-count.true)
 
-number-there : tie.Need-shared-slice-read-t12
-number-there c = let st = c.before.before.before.before.before in omega (arith, st.requires.few, st.requires.size, c.before.if1.true)
+number-there : tie.Need-bounds-near-i
+number-there c = let st = c.before.before.before.before.before in omega (arith, st.requires.few, st.requires.size, c.before.if-i-count.true)
 
-returns : tie.Need-returns
+returns : tie.Need-returns-then-i-count
 returns c =
-    let f = c.before.before.first_below in
+    let f = c.before.before.first_below-i in
     record {
       place = f.result;
       first = f.ensures;
-      covers = sym (lt-ltb _ _ c.before.if1.true);
+      covers = sym (lt-ltb _ _ c.before.if-i-count.true);
       row = λ _. refl;
       slot_is = refl;
       cell = λ z. absurd (true≢false z);
       small = λ z. absurd (true≢false z);
     }
 
-link-there : tie.Need-shared-slice-read-t7
+link-there : tie.Need-bounds-near-2
 link-there c = let st = c.before.before.before.before.before in omega (arith, st.requires.size)
 
-some-requires : tie.Need-some-above-requires
+some-requires : tie.Need-some_above-requires
 some-requires c κs = let st = c.before.before.before.before.before in (st.requires, refl)
 
-returns-2 : tie.Need-returns-2
+returns-2 : tie.Need-returns
 returns-2 c =
     let k = c.before.before in
-    let f = k.before.first_below in
+    let f = k.before.first_below-i in
     record {
       place = f.result;
       first = f.ensures;
-      covers = sym (le-ltb _ _ k.if1.false);
+      covers = sym (le-ltb _ _ k.if-i-count.false);
       row = λ z. absurd (true≢false (sym z));
       slot_is = refl;
       cell = λ _. refl;
-      small = λ _. c.some-above.ensures;
+      small = λ _. c.some_above.ensures;
     }
 
-pub look-through-spec : {M : Type 1} → statement M
-look-through-spec = tie.close (tie.spec count-there first-requires number_fits number-scaled number-there returns link-there some-requires returns-2)
+pub look_through_spec : {M : Type 1} → statement M
+look_through_spec = tie.close (tie.spec count-there first-requires number_fits number-scaled number-there returns link-there some-requires returns-2)

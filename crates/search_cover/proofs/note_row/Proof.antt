@@ -6,7 +6,7 @@ use Rattle.search_cover.proofs.note_row.Tie as tie
 
 returns : tie.Need-returns
 unfolding with_row
-returns c = rw c.before.before.before.put-candidate.ensures
+returns c = rw c.before.before.before.put_candidate.ensures
 
-pub note-row-spec : {M : Type 1} → statement M
-note-row-spec = tie.close (tie.spec (λ c. search rules) (λ c κs. search rules) (λ c. search rules) (λ c. search rules) (λ c. search rules) (λ c. search rules) (λ c. search rules) returns)
+pub note_row_spec : {M : Type 1} → statement M
+note_row_spec = tie.close (tie.spec (λ c. search rules) (λ c κs. search rules) (λ c. search rules) (λ c. search rules) (λ c. search rules) (λ c. search rules) (λ c. search rules) returns)

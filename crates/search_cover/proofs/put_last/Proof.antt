@@ -7,7 +7,7 @@ use Rattle.search_cover.proofs.put_last.Tie as tie
 
 returns : tie.Need-returns
 unfolding with_last
-returns c = rw c.before.before.put-number.ensures
+returns c = rw c.before.before.put_number.ensures
 
-pub put-last-spec : {M : Type 1} → statement M
-put-last-spec = tie.close (tie.spec (λ c. search rules) (λ c κs. search rules) (λ c. search rules) (λ c. search rules) (λ c. search rules) (λ c. search rules) returns)
+pub put_last_spec : {M : Type 1} → statement M
+put_last_spec = tie.close (tie.spec (λ c. search rules) (λ c κs. search rules) (λ c. search rules) (λ c. search rules) (λ c. search rules) (λ c. search rules) returns)

@@ -11,30 +11,30 @@ use Rattle.search_cover.specs.Steps.{NoneAbove}
 use Rattle.search_cover.proofs.some_above.Statement.{statement}
 use Rattle.search_cover.proofs.some_above.Tie as tie
 
-abbrev invariant-loop : tie.invariant-loop
-invariant-loop near count effect key i₀ i = (i ≤ count) × NoneAbove near i (value effect)
+abbrev invariant-loop-i : tie.invariant-loop-i
+invariant-loop-i near count effect key i₀ i = (i ≤ count) × NoneAbove near i (value effect)
 
-abbrev decreases-loop : tie.decreases-loop
-decreases-loop near count effect key i₀ i = count - i
+abbrev decreases-loop-i : tie.decreases-loop-i
+decreases-loop-i near count effect key i₀ i = count - i
 
-loop-holds : tie.Need-loop-init invariant-loop decreases-loop
+loop-holds : tie.Need-loop-i-init invariant-loop-i decreases-loop-i
 loop-holds c = (omega arith, λ k l. absurd (omega arith))
 
-row-there : tie.Need-is-above-requires invariant-loop decreases-loop
+row-there : tie.Need-is_above-requires invariant-loop-i decreases-loop-i
 row-there c κs =
     let k = c.before.before in
-    let st = k.before.before in (st.requires.0, omega (arith, st.requires.1), k.key.ensures)
+    let st = k.before.before in (st.requires.0, omega (arith, st.requires.1), k.key-key.ensures)
 
-returns : tie.Need-returns invariant-loop decreases-loop
+returns : tie.Need-returns-then-is_above invariant-loop-i decreases-loop-i
 returns c = λ e. absurd (true≢false e)
 
-loop-again : tie.Need-loop-preserved invariant-loop decreases-loop
-loop-again c = (omega arith, below_more _ _ c.before.before.before.loop.invariant.1 (sym c.before.is-above.ensures ∙ c.if1.false))
+loop-again : tie.Need-loop-i-preserved invariant-loop-i decreases-loop-i
+loop-again c = (omega arith, below_more _ _ c.before.before.before.loop-i.invariant.1 (sym c.before.is_above.ensures ∙ c.if-is_above.false))
 
-returns-2 : tie.Need-returns-2 invariant-loop decreases-loop
-returns-2 c = λ _ k l. c.before.loop.invariant.1 k (omega arith)
+returns-2 : tie.Need-returns invariant-loop-i decreases-loop-i
+returns-2 c = λ _ k l. c.before.loop-i.invariant.1 k (omega arith)
 
-pub some-above-spec : {M : Type 1} → statement M
-some-above-spec =
+pub some_above_spec : {M : Type 1} → statement M
+some_above_spec =
     tie.close
-    (tie.spec invariant-loop decreases-loop (λ c κs. search rules) loop-holds row-there returns (λ c. search rules) (λ c. search rules) loop-again returns-2)
+    (tie.spec invariant-loop-i decreases-loop-i (λ c κs. search rules) loop-holds row-there returns (λ c. search rules) (λ c. search rules) loop-again returns-2)

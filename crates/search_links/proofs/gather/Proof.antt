@@ -7,7 +7,7 @@ use Rattle.search_links.proofs.gather.Tie as tie
 returns : tie.Need-returns
 returns c =
     let s = c.before.before.before.before.before.before.before.before.before in
-    gathered-both s.args.used s.args.table.now _ _ s.requires.1 s.requires.0 c.before.before.before.before.before.before.copy-links.ensures c.before.before.copy-links2.ensures
+    gathered-both s.args.used s.args.table.now _ _ s.requires.1 s.requires.0 c.before.before.before.before.before.before.copy_links.ensures c.before.before.copy_links-2.ensures
 
-pub gather-spec : {M : Type 1} → statement M
-gather-spec = tie.close (tie.spec (λ c κs. search rules) (λ c κs. search rules) (λ c. search rules) returns)
+pub gather_spec : {M : Type 1} → statement M
+gather_spec = tie.close (tie.spec (λ c κs. search rules) (λ c κs. search rules) (λ c. search rules) returns)

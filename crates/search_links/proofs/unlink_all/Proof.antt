@@ -25,43 +25,43 @@ cleared-next i t l h k a b = by (eqb k i) refl
     by true e = ap (λ (z : ℕ). get_or (set t i end) z 0) (eqb-true k i e) ∙ get_or-set_same t i end 0 l
     by false e = get_or-set_other t i k end 0 (eqb-false k i e) ∙ h k a (lt_of_le-ne (omega (arith, b)) (eqb-false k i e))
 
-abbrev invariant-loop : tie.invariant-loop
-invariant-loop table₀ i₀ table i = (i ≤ head_cell heads) × (length table ≡ length table₀) × Cleared i table
+abbrev invariant-loop-i : tie.invariant-loop-i
+invariant-loop-i table₀ i₀ table i = (i ≤ head_cell heads) × (length table ≡ length table₀) × Cleared i table
 
-abbrev decreases-loop : tie.decreases-loop
-decreases-loop table₀ i₀ table i = head_cell heads - i
+abbrev decreases-loop-i : tie.decreases-loop-i
+decreases-loop-i table₀ i₀ table i = head_cell heads - i
 
-loop-holds : tie.Need-loop-init invariant-loop decreases-loop
+loop-holds : tie.Need-loop-i-init invariant-loop-i decreases-loop-i
 loop-holds c = (omega arith, refl, λ k a b. absurd (omega (arith, a, b)))
 
-mul-table : tie.Need-overflow-mul-table invariant-loop decreases-loop
-mul-table c = omega (arith, c.loop-test.true)
+mul-table : tie.Need-offset_bounds-table-i invariant-loop-i decreases-loop-i
+mul-table c = omega (arith, c.loop-i-test.true)
 
-slice-write-table : tie.Need-slice-write-table invariant-loop decreases-loop
-slice-write-table c = let l = c.before.loop in omega (arith, c.before.before.requires, c.loop-test.true, l.invariant.1)
+slice-write-table : tie.Need-bounds-table-i invariant-loop-i decreases-loop-i
+slice-write-table c = let l = c.before.loop-i in omega (arith, c.before.before.requires, c.loop-i-test.true, l.invariant.1)
 
-add-i : tie.Need-overflow-add-i invariant-loop decreases-loop
-add-i c = omega (arith, c.loop-test.true)
+add-i : tie.Need-overflow_add-i invariant-loop-i decreases-loop-i
+add-i c = omega (arith, c.loop-i-test.true)
 
-loop-less : tie.Need-loop-smaller invariant-loop decreases-loop
-loop-less c = omega (arith, c.loop-test.true)
+loop-less : tie.Need-loop-i-smaller invariant-loop-i decreases-loop-i
+loop-less c = omega (arith, c.loop-i-test.true)
 
-loop-again : tie.Need-loop-preserved invariant-loop decreases-loop
+loop-again : tie.Need-loop-i-preserved invariant-loop-i decreases-loop-i
 loop-again c =
-    let l = c.before.loop in
-    let m = c.loop-test.true in (
+    let l = c.before.loop-i in
+    let m = c.loop-i-test.true in (
       omega (arith, m),
       length-set l.table l.i end ∙ l.invariant.1,
       cleared-next l.i l.table (omega (arith, c.before.before.requires, m, l.invariant.1)) l.invariant.2,
     )
 
-same_length : tie.Need-same-length invariant-loop decreases-loop
-same_length c = c.before.loop.invariant.1
+same_length : tie.Need-shape_of-table invariant-loop-i decreases-loop-i
+same_length c = c.before.loop-i.invariant.1
 
-returns : tie.Need-returns invariant-loop decreases-loop
+returns : tie.Need-returns invariant-loop-i decreases-loop-i
 returns c =
-    let l = c.before.loop in
-    record { size = l.invariant.1 ∙ c.before.before.requires; firsts = λ x h. l.invariant.2 (head_cell x) (omega arith) (omega (arith, h, c.loop-test.false)) }
+    let l = c.before.loop-i in
+    record { size = l.invariant.1 ∙ c.before.before.requires; firsts = λ x h. l.invariant.2 (head_cell x) (omega arith) (omega (arith, h, c.loop-i-test.false)) }
 
-pub unlink-all-spec : {M : Type 1} → statement M
-unlink-all-spec = tie.close (tie.spec invariant-loop decreases-loop loop-holds mul-table slice-write-table add-i loop-less loop-again same_length returns)
+pub unlink_all_spec : {M : Type 1} → statement M
+unlink_all_spec = tie.close (tie.spec invariant-loop-i decreases-loop-i loop-holds mul-table slice-write-table add-i loop-less loop-again same_length returns)

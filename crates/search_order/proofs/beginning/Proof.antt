@@ -6,16 +6,16 @@ use Rattle.search_order.specs.PlaceLaws.{begins-none}
 use Rattle.search_order.proofs.beginning.Statement.{statement}
 use Rattle.search_order.proofs.beginning.Tie as tie
 
-returns : tie.Need-returns
+returns : tie.Need-returns-then-size-eq0
 returns c =
     let b = begins-none c.before.before.before.args.lists.now in
-    rw (c.first.ensures, eq-eqb _ _ c.before.if1.true) (refl, b, b)
+    rw (c.first.ensures, eq-eqb _ _ c.before.if-size-eq0.true) (refl, b, b)
 
-returns-2 : tie.Need-returns-2
-returns-2 c = rw (c.first2.ensures, ne_eqb _ _ c.before.before.before.if1.false, eq-eqb _ _ c.before.if2.true) (refl, c.before.before.first_of.ensures, begins-none c.before.before.before.before.before.args.lists.now)
+returns-2 : tie.Need-returns-then-size-eq1
+returns-2 c = rw (c.first-then-size-eq1.ensures, ne_eqb _ _ c.before.before.before.if-size-eq0.false, eq-eqb _ _ c.before.if-size-eq1.true) (refl, c.before.before.first_of-left.ensures, begins-none c.before.before.before.before.before.args.lists.now)
 
-returns-3 : tie.Need-returns-3
-returns-3 c = rw (c.first3.ensures, ne_eqb _ _ c.before.before.before.before.if1.false, ne_eqb _ _ c.before.before.if2.false) (refl, c.before.before.before.first_of.ensures, c.before.first-of2.ensures)
+returns-3 : tie.Need-returns
+returns-3 c = rw (c.first-2.ensures, ne_eqb _ _ c.before.before.before.before.if-size-eq0.false, ne_eqb _ _ c.before.before.if-size-eq1.false) (refl, c.before.before.before.first_of-left.ensures, c.before.first_of-right.ensures)
 
-pub beginning-spec : {M : Type 1} → statement M
-beginning-spec = tie.close (tie.spec (λ c. search rules) (λ c κs. search rules) returns (λ c. search rules) (λ c κs. search rules) (λ c κs. search rules) returns-2 (λ c. search rules) (λ c κs. search rules) (λ c κs. search rules) returns-3)
+pub beginning_spec : {M : Type 1} → statement M
+beginning_spec = tie.close (tie.spec (λ c. search rules) (λ c κs. search rules) returns (λ c. search rules) (λ c κs. search rules) (λ c κs. search rules) returns-2 (λ c. search rules) (λ c κs. search rules) (λ c κs. search rules) returns-3)

@@ -3,11 +3,11 @@ use borrow.Author.Tests.{lt-ltb, le-ltb}
 use Rattle.search_retire.proofs.at_link.Statement.{statement}
 use Rattle.search_retire.proofs.at_link.Tie as tie
 
-returns : tie.Need-returns
-returns c = rw (lt-ltb _ _ c.if1.true)
+returns : tie.Need-returns-then-row-used
+returns c = rw (lt-ltb _ _ c.if-row-used.true)
 
-returns-2 : tie.Need-returns-2
-returns-2 c = rw (le-ltb _ _ c.if1.false)
+returns-2 : tie.Need-returns
+returns-2 c = rw (le-ltb _ _ c.if-row-used.false)
 
-pub at-link-spec : {M : Type 1} → statement M
-at-link-spec = tie.close (tie.spec returns returns-2)
+pub at_link_spec : {M : Type 1} → statement M
+at_link_spec = tie.close (tie.spec returns returns-2)

@@ -4,11 +4,11 @@ use borrow.Author.Tests.{lt-ltb, le-ltb}
 use Rattle.search_rows.proofs.among.Statement.{statement}
 use Rattle.search_rows.proofs.among.Tie as tie
 
-returns : tie.Need-returns
-returns c = rw (lt-ltb _ _ c.if1.true)
+returns : tie.Need-returns-then-position-used
+returns c = rw (lt-ltb _ _ c.if-position-used.true)
 
-returns-2 : tie.Need-returns-2
-returns-2 c = rw (le-ltb _ _ c.before.if1.false) c.blank.ensures
+returns-2 : tie.Need-returns
+returns-2 c = rw (le-ltb _ _ c.before.if-position-used.false) c.blank.ensures
 
-pub among-spec : {M : Type 1} → statement M
-among-spec = tie.close (tie.spec returns (λ c κs. search rules) returns-2)
+pub among_spec : {M : Type 1} → statement M
+among_spec = tie.close (tie.spec returns (λ c κs. search rules) returns-2)

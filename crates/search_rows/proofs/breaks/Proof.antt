@@ -6,5 +6,5 @@ use Rattle.search_rows.proofs.breaks.Tie as tie
 returns : tie.Need-returns
 returns c = rw (c.rejects.ensures, c.before.is_member.ensures)
 
-pub breaks-spec : {M : Type 1} → statement M
-breaks-spec = tie.close (tie.spec (λ c κs. search rules) (λ c κs. search rules) returns)
+pub breaks_spec : {M : Type 1} → statement M
+breaks_spec = tie.close (tie.spec (λ c κs. search rules) (λ c κs. search rules) returns)

@@ -4,11 +4,11 @@ use borrow.Author.Tests.{lt-ltb, le-ltb}
 use Rattle.search_rows.proofs.choice_of.Statement.{statement}
 use Rattle.search_rows.proofs.choice_of.Tie as tie
 
-returns : tie.Need-returns
-returns c = rw (lt-ltb _ _ c.if1.true) (refl, refl)
+returns : tie.Need-returns-then-symbol-lt-TERMINALS
+returns c = rw (lt-ltb _ _ c.if-symbol-lt-TERMINALS.true) (refl, refl)
 
-returns-2 : tie.Need-returns-2
-returns-2 c = rw (le-ltb _ _ c.if1.false) (refl, refl)
+returns-2 : tie.Need-returns
+returns-2 c = rw (le-ltb _ _ c.if-symbol-lt-TERMINALS.false) (refl, refl)
 
-pub choice-of-spec : {M : Type 1} → statement M
-choice-of-spec = tie.close (tie.spec returns returns-2)
+pub choice_of_spec : {M : Type 1} → statement M
+choice_of_spec = tie.close (tie.spec returns returns-2)

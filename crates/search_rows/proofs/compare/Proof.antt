@@ -9,7 +9,7 @@ use Rattle.search_rows.proofs.compare.Tie as tie
 
 returns : tie.Need-returns
 unfolding is_below larger live_of live
-returns c = rw (c.before.contained.ensures, c.contained2.ensures) (refl, refl)
+returns c = rw (c.before.contained-within.ensures, c.contained-over.ensures) (refl, refl)
 
-pub compare-spec : {M : Type 1} → statement M
-compare-spec = tie.close (tie.spec (λ c. search rules) (λ c κs. search rules) (λ c κs. search rules) returns)
+pub compare_spec : {M : Type 1} → statement M
+compare_spec = tie.close (tie.spec (λ c. search rules) (λ c κs. search rules) (λ c κs. search rules) returns)

@@ -8,5 +8,5 @@ returns : tie.Need-returns
 unfolding bare
 returns c = refl
 
-pub empty-body-spec : {M : Type 1} → statement M
-empty-body-spec = tie.close (tie.spec returns)
+pub empty_body_spec : {M : Type 1} → statement M
+empty_body_spec = tie.close (tie.spec returns)

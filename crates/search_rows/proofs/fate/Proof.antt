@@ -4,7 +4,7 @@ use Rattle.search_rows.proofs.fate.Statement.{statement}
 use Rattle.search_rows.proofs.fate.Tie as tie
 
 returns : tie.Need-returns
-returns c = rw (c.fate-of.ensures, c.before.breaks.ensures)
+returns c = rw (c.fate_of.ensures, c.before.breaks.ensures)
 
-pub fate-spec : {M : Type 1} → statement M
-fate-spec = tie.close (tie.spec (λ c κs. search rules) (λ c κs. search rules) returns)
+pub fate_spec : {M : Type 1} → statement M
+fate_spec = tie.close (tie.spec (λ c κs. search rules) (λ c κs. search rules) returns)

@@ -5,9 +5,9 @@ use Rattle.search_rows.proofs.form.Statement.{statement}
 use Rattle.search_rows.proofs.form.Tie as tie
 
 returns : tie.Need-returns
-returns c = rw (sym c.before.before.among.ensures, sym c.before.among2.ensures) c.form-from.ensures
+returns c = rw (sym c.before.before.among-first.ensures, sym c.before.among-second.ensures) c.form_from.ensures
 
-pub form-spec : {M : Type 1} → statement M
-form-spec =
+pub form_spec : {M : Type 1} → statement M
+form_spec =
     tie.close
     (tie.spec (λ c. search rules) (λ c. search rules) (λ c κs. search rules) (λ c κs. search rules) (λ c κs. search rules) returns)

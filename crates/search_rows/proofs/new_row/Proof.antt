@@ -9,5 +9,5 @@ returns : tie.Need-returns
 unfolding born
 returns c = refl
 
-pub new-row-spec : {M : Type 1} → statement M
-new-row-spec = tie.close (tie.spec (λ c. search rules) returns)
+pub new_row_spec : {M : Type 1} → statement M
+new_row_spec = tie.close (tie.spec (λ c. search rules) returns)

@@ -7,5 +7,5 @@ returns : tie.Need-returns
 unfolding sole
 returns c = λ a h. rw (h.0, h.1)
 
-pub one-symbol-spec : {M : Type 1} → statement M
-one-symbol-spec = tie.close (tie.spec returns)
+pub one_symbol_spec : {M : Type 1} → statement M
+one_symbol_spec = tie.close (tie.spec returns)

@@ -3,14 +3,14 @@ use borrow.Author.Rules.{rules}
 use Rattle.search_rows.proofs.replacement.Statement.{statement}
 use Rattle.search_rows.proofs.replacement.Tie as tie
 
-returns : tie.Need-returns
-returns c = rw c.before.if1.true c.new_row.ensures
+returns : tie.Need-returns-then-new
+returns c = rw c.before.if-new.true c.new_row.ensures
 
-returns-2 : tie.Need-returns-2
-returns-2 c = rw (c.before.before.if1.false, c.before.if2.true) c.retired.ensures
+returns-2 : tie.Need-returns-then-compared
+returns-2 c = rw (c.before.before.if-new.false, c.before.if-compared.true) c.retired.ensures
 
-returns-3 : tie.Need-returns-3
-returns-3 c = rw (c.before.if1.false, c.if2.false)
+returns-3 : tie.Need-returns
+returns-3 c = rw (c.before.if-new.false, c.if-compared.false)
 
-pub replacement-spec : {M : Type 1} → statement M
-replacement-spec = tie.close (tie.spec (λ c κs. search rules) returns (λ c κs. search rules) returns-2 returns-3)
+pub replacement_spec : {M : Type 1} → statement M
+replacement_spec = tie.close (tie.spec (λ c κs. search rules) returns (λ c κs. search rules) returns-2 returns-3)

@@ -9,31 +9,31 @@ use Rattle.search_spans.specs.SpanLaws.{spans-alone, spans-list}
 use Rattle.search_spans.proofs.list_span.Statement.{statement}
 use Rattle.search_spans.proofs.list_span.Tie as tie
 
-returns : tie.Need-returns
+returns : tie.Need-returns-then-x-ge-PROCEDURES
 returns c =
     let s = c.before.before.before.before.before in
-    rw (c.alone.ensures, c.before.before.position.ensures) (spans-alone s.args.old s.args.lists.now _ _ (begins-nonterminal s.args.lists.now s.args.x s.requires.2))
+    rw (c.alone.ensures, c.before.before.position-first.ensures) (spans-alone s.args.old s.args.lists.now _ _ (begins-nonterminal s.args.lists.now s.args.x s.requires.2))
 
-returns-2 : tie.Need-returns-2
+returns-2 : tie.Need-returns-then-old-first
 returns-2 c =
     let s = c.before.before.before.before.before.before in
-    rw (c.alone2.ensures, c.before.before.before.position.ensures) (spans-alone s.args.old s.args.lists.now _ _ (begins-nonterminal s.args.lists.now s.args.x s.requires.2))
+    rw (c.alone-then-old-first.ensures, c.before.before.before.position-first.ensures) (spans-alone s.args.old s.args.lists.now _ _ (begins-nonterminal s.args.lists.now s.args.x s.requires.2))
 
-returns-3 : tie.Need-returns-3
+returns-3 : tie.Need-returns-then-old-after
 returns-3 c =
     let s = c.before.before.before.before.before.before.before.before in
-    rw (c.alone3.ensures, c.before.before.before.before.before.position.ensures) (spans-alone s.args.old s.args.lists.now _ _ (begins-nonterminal s.args.lists.now s.args.x s.requires.2))
+    rw (c.alone-then-old-after.ensures, c.before.before.before.before.before.position-first.ensures) (spans-alone s.args.old s.args.lists.now _ _ (begins-nonterminal s.args.lists.now s.args.x s.requires.2))
 
-returns-4 : tie.Need-returns-4
+returns-4 : tie.Need-returns
 returns-4 c =
     let s = c.before.before.before.before.before.before.before.before.before.before.before in
     let lists = s.args.lists.now in
-    let first = c.before.before.before.before.before.before.before.before.position in
+    let first = c.before.before.before.before.before.before.before.before.position-first in
     let next = c.before.before.before.before.before.after in
-    let old = c.before.before.before.before.before.before.if2.false in
-    let more : after_in lists first.result < s.args.old = omega (arith, next.ensures, c.before.before.before.before.if3.false) in
-    rw (first.ensures, c.before.before.number.ensures.0, c.position2.ensures)
-    (spans-list s.args.old lists s.args.x (omega (arith, c.before.before.before.before.before.before.before.if1.false)) s.requires.1 (omega (arith, first.ensures, old)) (subst (λ (i : ℕ). after_in lists i < s.args.old) first.ensures more) (omega (arith, c.before.before.number.ensures)))
+    let old = c.before.before.before.before.before.before.if-old-first.false in
+    let more : after_in lists first.result < s.args.old = omega (arith, next.ensures, c.before.before.before.before.if-old-after.false) in
+    rw (first.ensures, c.before.before.number-steps.ensures.0, c.position-last.ensures)
+    (spans-list s.args.old lists s.args.x (omega (arith, c.before.before.before.before.before.before.before.if-x-ge-PROCEDURES.false)) s.requires.1 (omega (arith, first.ensures, old)) (subst (λ (i : ℕ). after_in lists i < s.args.old) first.ensures more) (omega (arith, c.before.before.number-steps.ensures)))
 
-pub list-span-spec : {M : Type 1} → statement M
-list-span-spec = tie.close (tie.spec (λ c. search rules) (λ c. search rules) (λ c. search rules) (λ c κs. search rules) (λ c κs. search rules) returns (λ c κs. search rules) returns-2 (λ c κs. search rules) (λ c κs. search rules) returns-3 (λ c. search rules) (λ c. search rules) (λ c. search rules) (λ c κs. search rules) (λ c. search rules) (λ c. search rules) (λ c. search rules) (λ c κs. search rules) returns-4)
+pub list_span_spec : {M : Type 1} → statement M
+list_span_spec = tie.close (tie.spec (λ c. search rules) (λ c. search rules) (λ c. search rules) (λ c κs. search rules) (λ c κs. search rules) returns (λ c κs. search rules) returns-2 (λ c κs. search rules) (λ c κs. search rules) returns-3 (λ c. search rules) (λ c. search rules) (λ c. search rules) (λ c κs. search rules) (λ c. search rules) (λ c. search rules) (λ c. search rules) (λ c κs. search rules) returns-4)

@@ -6,18 +6,18 @@ use Rattle.search_spans.specs.SpanLaws.{spans-alone}
 use Rattle.search_spans.proofs.right_span.Statement.{statement}
 use Rattle.search_spans.proofs.right_span.Tie as tie
 
-returns : tie.Need-returns
+returns : tie.Need-returns-then-size-eq0
 returns c =
     let a = c.before.before.before.args in
-    rw (eq-eqb _ _ c.before.if1.true, c.alone.ensures) (spans-alone a.old a.lists.now _ _ (begins-none a.lists.now))
+    rw (eq-eqb _ _ c.before.if-size-eq0.true, c.alone.ensures) (spans-alone a.old a.lists.now _ _ (begins-none a.lists.now))
 
-returns-2 : tie.Need-returns-2
+returns-2 : tie.Need-returns-then-size-eq1
 returns-2 c =
     let a = c.before.before.before.before.args in
-    rw (ne_eqb _ _ c.before.before.if1.false, eq-eqb _ _ c.before.if2.true, c.alone2.ensures) (spans-alone a.old a.lists.now _ _ (begins-none a.lists.now))
+    rw (ne_eqb _ _ c.before.before.if-size-eq0.false, eq-eqb _ _ c.before.if-size-eq1.true, c.alone-then-size-eq1.ensures) (spans-alone a.old a.lists.now _ _ (begins-none a.lists.now))
 
-returns-3 : tie.Need-returns-3
-returns-3 c = rw (ne_eqb _ _ c.before.before.if1.false, ne_eqb _ _ c.before.if2.false) c.Span-of.ensures
+returns-3 : tie.Need-returns
+returns-3 c = rw (ne_eqb _ _ c.before.before.if-size-eq0.false, ne_eqb _ _ c.before.if-size-eq1.false) c.span_of.ensures
 
-pub right-span-spec : {M : Type 1} → statement M
-right-span-spec = tie.close (tie.spec (λ c. search rules) (λ c κs. search rules) returns (λ c κs. search rules) returns-2 (λ c. search rules) (λ c κs. search rules) returns-3)
+pub right_span_spec : {M : Type 1} → statement M
+right_span_spec = tie.close (tie.spec (λ c. search rules) (λ c κs. search rules) returns (λ c κs. search rules) returns-2 (λ c. search rules) (λ c κs. search rules) returns-3)

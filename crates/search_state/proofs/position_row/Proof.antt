@@ -3,11 +3,11 @@ use borrow.Author.Tests.{lt-ltb, le-ltb}
 use Rattle.search_state.proofs.position_row.Statement.{statement}
 use Rattle.search_state.proofs.position_row.Tie as tie
 
-returns : tie.Need-returns
-returns c = rw (lt-ltb _ _ c.if1.true)
+returns : tie.Need-returns-then-position-count
+returns c = rw (lt-ltb _ _ c.if-position-count.true)
 
-returns-2 : tie.Need-returns-2
-returns-2 c = rw (le-ltb _ _ c.if1.false)
+returns-2 : tie.Need-returns
+returns-2 c = rw (le-ltb _ _ c.if-position-count.false)
 
-pub position-row-spec : {M : Type 1} → statement M
-position-row-spec = tie.close (tie.spec returns returns-2)
+pub position_row_spec : {M : Type 1} → statement M
+position_row_spec = tie.close (tie.spec returns returns-2)

@@ -1,2 +1,1 @@
 mod Turn
-mod Ways

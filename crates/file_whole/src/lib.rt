@@ -87,7 +87,7 @@ fn tallied(t: Tally, s: Step) -> Tally
 }
 
 // Returns the refusal of the whole `file`; number 0 if there is none. A reader goes from record to record, and the tally gives it the counts,
-// so that each record is looked at once. The proof is a walk (proofs/file_refusal).
+// so that each record is looked at once.
 pub fn file_refusal(file: &[u8]) -> Refusal
     ensures { refusal_of result ≡ fault file.now }
 {

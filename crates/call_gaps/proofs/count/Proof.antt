@@ -8,17 +8,17 @@ use borrow.Author.Tests.{lt-ltb, le-ltb}
 use Rattle.call_gaps.proofs.count.Statement.{statement}
 use Rattle.call_gaps.proofs.count.Tie as tie
 
-returns : tie.Need-returns
-returns c = rw (le-ltb _ _ c.if1.true)
+returns : tie.Need-returns-then-letter-ge-FIRST_REMARK
+returns c = rw (le-ltb _ _ c.if-letter-ge-FIRST_REMARK.true)
 
-returns-2 : tie.Need-returns-2
-returns-2 c = rw (lt-ltb _ _ c.before.if1.false) (sym (set_out _ _ _ c.if2.true))
+returns-2 : tie.Need-returns-then-counts-at
+returns-2 c = rw (lt-ltb _ _ c.before.if-letter-ge-FIRST_REMARK.false) (sym (set_out _ _ _ c.if-counts-at.true))
 
-add-counts : tie.Need-overflow-add-counts
+add-counts : tie.Need-overflow_add-counts
 add-counts c = let s = c.before.before.before in omega (arith, s.requires (s.args.source * 120 + s.args.letter))
 
-returns-3 : tie.Need-returns-3
-returns-3 c = rw (lt-ltb _ _ c.before.before.if1.false)
+returns-3 : tie.Need-returns
+returns-3 c = rw (lt-ltb _ _ c.before.before.if-letter-ge-FIRST_REMARK.false)
 
 pub count_spec : {M : Type 1} → statement M
 count_spec =

@@ -10,7 +10,7 @@ use Rattle.call_gaps.proofs.fill.Tie as tie
 read-requires : tie.Need-read-requires
 read-requires c κs = let s = c.before.before.before.before.before in (valid s.args.file.now s.requires.0).1
 
-list-all-requires : tie.Need-list-all-requires
+list-all-requires : tie.Need-list_all-requires
 list-all-requires c κs = let s = c.before.before.before.before.before.before.before.before.before.before in (sheet-bytes s.args.file.now _ _ _ s.requires.0 c.before.before.before.before.read.ensures, s.requires.1)
 
 returns : tie.Need-returns

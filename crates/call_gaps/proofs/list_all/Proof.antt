@@ -11,48 +11,48 @@ use Rattle.call_gaps.specs.LineLaws.{all_none, all-next}
 use Rattle.call_gaps.proofs.list_all.Statement.{statement}
 use Rattle.call_gaps.proofs.list_all.Tie as tie
 
-abbrev invariant-loop : tie.invariant-loop
-invariant-loop counts taken used buffer₀ n₀ s₀ buffer n s =
+abbrev invariant-loop-s : tie.invariant-loop-s
+invariant-loop-s counts taken used buffer₀ n₀ s₀ buffer n s =
     (s ≤ states) × (lines_in buffer n ≡ all_into counts taken used s (lines_in buffer₀ 0)) × (n ≤ s * first_remark) × (length buffer ≡ length buffer₀)
 
-abbrev decreases-loop : tie.decreases-loop
-decreases-loop counts taken used buffer₀ n₀ s₀ buffer n s = states - s
+abbrev decreases-loop-s : tie.decreases-loop-s
+decreases-loop-s counts taken used buffer₀ n₀ s₀ buffer n s = states - s
 
-loop-holds : tie.Need-loop-init invariant-loop decreases-loop
+loop-holds : tie.Need-loop-s-init invariant-loop-s decreases-loop-s
 loop-holds c = let a = c.before.args in (omega arith, all_none a.counts.now a.taken.now a.used.now _, omega arith, refl)
 
-list-state-requires : tie.Need-list-state-requires invariant-loop decreases-loop
+list-state-requires : tie.Need-list_state-n-requires invariant-loop-s decreases-loop-s
 list-state-requires c κs =
     let s = c.before.before.before.before in
-    let l = c.before.before.loop in (s.requires.0, omega arith, omega (arith, s.requires.1, l.invariant.2, l.invariant.3))
+    let l = c.before.before.loop-s in (s.requires.0, omega arith, omega (arith, s.requires.1, l.invariant.2, l.invariant.3))
 
-add-s : tie.Need-overflow-add-s invariant-loop decreases-loop
+add-s : tie.Need-overflow_add-s invariant-loop-s decreases-loop-s
 add-s c = omega arith
 
-loop-less : tie.Need-loop-smaller invariant-loop decreases-loop
+loop-less : tie.Need-loop-s-smaller invariant-loop-s decreases-loop-s
 loop-less c = omega arith
 
-loop-again : tie.Need-loop-preserved invariant-loop decreases-loop
+loop-again : tie.Need-loop-s-preserved invariant-loop-s decreases-loop-s
 loop-again c =
     let a = c.before.before.before.before.before.before.before.args in
-    let l = c.before.before.before.before.before.loop in
-    let e = c.before.before.list-state.ensures in
+    let l = c.before.before.before.before.before.loop-s in
+    let e = c.before.before.list_state-n.ensures in
     (omega arith, all-next a.counts.now a.taken.now a.used.now l.s _ _ _ l.invariant.1 e.0, omega (arith, e.1, l.invariant.2), e.2 ∙ l.invariant.3)
 
-same_length : tie.Need-same-length invariant-loop decreases-loop
-same_length c = c.before.loop.invariant.3
+same_length : tie.Need-shape_of-buffer invariant-loop-s decreases-loop-s
+same_length c = c.before.loop-s.invariant.3
 
-returns : tie.Need-returns invariant-loop decreases-loop
+returns : tie.Need-returns invariant-loop-s decreases-loop-s
 returns c =
-    let l = c.before.loop in
+    let l = c.before.loop-s in
     let e : l.s ≡ states = omega arith in rw e at l.invariant.1
 
-pub list-all-spec : {M : Type 1} → statement M
-list-all-spec =
+pub list_all_spec : {M : Type 1} → statement M
+list_all_spec =
     tie.close
     (tie.spec
-    invariant-loop
-    decreases-loop
+    invariant-loop-s
+    decreases-loop-s
     loop-holds
     list-state-requires
     add-s

@@ -10,48 +10,48 @@ use Rattle.call_gaps.specs.LineLaws.{state-none, state-next}
 use Rattle.call_gaps.proofs.list_state.Statement.{statement}
 use Rattle.call_gaps.proofs.list_state.Tie as tie
 
-abbrev invariant-loop : tie.invariant-loop
-invariant-loop counts taken used buffer₀ s n m₀ c₀ buffer m c =
+abbrev invariant-loop-c : tie.invariant-loop-c
+invariant-loop-c counts taken used buffer₀ s n m₀ c₀ buffer m c =
     (c ≤ first_remark) × (lines_in buffer m ≡ state_into counts taken used s c (lines_in buffer₀ n)) × (m ≤ n + c) × (length buffer ≡ length buffer₀)
 
-abbrev decreases-loop : tie.decreases-loop
-decreases-loop counts taken used buffer₀ s n m₀ c₀ buffer m c = first_remark - c
+abbrev decreases-loop-c : tie.decreases-loop-c
+decreases-loop-c counts taken used buffer₀ s n m₀ c₀ buffer m c = first_remark - c
 
-loop-holds : tie.Need-loop-init invariant-loop decreases-loop
+loop-holds : tie.Need-loop-c-init invariant-loop-c decreases-loop-c
 loop-holds c = let a = c.before.args in (omega arith, state-none a.counts.now a.taken.now a.used.now a.s _, omega arith, refl)
 
-list-pair-requires : tie.Need-list-pair-requires invariant-loop decreases-loop
+list-pair-requires : tie.Need-list_pair-m-requires invariant-loop-c decreases-loop-c
 list-pair-requires c κs =
     let s = c.before.before.before.before in
-    let l = c.before.before.loop in (s.requires.0, s.requires.1, omega arith, omega (arith, s.requires.2, l.invariant.2, l.invariant.3))
+    let l = c.before.before.loop-c in (s.requires.0, s.requires.1, omega arith, omega (arith, s.requires.2, l.invariant.2, l.invariant.3))
 
-add-c : tie.Need-overflow-add-c invariant-loop decreases-loop
+add-c : tie.Need-overflow_add-c invariant-loop-c decreases-loop-c
 add-c c = omega arith
 
-loop-less : tie.Need-loop-smaller invariant-loop decreases-loop
+loop-less : tie.Need-loop-c-smaller invariant-loop-c decreases-loop-c
 loop-less c = omega arith
 
-loop-again : tie.Need-loop-preserved invariant-loop decreases-loop
+loop-again : tie.Need-loop-c-preserved invariant-loop-c decreases-loop-c
 loop-again c =
     let a = c.before.before.before.before.before.before.before.args in
-    let l = c.before.before.before.before.before.loop in
-    let e = c.before.before.list-pair.ensures in
+    let l = c.before.before.before.before.before.loop-c in
+    let e = c.before.before.list_pair-m.ensures in
     (omega arith, state-next a.counts.now a.taken.now a.used.now a.s l.c _ _ _ l.invariant.1 e.0, omega (arith, e.1, l.invariant.2), e.2 ∙ l.invariant.3)
 
-same_length : tie.Need-same-length invariant-loop decreases-loop
-same_length c = c.before.loop.invariant.3
+same_length : tie.Need-shape_of-buffer invariant-loop-c decreases-loop-c
+same_length c = c.before.loop-c.invariant.3
 
-returns : tie.Need-returns invariant-loop decreases-loop
+returns : tie.Need-returns invariant-loop-c decreases-loop-c
 returns c =
-    let l = c.before.loop in
+    let l = c.before.loop-c in
     let e : l.c ≡ first_remark = omega arith in (rw e at l.invariant.1, omega (arith, l.invariant.2), l.invariant.3)
 
-pub list-state-spec : {M : Type 1} → statement M
-list-state-spec =
+pub list_state_spec : {M : Type 1} → statement M
+list_state_spec =
     tie.close
     (tie.spec
-    invariant-loop
-    decreases-loop
+    invariant-loop-c
+    decreases-loop-c
     loop-holds
     list-pair-requires
     add-c

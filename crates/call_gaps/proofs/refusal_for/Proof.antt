@@ -10,7 +10,7 @@ use Rattle.call_gaps.proofs.refusal_for.Tie as tie
 returns : tie.Need-returns
 unfolding list_fault
 returns c =
-    said_or _ _ _ c.or.ensures c.before.before.file-refusal.ensures (ap refusal_of c.before.when.ensures ∙ sym (first-last (list_fault c.before.before.before.before.args.room)))
+    said_or _ _ _ c.or.ensures c.before.before.file_refusal-of_file.ensures (ap refusal_of c.before.when-of_room.ensures ∙ sym (first-last (list_fault c.before.before.before.before.args.room)))
 
-pub refusal-for-spec : {M : Type 1} → statement M
-refusal-for-spec = tie.close (tie.spec (λ c κs. search rules) (λ c κs. search rules) (λ c κs. search rules) returns)
+pub refusal_for_spec : {M : Type 1} → statement M
+refusal_for_spec = tie.close (tie.spec (λ c κs. search rules) (λ c κs. search rules) (λ c κs. search rules) returns)

@@ -4,19 +4,19 @@ use Rattle.call_gaps.specs.SheetLaws.{taken-move, taken-final, taken-other}
 use Rattle.call_gaps.proofs.take.Statement.{statement}
 use Rattle.call_gaps.proofs.take.Tie as tie
 
-returns : tie.Need-returns
+returns : tie.Need-returns-then-kind-eq-TRANSITION_KIND
 returns c =
     let s = c.before.before.before.before.before.before.before.before.before.before.before.before.before.before.before.before.before in
-    let e = c.before.before.before.before.before.before.take-move.ensures in
-    taken-move _ _ _ _ _ _ _ _ c.before.before.before.before.before.before.before.before.before.before.transition-at.result s.requires.0 c.before.before.before.before.before.before.before.before.before.before.transition-at.ensures c.before.before.before.before.before.before.before.before.before.before.before.if1.true e.0 e.1 e.2
+    let e = c.before.before.before.before.before.before.take_move.ensures in
+    taken-move _ _ _ _ _ _ _ _ c.before.before.before.before.before.before.before.before.before.before.transition_at.result s.requires.0 c.before.before.before.before.before.before.before.before.before.before.transition_at.ensures c.before.before.before.before.before.before.before.before.before.before.before.if-kind-eq-TRANSITION_KIND.true e.0 e.1 e.2
 
-returns-2 : tie.Need-returns-2
+returns-2 : tie.Need-returns-then-kind-eq-FINAL_KIND
 returns-2 c =
     let s = c.before.before.before.before.before.before.before.before.before.before.before.before in
-    taken-final _ _ _ _ _ _ c.before.before.before.before.before.before.if1.false c.before.before.before.final-at.result s.requires.0 c.before.before.before.final-at.ensures c.before.before.before.before.before.if2.true c.before.before.mark.ensures
+    taken-final _ _ _ _ _ _ c.before.before.before.before.before.before.if-kind-eq-TRANSITION_KIND.false c.before.before.before.final_at.result s.requires.0 c.before.before.before.final_at.ensures c.before.before.before.before.before.if-kind-eq-FINAL_KIND.true c.before.before.mark.ensures
 
-returns-3 : tie.Need-returns-3
-returns-3 c = let a = c.before.before.before.before.before.before.before.args in taken-other a.file.now a.i a.counts.now a.taken.now a.used.now a.taken.now c.before.if1.false c.if2.false
+returns-3 : tie.Need-returns-else-kind-eq-FINAL_KIND
+returns-3 c = let a = c.before.before.before.before.before.before.before.args in taken-other a.file.now a.i a.counts.now a.taken.now a.used.now a.taken.now c.before.if-kind-eq-TRANSITION_KIND.false c.if-kind-eq-FINAL_KIND.false
 
 pub take_spec : {M : Type 1} → statement M
 take_spec =

@@ -11,12 +11,12 @@ returns : tie.Need-returns
 returns c =
     let a = c.before.before.before.before.before.before.before.before.before.before.before.before.before.before.before.before.before.before.before.args in (
       c.before.before.before.before.before.before.before.before.before.before.before.before.before.before.count.ensures,
-      c.before.before.before.before.before.before.mark2.ensures ∙ ap (λ (x : List Bool). with_mark x a.t.target) c.before.before.before.before.before.before.before.before.before.before.mark.ensures,
-      c.before.before.mark3.ensures,
+      c.before.before.before.before.before.before.mark-2.ensures ∙ ap (λ (x : List Bool). with_mark x a.t.target) c.before.before.before.before.before.before.before.before.before.before.mark.ensures,
+      c.before.before.mark-3.ensures,
     )
 
-pub take-move-spec : {M : Type 1} → statement M
-take-move-spec =
+pub take_move_spec : {M : Type 1} → statement M
+take_move_spec =
     tie.close
     (tie.spec
     (λ c κs. search rules)

@@ -5,10 +5,10 @@ use borrow.Author.Rules.{rules}
 use Rattle.call_gaps.proofs.write.Statement.{statement}
 use Rattle.call_gaps.proofs.write.Tie as tie
 
-slice-write-buffer-2 : tie.Need-slice-write-buffer-2
+slice-write-buffer-2 : tie.Need-bounds-buffer-at-2
 slice-write-buffer-2 c = simp length-set (omega arith)
 
-slice-write-buffer-3 : tie.Need-slice-write-buffer-3
+slice-write-buffer-3 : tie.Need-bounds-buffer-at-3
 slice-write-buffer-3 c = simp length-set (omega arith)
 
 pub write_spec : {M : Type 1} → statement M

@@ -9,26 +9,26 @@ use Rattle.call_judge.specs.Judgements.{judged, judge-refused, word-judged, judg
 use Rattle.call_judge.proofs.judge.Statement.{statement}
 use Rattle.call_judge.proofs.judge.Tie as tie
 
-returns : tie.Need-returns
+returns : tie.Need-returns-then-refusal-ne0
 returns c =
-    let e = c.before.before.refusal-for.ensures in
-    judged _ _ _ (ap refused e ∙ judge-refused _ _ (λ z. c.if1.true (ap (λ (x : Refusal). x.number) e ∙ z)))
+    let e = c.before.before.refusal_for-refusal.ensures in
+    judged _ _ _ (ap refused e ∙ judge-refused _ _ (λ z. c.if-refusal-ne0.true (ap (λ (x : Refusal). x.number) e ∙ z)))
 
-turns-away-requires : tie.Need-turns-away-requires
-turns-away-requires c κs = judged-alone _ _ (sym (ap (λ (x : Refusal). x.number) c.before.before.refusal-for.ensures) ∙ c.if1.false)
+turns-away-requires : tie.Need-turns_away-requires
+turns-away-requires c κs = judged-alone _ _ (sym (ap (λ (x : Refusal). x.number) c.before.before.refusal_for-refusal.ensures) ∙ c.if-refusal-ne0.false)
 
 -- what the last test says
-settled : (c : tie.After-turns-away) (t : Bool) → c.turns-away.result ≡ t
+settled : (c : tie.After-turns_away) (t : Bool) → c.turns_away.result ≡ t
     → answered (judgement_by t) ≡ judge_of c.before.before.before.before.before.before.args.file.now c.before.before.before.before.before.before.args.word.now
 settled c t h =
-    ap (λ (b : Bool). answered (judgement_by b)) (sym h ∙ c.turns-away.ensures)
-    ∙ word-judged _ _ (sym (ap (λ (x : Refusal). x.number) c.before.before.before.refusal-for.ensures) ∙ c.before.if1.false)
+    ap (λ (b : Bool). answered (judgement_by b)) (sym h ∙ c.turns_away.ensures)
+    ∙ word-judged _ _ (sym (ap (λ (x : Refusal). x.number) c.before.before.before.refusal_for-refusal.ensures) ∙ c.before.if-refusal-ne0.false)
 
-returns-2 : tie.Need-returns-2
-returns-2 c = judged _ _ _ (settled c.before true c.if2.true)
+returns-2 : tie.Need-returns-then-turns_away
+returns-2 c = judged _ _ _ (settled c.before true c.if-turns_away.true)
 
-returns-3 : tie.Need-returns-3
-returns-3 c = judged _ _ _ (settled c.before false c.if2.false)
+returns-3 : tie.Need-returns
+returns-3 c = judged _ _ _ (settled c.before false c.if-turns_away.false)
 
-pub judge-spec : {M : Type 1} → statement M
-judge-spec = tie.close (tie.spec (λ c κs. search rules) returns turns-away-requires returns-2 returns-3)
+pub judge_spec : {M : Type 1} → statement M
+judge_spec = tie.close (tie.spec (λ c κs. search rules) returns turns-away-requires returns-2 returns-3)

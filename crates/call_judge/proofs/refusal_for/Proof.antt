@@ -9,7 +9,7 @@ use Rattle.call_judge.proofs.refusal_for.Tie as tie
 
 returns : tie.Need-returns
 returns c =
-    said_or _ _ _ c.or.ensures c.before.before.file-refusal.ensures (ap (λ (k : ℕ). refuse k 0) c.before.word-fault.ensures ∙ sym (first-last _))
+    said_or _ _ _ c.or.ensures c.before.before.file_refusal-of_file.ensures (ap (λ (k : ℕ). refuse k 0) c.before.word_fault.ensures ∙ sym (first-last _))
 
-pub refusal-for-spec : {M : Type 1} → statement M
-refusal-for-spec = tie.close (tie.spec (λ c κs. search rules) (λ c κs. search rules) (λ c κs. search rules) returns)
+pub refusal_for_spec : {M : Type 1} → statement M
+refusal_for_spec = tie.close (tie.spec (λ c κs. search rules) (λ c κs. search rules) (λ c κs. search rules) returns)

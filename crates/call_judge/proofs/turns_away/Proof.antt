@@ -20,17 +20,17 @@ returns c =
     let s = c.before.before.before.before.before.before.before.before in
     let bs = s.args.file.now in
     let w = s.args.word.now in
-    let r = c.before.before.relation-by in
+    let r = c.before.before.relation_by-r in
     c.rejects.ensures
-    ∙ ap (λ (m : ℕ). rejects states (bit m) (value r.result)) c.before.final-states.ensures
+    ∙ ap (λ (m : ℕ). rejects states (bit m) (value r.result)) c.before.final_states-finals.ensures
     ∙ sym (rejects-number states (is_final (automaton_of bs)) (value r.result))
     ∙ ap (rejects states (is_final (automaton_of bs)))
     (r.ensures
-    ∙ ap (λ (t : List ℕ). table_relation states t w) c.before.before.before.before.letter-relations.ensures
+    ∙ ap (λ (t : List ℕ). table_relation states t w) c.before.before.before.before.letter_relations.ensures
     ∙ by-letters (transitions_of bs) w s.requires)
 
-pub turns-away-spec : {M : Type 1} → statement M
-turns-away-spec =
+pub turns_away_spec : {M : Type 1} → statement M
+turns_away_spec =
     tie.close
     (tie.spec
     (λ c κs. search rules)

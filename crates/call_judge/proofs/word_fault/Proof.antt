@@ -8,49 +8,49 @@ use Rattle.call_judge.specs.Judgements.{From, too_long, beyond, none-beyond, fro
 use Rattle.call_judge.proofs.word_fault.Statement.{statement}
 use Rattle.call_judge.proofs.word_fault.Tie as tie
 
-abbrev invariant-loop : tie.invariant-loop
-invariant-loop word i₀ i = (i ≤ length word) × From word i
+abbrev invariant-loop-i : tie.invariant-loop-i
+invariant-loop-i word i₀ i = (i ≤ length word) × From word i
 
-abbrev decreases-loop : tie.decreases-loop
-decreases-loop word i₀ i = length word - i
+abbrev decreases-loop-i : tie.decreases-loop-i
+decreases-loop-i word i₀ i = length word - i
 
-returns : tie.Need-returns invariant-loop decreases-loop
-returns c = too_long c.before.args.word.now c.if1.true
+returns : tie.Need-returns-then-word-gt-WORD_LIMIT invariant-loop-i decreases-loop-i
+returns c = too_long c.before.args.word.now c.if-word-gt-WORD_LIMIT.true
 
-loop-holds : tie.Need-loop-init invariant-loop decreases-loop
+loop-holds : tie.Need-loop-i-init invariant-loop-i decreases-loop-i
 loop-holds c = (omega arith, refl)
 
-shared-slice-read-if2 : tie.Need-shared-slice-read-if2 invariant-loop decreases-loop
+shared-slice-read-if2 : tie.Need-bounds-word-i invariant-loop-i decreases-loop-i
 shared-slice-read-if2 c = omega arith
 
-returns-2 : tie.Need-returns-2 invariant-loop decreases-loop
+returns-2 : tie.Need-returns-then-word-i-ge-TERMINALS invariant-loop-i decreases-loop-i
 returns-2 c =
-    let l = c.before.before.before.loop in
-    beyond c.before.before.before.before.before.args.word.now c.before.before.before.before.if1.false l.i c.before.before.loop-test.true l.invariant.1 c.if2.true
+    let l = c.before.before.before.loop-i in
+    beyond c.before.before.before.before.before.args.word.now c.before.before.before.before.if-word-gt-WORD_LIMIT.false l.i c.before.before.loop-i-test.true l.invariant.1 c.if-word-i-ge-TERMINALS.true
 
-add-i : tie.Need-overflow-add-i invariant-loop decreases-loop
+add-i : tie.Need-overflow_add-i invariant-loop-i decreases-loop-i
 add-i c = omega arith
 
-loop-less : tie.Need-loop-smaller invariant-loop decreases-loop
+loop-less : tie.Need-loop-i-smaller invariant-loop-i decreases-loop-i
 loop-less c = omega arith
 
-loop-again : tie.Need-loop-preserved invariant-loop decreases-loop
+loop-again : tie.Need-loop-i-preserved invariant-loop-i decreases-loop-i
 loop-again c =
-    let l = c.before.before.before.loop in
-    (omega arith, from_next c.before.before.before.before.before.args.word.now l.i c.before.before.loop-test.true l.invariant.1 c.if2.false)
+    let l = c.before.before.before.loop-i in
+    (omega arith, from_next c.before.before.before.before.before.args.word.now l.i c.before.before.loop-i-test.true l.invariant.1 c.if-word-i-ge-TERMINALS.false)
 
-returns-3 : tie.Need-returns-3 invariant-loop decreases-loop
+returns-3 : tie.Need-returns invariant-loop-i decreases-loop-i
 returns-3 c =
     let w = c.before.before.before.args.word.now in
-    let e : c.before.loop.i ≡ length w = omega arith in
-    none-beyond w c.before.before.if1.false (rw e at c.before.loop.invariant.1)
+    let e : c.before.loop-i.i ≡ length w = omega arith in
+    none-beyond w c.before.before.if-word-gt-WORD_LIMIT.false (rw e at c.before.loop-i.invariant.1)
 
-pub word-fault-spec : {M : Type 1} → statement M
-word-fault-spec =
+pub word_fault_spec : {M : Type 1} → statement M
+word_fault_spec =
     tie.close
     (tie.spec
-    invariant-loop
-    decreases-loop
+    invariant-loop-i
+    decreases-loop-i
     returns
     loop-holds
     shared-slice-read-if2

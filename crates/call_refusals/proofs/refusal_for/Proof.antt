@@ -10,7 +10,7 @@ use Rattle.call_refusals.proofs.refusal_for.Tie as tie
 returns : tie.Need-returns
 unfolding journal_fault
 returns c =
-    said_or _ _ _ c.or.ensures c.before.before.file-refusal.ensures (ap refusal_of c.before.when.ensures ∙ sym (first-last (journal_fault c.before.before.before.before.args.rows)))
+    said_or _ _ _ c.or.ensures c.before.before.file_refusal-of_file.ensures (ap refusal_of c.before.when-of_journal.ensures ∙ sym (first-last (journal_fault c.before.before.before.before.args.rows)))
 
-pub refusal-for-spec : {M : Type 1} → statement M
-refusal-for-spec = tie.close (tie.spec (λ c κs. search rules) (λ c κs. search rules) (λ c κs. search rules) returns)
+pub refusal_for_spec : {M : Type 1} → statement M
+refusal_for_spec = tie.close (tie.spec (λ c κs. search rules) (λ c κs. search rules) (λ c κs. search rules) returns)

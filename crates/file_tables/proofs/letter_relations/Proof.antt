@@ -14,44 +14,44 @@ use Rattle.file_tables.specs.Tables.{letter_table, with_transition}
 use Rattle.file_tables.proofs.letter_relations.Statement.{statement}
 use Rattle.file_tables.proofs.letter_relations.Tie as tie
 
-abbrev invariant-loop : tie.invariant-loop
-invariant-loop file table₀ n i₀ table i = (i ≤ length file / 8) × (table ≡ letter_table states (collect transition_kind transition_of file i 0))
+abbrev invariant-loop-i : tie.invariant-loop-i
+invariant-loop-i file table₀ n i₀ table i = (i ≤ length file / 8) × (table ≡ letter_table states (collect transition_kind transition_of file i 0))
 
-abbrev decreases-loop : tie.decreases-loop
-decreases-loop file table₀ n i₀ table i = length file / 8 - i
+abbrev decreases-loop-i : tie.decreases-loop-i
+decreases-loop-i file table₀ n i₀ table i = length file / 8 - i
 
-loop-holds : tie.Need-loop-init invariant-loop decreases-loop
+loop-holds : tie.Need-loop-i-init invariant-loop-i decreases-loop-i
 loop-holds c =
-    (omega arith, c.without-transitions.ensures ∙ sym (ap (letter_table states) (none_yet transition_kind transition_of c.before.before.before.args.file.now)))
+    (omega arith, c.without_transitions.ensures ∙ sym (ap (letter_table states) (none_yet transition_kind transition_of c.before.before.before.args.file.now)))
 
-read-transition-requires : tie.Need-read-transition-requires invariant-loop decreases-loop
-read-transition-requires c κs = let l = c.before.before.loop in (omega arith, ap length l.invariant.1 ∙ letters-length states _)
+read-transition-requires : tie.Need-read_transition-requires invariant-loop-i decreases-loop-i
+read-transition-requires c κs = let l = c.before.before.loop-i in (omega arith, ap length l.invariant.1 ∙ letters-length states _)
 
-add-i : tie.Need-overflow-add-i invariant-loop decreases-loop
+add-i : tie.Need-overflow_add-i invariant-loop-i decreases-loop-i
 add-i c = omega arith
 
-loop-less : tie.Need-loop-smaller invariant-loop decreases-loop
+loop-less : tie.Need-loop-i-smaller invariant-loop-i decreases-loop-i
 loop-less c = omega arith
 
-loop-again : tie.Need-loop-preserved invariant-loop decreases-loop
+loop-again : tie.Need-loop-i-preserved invariant-loop-i decreases-loop-i
 loop-again c =
-    let l = c.before.before.before.loop in (
+    let l = c.before.before.before.loop-i in (
       omega arith,
-      c.read-transition.ensures
+      c.read_transition.ensures
           ∙ turn transition_kind transition_of c.before.before.before.before.before.before.before.args.file.now (letter_table states) (with_transition states) letters-next l.i l.table l.invariant.1,
     )
 
-returns : tie.Need-returns invariant-loop decreases-loop
+returns : tie.Need-returns invariant-loop-i decreases-loop-i
 unfolding transitions_of
 returns c =
-    let e : c.before.loop.i ≡ length c.before.before.before.before.before.args.file.now / 8 = omega arith in rw e at c.before.loop.invariant.1
+    let e : c.before.loop-i.i ≡ length c.before.before.before.before.before.args.file.now / 8 = omega arith in rw e at c.before.loop-i.invariant.1
 
-pub letter-relations-spec : {M : Type 1} → statement M
-letter-relations-spec =
+pub letter_relations_spec : {M : Type 1} → statement M
+letter_relations_spec =
     tie.close
     (tie.spec
-    invariant-loop
-    decreases-loop
+    invariant-loop-i
+    decreases-loop-i
     (λ c κs. search rules)
     loop-holds
     read-transition-requires

@@ -12,54 +12,54 @@ use Rattle.file_tables.specs.Tables.{rule_bytes_in, rows_of, rows_in, with_row, 
 use Rattle.file_tables.proofs.read_rules.Statement.{statement}
 use Rattle.file_tables.proofs.read_rules.Tie as tie
 
-abbrev invariant-loop : tie.invariant-loop
-invariant-loop file rows₀ count n₀ i₀ rows n i =
+abbrev invariant-loop-i : tie.invariant-loop-i
+invariant-loop-i file rows₀ count n₀ i₀ rows n i =
     (i ≤ length file / 8) × ((length rows ≡ length rows₀) × (rows_in rows n ≡ written rows₀ (collect rule_kind rule_bytes_in file i 0)))
 
-abbrev decreases-loop : tie.decreases-loop
-decreases-loop file rows₀ count n₀ i₀ rows n i = length file / 8 - i
+abbrev decreases-loop-i : tie.decreases-loop-i
+decreases-loop-i file rows₀ count n₀ i₀ rows n i = length file / 8 - i
 
-loop-holds : tie.Need-loop-init invariant-loop decreases-loop
+loop-holds : tie.Need-loop-i-init invariant-loop-i decreases-loop-i
 loop-holds c =
     let a = c.before.args in
     (omega arith, (refl, written_none a.rows.now ∙ sym (ap (written a.rows.now) (none_yet rule_kind rule_bytes_in a.file.now))))
 
-read-rule-requires : tie.Need-read-rule-requires invariant-loop decreases-loop
+read-rule-requires : tie.Need-read_rule-n-requires invariant-loop-i decreases-loop-i
 read-rule-requires c κs = (omega arith, omega arith)
 
-add-i : tie.Need-overflow-add-i invariant-loop decreases-loop
+add-i : tie.Need-overflow_add-i invariant-loop-i decreases-loop-i
 add-i c = omega arith
 
-loop-less : tie.Need-loop-smaller invariant-loop decreases-loop
+loop-less : tie.Need-loop-i-smaller invariant-loop-i decreases-loop-i
 loop-less c = omega arith
 
-loop-again : tie.Need-loop-preserved invariant-loop decreases-loop
+loop-again : tie.Need-loop-i-preserved invariant-loop-i decreases-loop-i
 loop-again c =
     let s = c.before.before.before.before.before.before in
     let t = s.args.rows.now in
-    let l = c.before.before.before.before.loop in (
+    let l = c.before.before.before.before.loop-i in (
       omega arith,
       (
-        c.before.read-rule.auto.1.1.0 ∙ l.invariant.1.0,
-        c.before.read-rule.ensures
+        c.before.read_rule-n.auto.rows ∙ l.invariant.1.0,
+        c.before.read_rule-n.ensures
             ∙ turn rule_kind rule_bytes_in s.args.file.now (written t) with_row (λ xs x. written_next t xs x s.requires) l.i (rows_in l.rows l.n) l.invariant.1.1,
       ),
     )
 
-same_length : tie.Need-same-length invariant-loop decreases-loop
-same_length c = c.before.loop.invariant.1.0
+same_length : tie.Need-shape_of-rows invariant-loop-i decreases-loop-i
+same_length c = c.before.loop-i.invariant.1.0
 
-returns : tie.Need-returns invariant-loop decreases-loop
+returns : tie.Need-returns invariant-loop-i decreases-loop-i
 unfolding rows_of
 returns c =
-    let e : c.before.loop.i ≡ length c.before.before.before.args.file.now / 8 = omega arith in rw e at c.before.loop.invariant.1.1
+    let e : c.before.loop-i.i ≡ length c.before.before.before.args.file.now / 8 = omega arith in rw e at c.before.loop-i.invariant.1.1
 
-pub read-rules-spec : {M : Type 1} → statement M
-read-rules-spec =
+pub read_rules_spec : {M : Type 1} → statement M
+read_rules_spec =
     tie.close
     (tie.spec
-    invariant-loop
-    decreases-loop
+    invariant-loop-i
+    decreases-loop-i
     loop-holds
     read-rule-requires
     add-i

@@ -1,7 +1,6 @@
 -- By the record's kind and its letter; below the remarks a pair is inserted into the letter's relation. Assumes nothing.
 use mathlib.Core.Path.{sym, ap, ◌∙◌}
 use borrow.Author.Rules.{rules}
-use borrow.Author.Tests.{not-true, not-false}
 use Rattle.relation.specs.declared.Relation.{Relation}
 use Rattle.relation.specs.Relation.{states, insert}
 use Rattle.relation.specs.Representation.{value}
@@ -14,33 +13,33 @@ use Rattle.file_tables.specs.LetterLaws.{with-left-out, with-inserted}
 use Rattle.file_tables.proofs.read_transition.Statement.{statement}
 use Rattle.file_tables.proofs.read_transition.Tie as tie
 
-returns : tie.Need-returns
-returns c = rw (sym c.before.of-kind.ensures ∙ not-true _ c.if1.true)
+returns : tie.Need-returns-then-not-of_kind
+returns c = rw (sym c.before.of_kind.ensures ∙ c.if-not-of_kind.true)
 
-returns-2 : tie.Need-returns-2
+returns-2 : tie.Need-returns-then-letter-ge-FIRST_REMARK
 returns-2 c =
     let s = c.before.before.before.before.before in
-    let e = c.before.transition-at.ensures ∙ sym (ap transition_in (whole s.args.file.now s.args.i s.requires.0)) in
-    rw (sym c.before.before.before.of-kind.ensures ∙ not-false _ c.before.before.if1.false)
-    (sym (with-left-out states s.args.table.now (automaton_transition c.before.transition-at.result) c.if2.true)
+    let e = c.before.transition_at-t.ensures ∙ sym (ap transition_in (whole s.args.file.now s.args.i s.requires.0)) in
+    rw (sym c.before.before.before.of_kind.ensures ∙ c.before.before.if-not-of_kind.false)
+    (sym (with-left-out states s.args.table.now (automaton_transition c.before.transition_at-t.result) c.if-letter-ge-FIRST_REMARK.true)
     ∙ ap (λ (t : Transition). with_transition states s.args.table.now (automaton_transition t)) e)
 
-returns-3 : tie.Need-returns-3
+returns-3 : tie.Need-returns
 returns-3 c =
     let new = c.before.before in
     let old = new.before in
     let at = old.before.before.before.before in
     let s = at.before.before.before.before in
-    let t = at.transition-at.result in
-    let e = at.transition-at.ensures ∙ sym (ap transition_in (whole s.args.file.now s.args.i s.requires.0)) in
-    rw (sym at.before.before.of-kind.ensures ∙ not-false _ at.before.if1.false)
+    let t = at.transition_at-t.result in
+    let e = at.transition_at-t.ensures ∙ sym (ap transition_in (whole s.args.file.now s.args.i s.requires.0)) in
+    rw (sym at.before.before.of_kind.ensures ∙ at.before.if-not-of_kind.false)
     (c.store.ensures
-    ∙ ap (with_relation s.args.table.now t.letter) (new.insert.ensures ∙ ap (λ (r : Relation). insert states (value r) t.source t.target) old.read.ensures)
-    ∙ sym (with-inserted states s.args.table.now (automaton_transition t) old.before.before.before.if2.false)
+    ∙ ap (with_relation s.args.table.now t.letter) (new.insert-new.ensures ∙ ap (λ (r : Relation). insert states (value r) t.source t.target) old.read-old.ensures)
+    ∙ sym (with-inserted states s.args.table.now (automaton_transition t) old.before.before.before.if-letter-ge-FIRST_REMARK.false)
     ∙ ap (λ (t : Transition). with_transition states s.args.table.now (automaton_transition t)) e)
 
-pub read-transition-spec : {M : Type 1} → statement M
-read-transition-spec =
+pub read_transition_spec : {M : Type 1} → statement M
+read_transition_spec =
     tie.close
     (tie.spec
     (λ c κs. search rules)

@@ -11,7 +11,7 @@ use Rattle.file_tables.proofs.row_at.Tie as tie
 returns : tie.Need-returns
 returns c =
     let s = c.before.before in
-    ap (λ (r : Rule). r.head ∷ r.size ∷ r.first ∷ r.second ∷ []) (c.rule-at.ensures ∙ sym (ap rule_in (whole s.args.file.now s.args.i s.requires)))
+    ap (λ (r : Rule). r.head ∷ r.size ∷ r.first ∷ r.second ∷ []) (c.rule_at-r.ensures ∙ sym (ap rule_in (whole s.args.file.now s.args.i s.requires)))
 
-pub row-at-spec : {M : Type 1} → statement M
-row-at-spec = tie.close (tie.spec (λ c κs. search rules) returns)
+pub row_at_spec : {M : Type 1} → statement M
+row_at_spec = tie.close (tie.spec (λ c κs. search rules) returns)

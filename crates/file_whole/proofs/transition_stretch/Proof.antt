@@ -15,27 +15,27 @@ use Rattle.file_whole.proofs.transition_stretch.Tie as tie
 
 returns : tie.Need-returns-then-r-ne0
 unfolding stretch
-returns c = rw (ne_eqb (fault c.before.before.before.before.args.file.now).number 0 (λ e. c.if-r-ne0.true (ap (λ (r : Refusal). r.number) c.before.before.file_refusal-r.ensures ∙ e)))
+returns c = rw (ne_eqb (fault c.args.file.now).number 0 (λ e. c.if-r-ne0.true (ap (λ (r : Refusal). r.number) c.file_refusal-r.ensures ∙ e)))
 
 mul-first : tie.Need-overflow_mul-first
-mul-first c = omega (arith, counts-le c.before.before.before.before.before.args.file.now (record_count c.before.before.before.before.before.args.file.now), c.rule_count-first.ensures, c.before.before.before.before.before.well_formed.0.0)
+mul-first c = omega (arith, counts-le c.args.file.now (record_count c.args.file.now), c.rule_count-first.ensures, c.well_formed.0.0)
 
 mul-end : tie.Need-overflow_mul-end
-mul-end c = omega (arith, counts-le c.before.before.before.before.before.before.args.file.now (record_count c.before.before.before.before.before.before.args.file.now), c.transition_count.ensures, c.before.before.before.before.before.before.well_formed.0.0)
+mul-end c = omega (arith, counts-le c.args.file.now (record_count c.args.file.now), c.transition_count.ensures, c.well_formed.0.0)
 
 add-end : tie.Need-overflow_add-end
-add-end c = omega (arith, counts-le c.before.before.before.before.before.before.args.file.now (record_count c.before.before.before.before.before.before.args.file.now), c.before.rule_count-first.ensures, c.transition_count.ensures, c.before.before.before.before.before.before.well_formed.0.0)
+add-end c = omega (arith, counts-le c.args.file.now (record_count c.args.file.now), c.rule_count-first.ensures, c.transition_count.ensures, c.well_formed.0.0)
 
-part-result-end : tie.Need-slice_bounds-result-end
-part-result-end c = omega (arith, counts-le c.before.before.before.before.args.file.now (record_count c.before.before.before.before.args.file.now), c.before.rule_count-first.ensures, c.transition_count.ensures)
+part-result-end : tie.Need-slice_bounds-result-end-2
+part-result-end c = omega (arith, counts-le c.args.file.now (record_count c.args.file.now), c.rule_count-first.ensures, c.transition_count.ensures)
 
 returns-2 : tie.Need-returns
 unfolding stretch
 returns-2 c =
-    let f = c.before.before.before.before.before.before.before.args.file.now in
-    rw (eq-eqb (fault f).number 0 (sym (ap (λ (r : Refusal). r.number) c.before.before.before.before.before.file_refusal-r.ensures) ∙ c.before.before.before.if-r-ne0.false))
-    (ap (λ (k : ℕ). take k (drop (c.before.before.rule_count-first.result * 8) f)) (add-sub_cancel_left (c.before.before.rule_count-first.result * 8) (c.before.transition_count.result * 8))
-    ∙ ap₂ (λ (a b : ℕ). take (b * 8) (drop (a * 8) f)) c.before.before.rule_count-first.ensures c.before.transition_count.ensures)
+    let f = c.args.file.now in
+    rw (eq-eqb (fault f).number 0 (sym (ap (λ (r : Refusal). r.number) c.file_refusal-r.ensures) ∙ c.if-r-ne0.false))
+    (ap (λ (k : ℕ). take k (drop (c.rule_count-first.result * 8) f)) (add-sub_cancel_left (c.rule_count-first.result * 8) (c.transition_count.result * 8))
+    ∙ ap₂ (λ (a b : ℕ). take (b * 8) (drop (a * 8) f)) c.rule_count-first.ensures c.transition_count.ensures)
 
 pub transition_stretch_spec : {M : Type 1} → statement M
 transition_stretch_spec =

@@ -9,18 +9,18 @@ use Rattle.spec_file.specs.Refusals.{rises_in, exceeds_in}
 use Rattle.file_wide.proofs.exceeds.Statement.{statement}
 use Rattle.file_wide.proofs.exceeds.Tie as tie
 
-returns : tie.Need-returns
+returns : tie.Need-returns-then-i-eq0
 unfolding exceeds_in
-returns c = rw (eq-eqb _ _ c.if1.true)
+returns c = rw (eq-eqb _ _ c.if-i-eq0.true)
 
-returns-2 : tie.Need-returns-2
+returns-2 : tie.Need-returns
 unfolding exceeds_in
 returns-2 c =
-    rw (ne_eqb _ _ c.before.before.before.if1.false)
-    (c.rises.ensures ∙ ap₂ (λ (r s : List ℕ). rises_in sixteen r s) c.before.before.record-at.ensures c.before.record-at2.ensures)
+    rw (ne_eqb _ _ c.before.before.before.if-i-eq0.false)
+    (c.rises.ensures ∙ ap₂ (λ (r s : List ℕ). rises_in sixteen r s) c.before.before.record_at.ensures c.before.record_at-2.ensures)
 
-pub exceeds-spec : {M : Type 1} → statement M
-exceeds-spec =
+pub exceeds_spec : {M : Type 1} → statement M
+exceeds_spec =
     tie.close
     (tie.spec
     returns

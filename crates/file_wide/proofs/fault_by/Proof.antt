@@ -21,17 +21,17 @@ returns c =
     let to-7 = to-6.before.before in
     let w = to-7.before.before in
     let a = w.before.before.before.args in
-    let e = w.before.record-at.ensures in
-    let g = w.front.ensures ∙ ap front_of e in
-    let seven = to-7.number-or.ensures ∙ test-next 7 (to-7.before.over-limit.ensures ∙ ap (λ (r : List ℕ). over_limit r a.rules a.transitions) g) refl in
-    let six = to-6.number-or2.ensures ∙ test-next 6 (ap not to-6.before.exceeds.ensures) seven in
-    let twelve = to-12.number-or3.ensures ∙ test-next 12 (to-12.before.on-remark.ensures ∙ ap on_remark g) six in
-    let five = to-5.number-or4.ensures ∙ test-next 5 (to-5.before.stray-byte.ensures ∙ ap (stray_byte_in sixteen) e) twelve in
-    let four = to-4.number-or5.ensures ∙ test-next 4 (to-4.before.above-range.ensures ∙ ap (above_range_in sixteen) e) five in
-    c.number-or6.ensures ∙ test-next 3 (ap not (c.before.kind-known.ensures ∙ ap kind_known g)) four
+    let e = w.before.record_at-r.ensures in
+    let g = w.front-front.ensures ∙ ap front_of e in
+    let seven = to-7.number_or-f.ensures ∙ test-next 7 (to-7.before.over_limit.ensures ∙ ap (λ (r : List ℕ). over_limit r a.rules a.transitions) g) refl in
+    let six = to-6.number_or-f-2.ensures ∙ test-next 6 (ap not to-6.before.exceeds.ensures) seven in
+    let twelve = to-12.number_or-f-3.ensures ∙ test-next 12 (to-12.before.on_remark.ensures ∙ ap on_remark g) six in
+    let five = to-5.number_or-f-4.ensures ∙ test-next 5 (to-5.before.stray_byte.ensures ∙ ap (stray_byte_in sixteen) e) twelve in
+    let four = to-4.number_or-f-5.ensures ∙ test-next 4 (to-4.before.above_range.ensures ∙ ap (above_range_in sixteen) e) five in
+    c.number_or.ensures ∙ test-next 3 (ap not (c.before.kind_known.ensures ∙ ap kind_known g)) four
 
-pub fault-by-spec : {M : Type 1} → statement M
-fault-by-spec =
+pub fault_by_spec : {M : Type 1} → statement M
+fault_by_spec =
     tie.close
     (tie.spec
     (λ c κs. search rules)

@@ -11,8 +11,8 @@ use Rattle.file_wide.proofs.length_refusal.Tie as tie
 
 returns : tie.Need-returns
 returns c =
-    said_or _ _ _ c.or.ensures (ap refusal_of c.before.before.when.ensures) (ap refusal_of c.before.when2.ensures)
+    said_or _ _ _ c.or.ensures (ap refusal_of c.before.before.when-torn.ensures) (ap refusal_of c.before.when-many.ensures)
     ∙ length-tests sixteen c.before.before.before.before.args.file.now (omega arith)
 
-pub length-refusal-spec : {M : Type 1} → statement M
-length-refusal-spec = tie.close (tie.spec (λ c κs. search rules) (λ c κs. search rules) (λ c κs. search rules) returns)
+pub length_refusal_spec : {M : Type 1} → statement M
+length_refusal_spec = tie.close (tie.spec (λ c κs. search rules) (λ c κs. search rules) (λ c κs. search rules) returns)

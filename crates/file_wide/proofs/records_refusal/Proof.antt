@@ -11,42 +11,42 @@ use Rattle.file_wide.specs.WalkLaws.{At, at-start, at_next, walk_refused, walk_e
 use Rattle.file_wide.proofs.records_refusal.Statement.{statement}
 use Rattle.file_wide.proofs.records_refusal.Tie as tie
 
-abbrev invariant-loop : tie.invariant-loop
-invariant-loop file records rules₀ transitions₀ i₀ rules transitions i = At sixteen file i rules transitions
+abbrev invariant-loop-i : tie.invariant-loop-i
+invariant-loop-i file records rules₀ transitions₀ i₀ rules transitions i = At sixteen file i rules transitions
 
-abbrev decreases-loop : tie.decreases-loop
-decreases-loop file records rules₀ transitions₀ i₀ rules transitions i = length file / 16 - i
+abbrev decreases-loop-i : tie.decreases-loop-i
+decreases-loop-i file records rules₀ transitions₀ i₀ rules transitions i = length file / 16 - i
 
-loop-holds : tie.Need-loop-init invariant-loop decreases-loop
+loop-holds : tie.Need-loop-i-init invariant-loop-i decreases-loop-i
 loop-holds c = at-start sixteen c.before.args.file.now
 
-returns : tie.Need-returns invariant-loop decreases-loop
+returns : tie.Need-returns-then-f-ne0 invariant-loop-i decreases-loop-i
 returns c =
-    let at = c.before.before.before.loop in
+    let at = c.before.before.before.loop-i in
     let file = c.before.before.before.before.before.args.file.now in
-    walk_refused sixteen file at.i at.rules at.transitions at.invariant c.before.fault-by.result (omega arith) c.if1.true c.before.fault-by.ensures
+    walk_refused sixteen file at.i at.rules at.transitions at.invariant c.before.fault_by-f.result (omega arith) c.if-f-ne0.true c.before.fault_by-f.ensures
 
-loop-again : tie.Need-loop-preserved invariant-loop decreases-loop
+loop-again : tie.Need-loop-i-preserved invariant-loop-i decreases-loop-i
 loop-again c =
-    let at = c.before.before.before.before.before.loop in
+    let at = c.before.before.before.before.before.loop-i in
     let file = c.before.before.before.before.before.before.before.args.file.now in
-    let a = c.before.of-kind in
-    let b = c.of-kind2 in
+    let a = c.before.of_kind-rules in
+    let b = c.of_kind-transitions in
     at_next sixteen file at.i at.rules at.transitions at.invariant a.result b.result (omega arith)
-    (sym c.before.before.before.fault-by.ensures ∙ c.before.before.if1.false) a.ensures.0 a.ensures.1 b.ensures.0 b.ensures.1
+    (sym c.before.before.before.fault_by-f.ensures ∙ c.before.before.if-f-ne0.false) a.ensures.0 a.ensures.1 b.ensures.0 b.ensures.1
 
-returns-2 : tie.Need-returns-2 invariant-loop decreases-loop
+returns-2 : tie.Need-returns invariant-loop-i decreases-loop-i
 returns-2 c =
-    let at = c.before.before.loop in
+    let at = c.before.before.loop-i in
     let file = c.before.before.before.before.args.file.now in
     ap refusal_of c.none.ensures ∙ walk_end sixteen file at.i at.rules at.transitions at.invariant (omega arith)
 
-pub records-refusal-spec : {M : Type 1} → statement M
-records-refusal-spec =
+pub records_refusal_spec : {M : Type 1} → statement M
+records_refusal_spec =
     tie.close
     (tie.spec
-    invariant-loop
-    decreases-loop
+    invariant-loop-i
+    decreases-loop-i
     loop-holds
     (λ c κs. search rules)
     returns

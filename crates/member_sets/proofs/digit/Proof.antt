@@ -11,5 +11,5 @@ use Rattle.member_sets.proofs.digit.Tie as tie
 returns : tie.Need-returns
 returns c = shl_exact {a = 1} 1 c.args.place 64 (le_refl 2) (omega arith) ∙ one-mul (2 ^ c.args.place)
 
-pub digit-spec : {M : Type 1} → statement M
-digit-spec = tie.close (tie.spec (λ c. search rules) (λ c. search rules) (λ c. search rules) returns)
+pub digit_spec : {M : Type 1} → statement M
+digit_spec = tie.close (tie.spec (λ c. search rules) (λ c. search rules) (λ c. search rules) returns)

@@ -1,6 +1,5 @@
 -- The loop's invariant: `out` is `set` with what the first i rules add. Assumes nothing.
 use mathlib.Core.Path.{sym, ◌∙◌, subst}
-use mathlib.Core.Logic.{⊎_elim}
 use mathlib.Core.List.{[]}
 use Prim.Native.Nat.{◌+◌, ◌≤◌, ◌-◌}
 use native.Mathlib.Omega.{arith}
@@ -10,54 +9,55 @@ use Rattle.spec_file.specs.Entries.{entry_of}
 use Rattle.member_laws.specs.RoundLaws.{NullUpto, null-none, null-miss, null-hit, null-all, row_in}
 use Rattle.member_sets.proofs.null_round.Statement.{statement}
 use Rattle.member_sets.proofs.null_round.Tie as tie
+use Rattle.member_sets.proofs.null_round.Lts.{then-body_in, else-body_in}
 
-abbrev invariant-loop : tie.invariant-loop
-invariant-loop rules set out₀ i₀ out i = (i ≤ length rules) × NullUpto rules set i out
+abbrev invariant-loop-i : tie.invariant-loop-i
+invariant-loop-i rules set out₀ i₀ out i = (i ≤ length rules) × NullUpto rules set i out
 
-abbrev decreases-loop : tie.decreases-loop
-decreases-loop rules set out₀ i₀ out i = length rules - i
+abbrev decreases-loop-i : tie.decreases-loop-i
+decreases-loop-i rules set out₀ i₀ out i = length rules - i
 
-loop-holds : tie.Need-loop-init invariant-loop decreases-loop
+loop-holds : tie.Need-loop-i-init invariant-loop-i decreases-loop-i
 loop-holds c = (omega arith, null-none c.args.rules.now c.args.set)
 
-mul-rule : tie.Need-overflow-mul-rule invariant-loop decreases-loop
+mul-rule : tie.Need-offset_bounds-rules-i invariant-loop-i decreases-loop-i
 mul-rule c = omega arith
 
-shared-slice-copy-out-rule : tie.Need-shared-slice-copy-out-rule invariant-loop decreases-loop
+shared-slice-copy-out-rule : tie.Need-bounds-rules-i invariant-loop-i decreases-loop-i
 shared-slice-copy-out-rule c = omega arith
 
-with-one-requires : tie.Need-with-one-requires invariant-loop decreases-loop
+with-one-requires : tie.Need-with_one-out-requires invariant-loop-i decreases-loop-i
 with-one-requires c κs =
     let s = c.before.before.before.before.before in
-    s.requires (entry_of (get_or s.args.rules.now c.before.before.before.before.loop.i [])) (row_in s.args.rules.now c.before.before.before.before.loop.i (omega arith))
+    s.requires (entry_of (get_or s.args.rules.now c.before.before.before.before.loop-i.i [])) (row_in s.args.rules.now c.before.before.before.before.loop-i.i (omega arith))
 
-add-i : tie.Need-overflow-add-i invariant-loop decreases-loop
+add-i : tie.Need-overflow_add-i invariant-loop-i decreases-loop-i
 add-i c = omega arith
 
-loop-less : tie.Need-loop-smaller invariant-loop decreases-loop
+loop-less : tie.Need-loop-i-smaller invariant-loop-i decreases-loop-i
 loop-less c = omega arith
 
-loop-again : tie.Need-loop-preserved invariant-loop decreases-loop
+loop-again : tie.Need-loop-i-preserved invariant-loop-i decreases-loop-i
 loop-again c =
     let a = c.before.before.before.before.before.args in
-    let l = c.before.before.before.before.loop in
-    let e = c.before.body-in.ensures in (
+    let l = c.before.before.before.before.loop-i in
+    let e = c.before.body_in.ensures in (
       omega arith,
-      ⊎_elim
-          (λ w. subst (NullUpto a.rules.now a.set (l.i + 1)) (sym (w.2 ∙ w.1.ensures)) (null-hit a.rules.now a.set l.i l.out (omega arith) l.invariant.1 (sym e ∙ w.0.taken)))
-          (λ w. subst (NullUpto a.rules.now a.set (l.i + 1)) (sym w.1) (null-miss a.rules.now a.set l.i l.out (omega arith) l.invariant.1 (sym e ∙ w.0.left)))
-          c.if1.branch,
+      elim c.if-body_in.branch [
+          then-body_in w ↦ subst (NullUpto a.rules.now a.set (l.i + 1)) (sym (w.out-is ∙ w.with_one-out.ensures)) (null-hit a.rules.now a.set l.i l.out (omega arith) l.invariant.1 (sym e ∙ w.if-body_in.true))
+        | else-body_in w ↦ subst (NullUpto a.rules.now a.set (l.i + 1)) (sym w.out-is) (null-miss a.rules.now a.set l.i l.out (omega arith) l.invariant.1 (sym e ∙ w.if-body_in.false))
+      ],
     )
 
-returns : tie.Need-returns invariant-loop decreases-loop
-returns c = null-all c.before.before.args.rules.now c.before.before.args.set c.before.loop.i c.before.loop.out (omega arith) c.before.loop.invariant.1
+returns : tie.Need-returns invariant-loop-i decreases-loop-i
+returns c = null-all c.before.before.args.rules.now c.before.before.args.set c.before.loop-i.i c.before.loop-i.out (omega arith) c.before.loop-i.invariant.1
 
-pub null-round-spec : {M : Type 1} → statement M
-null-round-spec =
+pub null_round_spec : {M : Type 1} → statement M
+null_round_spec =
     tie.close
     (tie.spec
-    invariant-loop
-    decreases-loop
+    invariant-loop-i
+    decreases-loop-i
     loop-holds
     mul-rule
     shared-slice-copy-out-rule

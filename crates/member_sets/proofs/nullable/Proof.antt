@@ -13,31 +13,31 @@ use Rattle.member_laws.specs.RoundLaws.{null-done}
 use Rattle.member_sets.proofs.nullable.Statement.{statement}
 use Rattle.member_sets.proofs.nullable.Tie as tie
 
-abbrev invariant-loop : tie.invariant-loop
-invariant-loop rules set₀ set = AllDerive (map entry_of rules) set []
+abbrev invariant-loop-set : tie.invariant-loop-set
+invariant-loop-set rules set₀ set = AllDerive (map entry_of rules) set []
 
-abbrev decreases-loop : tie.decreases-loop
-decreases-loop rules set₀ set = 2 ^ 64 - set
+abbrev decreases-loop-set : tie.decreases-loop-set
+decreases-loop-set rules set₀ set = 2 ^ 64 - set
 
-loop-holds : tie.Need-loop-init invariant-loop decreases-loop
+loop-holds : tie.Need-loop-set-init invariant-loop-set decreases-loop-set
 loop-holds c p e = absurd (false≢true (sym (bit-zero p) ∙ e))
 
-null-round-requires : tie.Need-null-round-requires invariant-loop decreases-loop
+null-round-requires : tie.Need-null_round-next-requires invariant-loop-set decreases-loop-set
 null-round-requires c κs = c.before.requires
 
-returns : tie.Need-returns invariant-loop decreases-loop
+returns : tie.Need-returns-then-next-set invariant-loop-set decreases-loop-set
 returns c =
     let rules = map entry_of c.before.before.before.args.rules.now in
-    let l = c.before.before.loop in
-    null-done rules l.set l.invariant (subst (NullRound rules l.set) c.if1.true c.before.null-round.ensures)
+    let l = c.before.before.loop-set in
+    null-done rules l.set l.invariant (subst (NullRound rules l.set) c.if-next-set.true c.before.null_round-next.ensures)
 
-loop-less : tie.Need-loop-smaller invariant-loop decreases-loop
-loop-less c = let h = c.before.null-round.ensures.larger in omega (arith, c.before.null-round.type-inv, c.if1.false)
+loop-less : tie.Need-loop-set-smaller invariant-loop-set decreases-loop-set
+loop-less c = let h = c.before.null_round-next.ensures.larger in omega (arith, c.before.null_round-next.type_inv, c.if-next-set.false)
 
-loop-again : tie.Need-loop-preserved invariant-loop decreases-loop
-loop-again c = c.before.null-round.ensures.sound c.before.before.loop.invariant
+loop-again : tie.Need-loop-set-preserved invariant-loop-set decreases-loop-set
+loop-again c = c.before.null_round-next.ensures.sound c.before.before.loop-set.invariant
 
-pub nullable-spec : {M : Type 1} → statement M
-nullable-spec =
+pub nullable_spec : {M : Type 1} → statement M
+nullable_spec =
     tie.close
-    (tie.spec invariant-loop decreases-loop loop-holds null-round-requires returns loop-less loop-again)
+    (tie.spec invariant-loop-set decreases-loop-set loop-holds null-round-requires returns loop-less loop-again)

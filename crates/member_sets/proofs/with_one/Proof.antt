@@ -8,5 +8,5 @@ use Rattle.member_sets.proofs.with_one.Tie as tie
 returns : tie.Need-returns
 returns c = ap (bit_or c.before.args.set) c.digit.ensures
 
-pub with-one-spec : {M : Type 1} → statement M
-with-one-spec = tie.close (tie.spec (λ c κs. search rules) returns)
+pub with_one_spec : {M : Type 1} → statement M
+with_one_spec = tie.close (tie.spec (λ c κs. search rules) returns)

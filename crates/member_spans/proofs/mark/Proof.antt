@@ -11,7 +11,7 @@ returns : tie.Need-returns
 returns c =
     let a = c.before.before.before.args in
     let cells = a.cells.now in
-    ap (λ (x : ℕ). set cells a.at (bit_or (get_or cells a.at 0) x)) c.before.digit.ensures
+    ap (λ (x : ℕ). set cells a.at (bit_or (get_or cells a.at 0) x)) c.before.digit-bit.ensures
 
 pub mark_spec : {M : Type 1} → statement M
 mark_spec =

@@ -1,6 +1,5 @@
 -- The loop's invariant: `out` has the heads of those of the first k rules that join. Assumes nothing.
 use mathlib.Core.Path.{sym, ◌∙◌, subst}
-use mathlib.Core.Logic.{⊎_elim}
 use mathlib.Core.List.{[]}
 use Prim.Native.Nat.{◌+◌, ◌≤◌, ◌<◌, ◌-◌}
 use native.Mathlib.Omega.{arith}
@@ -11,41 +10,42 @@ use Rattle.member_laws.specs.RoundLaws.{row_in}
 use Rattle.member_laws.specs.SpanLaws.{SplitUpto, split-none, split-miss, split-hit, split-all}
 use Rattle.member_spans.proofs.split_heads.Statement.{statement}
 use Rattle.member_spans.proofs.split_heads.Tie as tie
+use Rattle.member_spans.proofs.split_heads.Lts.{then-rule_splits, else-rule_splits}
 
-abbrev invariant-loop : tie.invariant-loop
-invariant-loop rules word ends starts i j out₀ k₀ out k = (k ≤ length rules) × SplitUpto rules word ends starts i j k out
+abbrev invariant-loop-k : tie.invariant-loop-k
+invariant-loop-k rules word ends starts i j out₀ k₀ out k = (k ≤ length rules) × SplitUpto rules word ends starts i j k out
 
-abbrev decreases-loop : tie.decreases-loop
-decreases-loop rules word ends starts i j out₀ k₀ out k = length rules - k
+abbrev decreases-loop-k : tie.decreases-loop-k
+decreases-loop-k rules word ends starts i j out₀ k₀ out k = length rules - k
 
-loop-holds : tie.Need-loop-init invariant-loop decreases-loop
+loop-holds : tie.Need-loop-k-init invariant-loop-k decreases-loop-k
 loop-holds c =
     let s = c.before.before in
     let a = s.args in
     (omega arith, split-none a.rules.now a.word.now a.ends.now a.starts.now a.i a.j (omega (arith, s.requires.1)) s.requires.2)
 
-mul-rule : tie.Need-overflow-mul-rule invariant-loop decreases-loop
+mul-rule : tie.Need-offset_bounds-rules-k invariant-loop-k decreases-loop-k
 mul-rule c = omega arith
 
-shared-slice-copy-out-rule : tie.Need-shared-slice-copy-out-rule invariant-loop decreases-loop
+shared-slice-copy-out-rule : tie.Need-bounds-rules-k invariant-loop-k decreases-loop-k
 shared-slice-copy-out-rule c = omega arith
 
-rule-splits-requires : tie.Need-rule-splits-requires invariant-loop decreases-loop
+rule-splits-requires : tie.Need-rule_splits-requires invariant-loop-k decreases-loop-k
 rule-splits-requires c κs = let s = c.before.before.before.before.before in (s.requires.1, s.requires.2, s.requires.3, s.requires.4)
 
-with-one-requires : tie.Need-with-one-requires invariant-loop decreases-loop
+with-one-requires : tie.Need-with_one-out-requires invariant-loop-k decreases-loop-k
 with-one-requires c κs =
     let s = c.before.before.before.before.before.before.before in
-    let k = c.before.before.before.before.loop.k in
+    let k = c.before.before.before.before.loop-k.k in
     s.requires.0 (entry_of (get_or s.args.rules.now k [])) (row_in s.args.rules.now k (omega arith))
 
-add-k : tie.Need-overflow-add-k invariant-loop decreases-loop
+add-k : tie.Need-overflow_add-k invariant-loop-k decreases-loop-k
 add-k c = omega arith
 
-loop-less : tie.Need-loop-smaller invariant-loop decreases-loop
+loop-less : tie.Need-loop-k-smaller invariant-loop-k decreases-loop-k
 loop-less c = omega arith
 
-loop-again : tie.Need-loop-preserved invariant-loop decreases-loop
+loop-again : tie.Need-loop-k-preserved invariant-loop-k decreases-loop-k
 loop-again c =
     let s = c.before.before.before.before.before.before.before in
     let a = s.args in
@@ -53,31 +53,31 @@ loop-again c =
     let word = a.word.now in
     let ends = a.ends.now in
     let starts = a.starts.now in
-    let l = c.before.before.before.before.loop in
+    let l = c.before.before.before.before.loop-k in
     let low : a.i < a.j = omega (arith, s.requires.1) in
-    let e = sym c.before.rule-splits.ensures in (
+    let e = sym c.before.rule_splits.ensures in (
       omega arith,
-      ⊎_elim
-          (λ w. subst (SplitUpto rules word ends starts a.i a.j (l.k + 1)) (sym (w.2 ∙ w.1.ensures))
-          (split-hit rules word ends starts a.i a.j low s.requires.2 l.k l.out (omega arith) l.invariant.1 (e ∙ w.0.taken)))
-          (λ w. subst (SplitUpto rules word ends starts a.i a.j (l.k + 1)) (sym w.1)
-          (split-miss rules word ends starts a.i a.j low s.requires.2 l.k l.out (omega arith) l.invariant.1 (e ∙ w.0.left)))
-          c.if1.branch,
+      elim c.if-rule_splits.branch [
+        | then-rule_splits w ↦ subst (SplitUpto rules word ends starts a.i a.j (l.k + 1)) (sym (w.out-is ∙ w.with_one-out.ensures))
+            (split-hit rules word ends starts a.i a.j low s.requires.2 l.k l.out (omega arith) l.invariant.1 (e ∙ w.if-rule_splits.true))
+        | else-rule_splits w ↦ subst (SplitUpto rules word ends starts a.i a.j (l.k + 1)) (sym w.out-is)
+            (split-miss rules word ends starts a.i a.j low s.requires.2 l.k l.out (omega arith) l.invariant.1 (e ∙ w.if-rule_splits.false))
+      ],
     )
 
-returns : tie.Need-returns invariant-loop decreases-loop
+returns : tie.Need-returns invariant-loop-k decreases-loop-k
 returns c =
     let s = c.before.before.before.before in
     let a = s.args in
-    let l = c.before.loop in
+    let l = c.before.loop-k in
     split-all a.rules.now a.word.now a.ends.now a.starts.now a.i a.j (omega (arith, s.requires.1)) s.requires.2 l.k l.out (omega arith) l.invariant.1
 
-pub split-heads-spec : {M : Type 1} → statement M
-split-heads-spec =
+pub split_heads_spec : {M : Type 1} → statement M
+split_heads_spec =
     tie.close
     (tie.spec
-    invariant-loop
-    decreases-loop
+    invariant-loop-k
+    decreases-loop-k
     loop-holds
     mul-rule
     shared-slice-copy-out-rule

@@ -9,23 +9,23 @@ use Rattle.member_laws.specs.FillLaws.{filled_none, shown}
 use Rattle.member_table.proofs.fill.Statement.{statement}
 use Rattle.member_table.proofs.fill.Tie as tie
 
-fill-direct-requires : tie.Need-fill-direct-requires
-fill-direct-requires c κs = (c.before.before.before.before.requires.0, c.before.nullable.ensures)
+fill-direct-requires : tie.Need-fill_direct-requires
+fill-direct-requires c κs = (c.before.before.before.before.requires.0, c.before.nullable-empties.ensures)
 
-fill-rows-requires : tie.Need-fill-rows-requires
+fill-rows-requires : tie.Need-fill_rows-requires
 fill-rows-requires c κs =
     let s = c.before.before.before.before.before.before.before.before.before.before.before.before.before.before.before.before.before.before in
     let a = s.args in
     let cleared = c.before.before.before.before.before.before.before.before.clear in
-    let zeroed = c.before.before.before.before.before.clear2 in (
+    let zeroed = c.before.before.before.before.before.clear-2 in (
       record {
         heads = s.requires.0;
         short = s.requires.1;
         letters = s.requires.2;
-        null = c.before.before.before.before.before.before.before.before.before.before.before.before.before.before.before.nullable.ensures;
-        direct = c.before.before.before.before.before.before.before.before.before.before.before.before.before.fill-direct.new.1.1.0;
-        one-step = c.before.before.before.before.before.before.before.before.before.before.before.before.before.fill-direct.ensures;
-        closures = c.before.before.before.before.before.before.before.before.before.before.fill-units.ensures;
+        null = c.before.before.before.before.before.before.before.before.before.before.before.before.before.before.before.nullable-empties.ensures;
+        direct = c.before.before.before.before.before.before.before.before.before.before.before.before.before.fill_direct.new.1.1.0;
+        one-step = c.before.before.before.before.before.before.before.before.before.before.before.before.before.fill_direct.ensures;
+        closures = c.before.before.before.before.before.before.before.before.before.before.fill_units.ensures;
       },
       filled_none (map entry_of a.rules.now) a.word.now cleared.new.0 zeroed.new.0 (cleared.auto.0 ∙ length-replicate {A = ℕ} 4160 0) cleared.ensures (zeroed.auto.0 ∙ s.requires.3) zeroed.ensures,
     )
@@ -33,7 +33,7 @@ fill-rows-requires c κs =
 returns : tie.Need-returns
 returns c =
     let a = c.before.before.before.before.before.before.before.before.before.before.before.before.before.before.before.before.before.before.before.before.before.before.args in
-    let f = c.before.before.before.fill-rows in
+    let f = c.before.before.before.fill_rows in
     shown (map entry_of a.rules.now) a.word.now f.new.1.1.1.1.0 f.new.1.1.1.1.1.0 f.ensures
 
 pub fill_spec : {M : Type 1} → statement M

@@ -10,57 +10,57 @@ use Rattle.member_laws.specs.FillLaws.{row_zero, row_first, row_last, zeros}
 use Rattle.member_table.proofs.fill_row.Statement.{statement}
 use Rattle.member_table.proofs.fill_row.Tie as tie
 
-abbrev invariant-loop : tie.invariant-loop
-invariant-loop rules word empties units starts₀ table₀ i ends₀ j₀ starts table ends j =
+abbrev invariant-loop-j : tie.invariant-loop-j
+invariant-loop-j rules word empties units starts₀ table₀ i ends₀ j₀ starts table ends j =
     (j ≤ length word + 1) × (i ≤ j) × (length starts ≡ length starts₀) × (length table ≡ length table₀)
     × RowKnown (map entry_of rules) word i j ends × Filled (map entry_of rules) word (Done i j) starts table
 
-abbrev decreases-loop : tie.decreases-loop
-decreases-loop rules word empties units starts₀ table₀ i ends₀ j₀ starts table ends j = length word + 1 - j
+abbrev decreases-loop-j : tie.decreases-loop-j
+decreases-loop-j rules word empties units starts₀ table₀ i ends₀ j₀ starts table ends j = length word + 1 - j
 
-loop-holds : tie.Need-loop-init invariant-loop decreases-loop
+loop-holds : tie.Need-loop-j-init invariant-loop-j decreases-loop-j
 loop-holds c =
     let s = c.before.before.before in
     let a = s.args in
     let rules = map entry_of a.rules.now in
     (omega (arith, s.requires.2), omega arith, refl, refl, row_zero rules a.word.now a.i _ (zeros 64), row_first rules a.word.now a.i a.starts.now a.table.now s.requires.1)
 
-fill-stretch-requires : tie.Need-fill-stretch-requires invariant-loop decreases-loop
+fill-stretch-requires : tie.Need-fill_stretch-requires invariant-loop-j decreases-loop-j
 fill-stretch-requires c κs =
     let s = c.before.before.before.before.before.before.before.before in
-    let l = c.before.before.before.before.loop in
-    (s.requires.0, l.invariant.4, l.invariant.5, l.invariant.1, c.before.before.before.loop-test.true)
+    let l = c.before.before.before.before.loop-j in
+    (s.requires.0, l.invariant.4, l.invariant.5, l.invariant.1, c.before.before.before.loop-j-test.true)
 
-add-j : tie.Need-overflow-add-j invariant-loop decreases-loop
+add-j : tie.Need-overflow_add-j invariant-loop-j decreases-loop-j
 add-j c = omega arith
 
-loop-less : tie.Need-loop-smaller invariant-loop decreases-loop
+loop-less : tie.Need-loop-j-smaller invariant-loop-j decreases-loop-j
 loop-less c = omega arith
 
-loop-again : tie.Need-loop-preserved invariant-loop decreases-loop
+loop-again : tie.Need-loop-j-preserved invariant-loop-j decreases-loop-j
 loop-again c =
-    let l = c.before.before.before.before.before.before.before.before.before.loop in
-    let t = c.before.before.before.before.fill-stretch in
-    (omega (arith, c.before.before.before.before.before.before.before.before.loop-test.true), omega (arith, l.invariant.1), t.auto.1.1.1.1.1.0 ∙ l.invariant.2, t.auto.1.1.1.1.1.1.0 ∙ l.invariant.3, t.ensures.0, t.ensures.1)
+    let l = c.before.before.before.before.before.before.before.before.before.loop-j in
+    let t = c.before.before.before.before.fill_stretch in
+    (omega (arith, c.before.before.before.before.before.before.before.before.loop-j-test.true), omega (arith, l.invariant.1), t.auto.1.1.1.1.1.0 ∙ l.invariant.2, t.auto.1.1.1.1.1.1.0 ∙ l.invariant.3, t.ensures.0, t.ensures.1)
 
-same_length : tie.Need-same-length invariant-loop decreases-loop
-same_length c = c.before.loop.invariant.2
+same_length : tie.Need-shape_of-starts invariant-loop-j decreases-loop-j
+same_length c = c.before.loop-j.invariant.2
 
-same-length-2 : tie.Need-same-length-2 invariant-loop decreases-loop
-same-length-2 c = c.before.loop.invariant.3
+same-length-2 : tie.Need-shape_of-table invariant-loop-j decreases-loop-j
+same-length-2 c = c.before.loop-j.invariant.3
 
-returns : tie.Need-returns invariant-loop decreases-loop
+returns : tie.Need-returns invariant-loop-j decreases-loop-j
 returns c =
     let a = c.before.before.before.before.before.args in
-    let l = c.before.loop in
+    let l = c.before.loop-j in
     row_last (map entry_of a.rules.now) a.word.now a.i l.j l.starts l.table (omega arith) l.invariant.5
 
-pub fill-row-spec : {M : Type 1} → statement M
-fill-row-spec =
+pub fill_row_spec : {M : Type 1} → statement M
+fill_row_spec =
     tie.close
     (tie.spec
-    invariant-loop
-    decreases-loop
+    invariant-loop-j
+    decreases-loop-j
     loop-holds
     fill-stretch-requires
     add-j

@@ -8,16 +8,16 @@ use Rattle.member_laws.specs.CellLaws.{row-start, row-product, cell-low}
 use Rattle.member_table.proofs.put.Statement.{statement}
 use Rattle.member_table.proofs.put.Tie as tie
 
-mul_at : tie.Need-overflow-mul-at
+mul_at : tie.Need-overflow_mul-at
 mul_at c = omega (arith, row-product c.args.i (omega arith))
 
-add_at : tie.Need-overflow-add-at
+add_at : tie.Need-overflow_add-at
 add_at c = omega (arith, row-product c.args.i (omega arith))
 
-mul-table : tie.Need-overflow-mul-table
+mul-table : tie.Need-offset_bounds-table-at
 mul-table c = omega (arith, row-product c.args.i (omega arith))
 
-slice-write-table : tie.Need-slice-write-table
+slice-write-table : tie.Need-bounds-table-at
 slice-write-table c = let a = c.args in omega (arith, row-start a.i (omega arith), cell-low a.i a.j (omega arith) (omega arith))
 
 returns : tie.Need-returns

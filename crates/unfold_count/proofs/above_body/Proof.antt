@@ -13,37 +13,37 @@ use Rattle.unfold_count.specs.Parts.{part}
 use Rattle.unfold_count.proofs.above_body.Statement.{statement}
 use Rattle.unfold_count.proofs.above_body.Tie as tie
 
-abbrev invariant-loop : tie.invariant-loop
-invariant-loop m r end top₀ j₀ top j = (end ≤ 16) × (above_body above_byte top (part j end r) ≡ above_body above_byte m (body_in r))
+abbrev invariant-loop-j : tie.invariant-loop-j
+invariant-loop-j m r end top₀ j₀ top j = (end ≤ 16) × (above_body above_byte top (part j end r) ≡ above_body above_byte m (body_in r))
 
-abbrev decreases-loop : tie.decreases-loop
-decreases-loop m r end top₀ j₀ top j = end - j
+abbrev decreases-loop-j : tie.decreases-loop-j
+decreases-loop-j m r end top₀ j₀ top j = end - j
 
-loop-holds : tie.Need-loop-init invariant-loop decreases-loop
-loop-holds c = (c.body-end.ensures.1, ap (above_body above_byte c.before.args.m) c.body-end.ensures.2)
+loop-holds : tie.Need-loop-j-init invariant-loop-j decreases-loop-j
+loop-holds c = (c.body_end-end.ensures.1, ap (above_body above_byte c.before.args.m) c.body_end-end.ensures.2)
 
-loop-again : tie.Need-loop-preserved invariant-loop decreases-loop
+loop-again : tie.Need-loop-j-preserved invariant-loop-j decreases-loop-j
 loop-again c =
-    let r = c.before.before.before.before.before.args.t1 in
+    let r = c.before.before.before.before.before.args.r in
     let n : length r ≡ 16 = search rules in
-    let at = c.before.before.before.loop in
-    let end = c.before.before.before.before.body-end.result in (
+    let at = c.before.before.before.loop-j in
+    let end = c.before.before.before.before.body_end-end.result in (
       at.invariant.0,
-      ap (λ (m : ℕ). above_body above_byte m (part (at.j + 1) end r)) (c.larger.ensures ∙ ap (max at.top) c.before.above-byte.ensures)
+      ap (λ (m : ℕ). above_body above_byte m (part (at.j + 1) end r)) (c.larger-top.ensures ∙ ap (max at.top) c.before.above_byte.ensures)
           ∙ sym (body-next r at.top at.j end (omega arith) (omega (arith, at.invariant.0))) ∙ at.invariant.1,
     )
 
-returns : tie.Need-returns invariant-loop decreases-loop
+returns : tie.Need-returns invariant-loop-j decreases-loop-j
 returns c =
-    let at = c.before.loop in
-    sym (body_ended c.before.before.before.args.t1 at.top at.j c.before.before.body-end.result (omega arith)) ∙ at.invariant.1
+    let at = c.before.loop-j in
+    sym (body_ended c.before.before.before.args.r at.top at.j c.before.before.body_end-end.result (omega arith)) ∙ at.invariant.1
 
-pub above-body-spec : {M : Type 1} → statement M
-above-body-spec =
+pub above_body_spec : {M : Type 1} → statement M
+above_body_spec =
     tie.close
     (tie.spec
-    invariant-loop
-    decreases-loop
+    invariant-loop-j
+    decreases-loop-j
     (λ c κs. search rules)
     loop-holds
     (λ c. search rules)

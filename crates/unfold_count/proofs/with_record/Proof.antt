@@ -15,27 +15,27 @@ use Rattle.unfold_count.specs.Counting.{with_record}
 use Rattle.unfold_count.proofs.with_record.Statement.{statement}
 use Rattle.unfold_count.proofs.with_record.Tie as tie
 
-returns : tie.Need-returns
+returns : tie.Need-returns-then-r-ne-RULE_KIND
 unfolding with_record
-returns c = rw (ne_eqb _ _ c.if1.true)
+returns c = rw (ne_eqb _ _ c.if-r-ne-RULE_KIND.true)
 
-add-above-head : tie.Need-overflow-add-above-head
-add-above-head c = let h : Fits w8 (byte c.before.args.t2 1) = search rules in omega arith
+add-above-head : tie.Need-overflow_add-above_head
+add-above-head c = let h : Fits w8 (byte c.before.args.r 1) = search rules in omega arith
 
-returns-2 : tie.Need-returns-2
+returns-2 : tie.Need-returns
 unfolding with_record
 returns-2 c =
     let to-body = c.before.before.before in
     let s = to-body.before.before.before in
     let t = s.args.t in
-    let r = s.args.t2 in
-    let f : to-body.above-body.result ≡ above_body above_byte (max t.first (suc (byte r 1))) (body_in r) =
-    to-body.above-body.ensures ∙ ap (λ (m : ℕ). above_body above_byte m (body_in r)) (to-body.before.larger.ensures ∙ ap (max t.first) (add-one (byte r 1))) in
-    let g = c.before.before.chains-for.ensures.0 in
-    rw (eq-eqb _ _ to-body.before.before.if1.false) (λ i. record { first = f i; chains = t.chains + g i; rules = t.rules + 1 })
+    let r = s.args.r in
+    let f : to-body.above_body-first.result ≡ above_body above_byte (max t.first (suc (byte r 1))) (body_in r) =
+    to-body.above_body-first.ensures ∙ ap (λ (m : ℕ). above_body above_byte m (body_in r)) (to-body.before.larger.ensures ∙ ap (max t.first) (add-one (byte r 1))) in
+    let g = c.before.before.chains_for.ensures.0 in
+    rw (eq-eqb _ _ to-body.before.before.if-r-ne-RULE_KIND.false) (λ i. record { first = f i; chains = t.chains + g i; rules = t.rules + 1 })
 
-pub with-record-spec : {M : Type 1} → statement M
-with-record-spec =
+pub with_record_spec : {M : Type 1} → statement M
+with_record_spec =
     tie.close
     (tie.spec
     (λ c. search rules)

@@ -7,7 +7,7 @@ use native.Mathlib.Nat.{suc-ne-zero}
 use native.Mathlib.Numerals.{add-one}
 use native.Mathlib.Omega.{arith}
 use lib.Dec.{leb, ltb}
-use lib.ListN.{length, take, drop}
+use lib.ListN.{length, take, drop, length-map}
 use borrow.Author.Tests.{leb-true, lt-ltb, le-ltb}
 use Rattle.relation.specs.Relation.{states}
 use Rattle.spec_language.specs.Grammar.{Rule}
@@ -22,6 +22,8 @@ use Rattle.spec_order.specs.Journal.{Row}
 use Rattle.spec_order.specs.Behind.{word_behind}
 use Rattle.spec_order.specs.Fitting.{all_rows_fit}
 use Rattle.spec_calls.specs.Base.{forms_on, words}
+use Rattle.spec_calls.specs.Rows.{row_of}
+use Rattle.spec_calls.specs.declared.Row.{Row as LentRow}
 use Rattle.spec_calls.specs.Checking.{check_refusals}
 use Rattle.spec_calls.specs.Replies.{answered, unless, refused}
 use Rattle.spec_file.specs.Entries.{entry_of}
@@ -193,3 +195,7 @@ writes bs rows used i table a h f fits len old new n t et o =
     by (suc k) e o =
         let back = sym (ap (λ (k : ℕ). by_number k (refused (refusal_of t)) (answered (length v))) e) in
         (back, o.bytes ∙ ap (λ (m : ℕ). drop m old) o.count ∙ ap (written_by v old) back)
+
+-- what was asked of the lent rows, said of the rows as the working order has them
+pub asked_of : (bs : List ℕ) (J : List LentRow) (used i : ℕ) (table : List (List ℕ)) (a : Asked) → AskedFor bs (length J) used i table a → AskedFor bs (length (map row_of J)) used i table a
+asked_of bs J used i table a h = subst (λ (k : ℕ). AskedFor bs k used i table a) (sym (length-map J row_of)) h

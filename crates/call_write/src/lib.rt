@@ -106,7 +106,7 @@ fn as_writing(said: Refusal, n: usize) -> Writing
     Writing::Length(n)
 }
 
-// Writes the word behind `row` of the journal, of which `used` rows are used, to the front of `buffer`, and returns its length: proved by hand.
+// Writes the word behind `row` of the journal, of which `used` rows are used, to the front of `buffer`, and returns its length.
 pub fn write(file: &[u8], journal: &[Row], used: usize, row: usize, buffer: &mut [u8]) -> Writing
     ensures { Writes file.now (map row_of journal.now) used row buffer.old buffer.new result }
 {

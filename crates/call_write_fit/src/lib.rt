@@ -1,5 +1,5 @@
-// Whether the rows of a journal fit the rules (document 01, "Numbers a call may refuse with", 9). One loop holds the journal and is proved by
-// a walk; each test takes rows by value. A rule is four bytes: its head, its body's length, its two symbols.
+// Whether the rows of a journal fit the rules (document 01, "Numbers a call may refuse with", 9). One loop holds the journal; each test takes
+// rows by value. A rule is four bytes: its head, its body's length, its two symbols.
 #![tactic(auto)]
 
 ghost use Rattle.std.specs.Prelude.{◌&&◌, ◌≡◌, eqb, map, ◌≤◌, length};
@@ -109,8 +109,7 @@ fn fit_after(fit: Fit, rules: &[[u8; 4]], i: usize, row: Row, left: Row, right: 
 
 // ---- the journal
 
-// Tests whether the first `rows` rows of `journal` fit `rules`, and returns the length in the last of them, which number 10 is decided by. The
-// proof is a walk (proofs/rows_fit).
+// Tests whether the first `rows` rows of `journal` fit `rules`, and returns the length in the last of them, which number 10 is decided by.
 pub fn rows_fit(journal: &[Row], rules: &[[u8; 4]], rows: usize) -> Fit
     requires { rows ≤ length journal.now }
     ensures { (result.fits ≡ all_rows_fit no_forms (map row_of journal.now) (map entry_of rules.now) rows)

@@ -1,11 +1,11 @@
 -- A row that fits hands over to its parts: the word behind it is theirs, the row number falls, and they may be written. Assumes nothing.
 use mathlib.Core.Path.{◌≡◌, refl, sym, ap, ap₂, ◌∙◌, subst}
-use mathlib.Core.Bool.{Bool, true, false, not, cond}
+use mathlib.Core.Bool.{Bool, true, false, cond}
 use mathlib.Core.List.{List, [], ◌∷◌, ◌++◌, append-nil}
-use Prim.Native.Nat.{ℕ, ◌+◌, ◌-◌, ◌≤◌, ◌<◌}
+use Prim.Native.Nat.{ℕ, ◌+◌, ◌-◌, ◌<◌}
 use native.Mathlib.Nat.{le_refl}
 use native.Mathlib.Omega.{arith}
-use lib.Dec.{T as Holds, eqb}
+use lib.Dec.{eqb}
 use lib.ListN.{length, get_or, length-append}
 use borrow.Author.Tests.{eqb-true}
 use Rattle.spec_language.specs.Grammar.{Symbol, terminal, nonterminal, Body, empty, one, two, Rule}
@@ -17,17 +17,9 @@ use Rattle.spec_calls.specs.BaseLaws.{word-sizes}
 use Rattle.call_write_word.specs.declared.Part.{Part}
 use Rattle.call_write_word.specs.declared.Parts.{Parts}
 use Rattle.call_write_fit.specs.Forms.{no_forms}
-use Rattle.call_write_word.specs.Parts.{nothing, older_row, part_of, body_parts, parts_of, own_word, part_word, parts_word, FitsIf, Ready}
+use Rattle.call_write_word.specs.Parts.{nothing, older_row, part_of, body_parts, parts_of, part_word, parts_word, FitsIf, Ready}
 use Rattle.spec_order.specs.FittingLaws.{FitThrough, PointersFit, lower, body_at, fitting}
 use Rattle.spec_order.specs.BehindLaws.{behind-body, len-behind}
-
-holds-true : (b : Bool) → Holds b → b ≡ true
-holds-true true h = refl
-holds-true false h = absurd h
-
-holds-false : (b : Bool) → Holds (not b) → b ≡ false
-holds-false true h = absurd h
-holds-false false h = refl
 
 no_length : (w : List ℕ) → capped (length w) ≡ 0 → w ≡ []
 unfolding capped
@@ -131,21 +123,3 @@ module _ {rules : List Rule} {rows : List (Row ℕ)} {i n : ℕ} (a : Ready rule
         then-falls = falls-if i p.second.older p.second.row m.1.1;
         then_ready = λ k c. record { fits = fits_below rules rows i a.fits.0 a.fits.1 p.second.older p.second.row m.1.1; room = omega (arith, l, a.room) };
       }
-
--- ---- what the symbol writer knows of a part, by whether it is an older row
-
-module _ (rules : List Rule) (rows : List (Row ℕ)) (x : Part) where
-  pub older-word : Holds x.older → part_word rules rows x ≡ word_behind words rules rows x.row
-  older-word h = ap (λ (b : Bool). cond b (word_behind words rules rows x.row) (own_word x)) (holds-true x.older h)
-
-  pub own-word : Holds (not x.older) → part_word rules rows x ≡ own_word x
-  own-word h = ap (λ (b : Bool). cond b (word_behind words rules rows x.row) (own_word x)) (holds-false x.older h)
-
-  pub older-ready : {n : ℕ} → Holds x.older → Ready rules rows x n → Ready rules rows (older_row x.row) n
-  older-ready {n} h a = record { fits = subst (λ (b : Bool). FitsIf rules rows b x.row) (holds-true x.older h) a.fits; room = subst (λ (w : List ℕ). length w ≤ n) (older-word h) a.room }
-
-  pub own_room : {n : ℕ} → Holds (not x.older) → Ready rules rows x n → length (own_word x) ≤ n
-  own_room {n} h a = subst (λ (w : List ℕ). length w ≤ n) (own-word h) a.room
-
-pub older-falls : (x : Part) → Holds x.older → x.row + x.row + 1 < rank x
-older-falls x h = subst (λ (b : Bool). x.row + x.row + 1 < rank_if b x.row) (sym (holds-true x.older h)) (omega arith)

@@ -2,9 +2,3 @@ pub mod Handing
 pub mod Buffers
 pub mod Views
 pub mod Faults
-pub mod Writers
-pub mod Writing
-pub mod TerminalCall
-pub mod SymbolWalk
-pub mod PartsCall
-pub mod RowWalk

@@ -117,7 +117,7 @@ fn write_terminal(x: Part, buffer: &mut [u8]) -> usize
 }
 
 // Writes the word behind row `row` to `buffer`: the first symbol's, and then the second's into what remains of the buffer. Returns its
-// length. The proof is a walk.
+// length.
 #[cycle(write_row_write_symbol)]
 fn write_row(journal: &[Row], rules: &[[u8; 4]], row: usize, buffer: &mut [u8]) -> usize
     requires { Ready (map entry_of rules.now) (map row_of journal.now) (older_row row) (length buffer.old) }
@@ -130,7 +130,7 @@ fn write_row(journal: &[Row], rules: &[[u8; 4]], row: usize, buffer: &mut [u8]) 
 }
 
 // Writes the symbol `x` to `buffer`: a terminal as itself, a nonterminal as the word behind its older row. Returns how many bytes were
-// written. The proof is a walk.
+// written.
 #[cycle(write_row_write_symbol)]
 pub fn write_symbol(journal: &[Row], rules: &[[u8; 4]], x: Part, buffer: &mut [u8]) -> usize
     requires { Ready (map entry_of rules.now) (map row_of journal.now) x (length buffer.old) }

@@ -4,11 +4,11 @@ use Rattle.spec_file.specs.RefusalLaws.{number-some, number-none}
 use Rattle.call_write.proofs.as_writing.Statement.{statement}
 use Rattle.call_write.proofs.as_writing.Tie as tie
 
-returns : tie.Need-returns
-returns c = sym (number-some _ _ _ c.if1.true)
+returns : tie.Need-returns-then-said-ne0
+returns c = sym (number-some _ _ _ c.if-said-ne0.true)
 
-returns-2 : tie.Need-returns-2
-returns-2 c = sym (number-none _ _ _ c.if1.false)
+returns-2 : tie.Need-returns
+returns-2 c = sym (number-none _ _ _ c.if-said-ne0.false)
 
-pub as-writing-spec : {M : Type 1} → statement M
-as-writing-spec = tie.close (tie.spec returns returns-2)
+pub as_writing_spec : {M : Type 1} → statement M
+as_writing_spec = tie.close (tie.spec returns returns-2)

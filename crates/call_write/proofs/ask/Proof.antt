@@ -12,20 +12,20 @@ use Rattle.call_write.proofs.ask.Statement.{statement}
 use Rattle.call_write.proofs.ask.Tie as tie
 
 -- the first of the two
-said : (c : tie.After-or) → let a = c.before.before.before.before.args in
-    refusal_of c.or.result ≡ or_next (first_of (check_refusals a.file.now a.rows)) (refuse (count_fault a.rows a.used a.row) 0)
-said c = said_or _ _ _ c.or.ensures c.before.before.refusal-for.ensures (ap refusal_of c.before.count-refusal.ensures)
+said : (c : tie.After-or-so_far) → let a = c.before.before.before.before.args in
+    refusal_of c.or-so_far.result ≡ or_next (first_of (check_refusals a.file.now a.rows)) (refuse (count_fault a.rows a.used a.row) 0)
+said c = said_or _ _ _ c.or-so_far.ensures c.before.before.refusal_for-of_start.ensures (ap refusal_of c.before.count_refusal.ensures)
 
-returns : tie.Need-returns
-returns c = refuses _ _ _ _ _ (said c.before.before) c.if1.true _
+returns : tie.Need-returns-then-so_far-ne0
+returns c = refuses _ _ _ _ _ (said c.before.before) c.if-so_far-ne0.true _
 
-add-rows : tie.Need-overflow-add-t12
+add-rows : tie.Need-overflow_add-result
 add-rows c =
     let d = c.before.before.before.before.before.before.before.before in
-    record { fits = omega (arith, row-used _ _ _ _ _ (said c.before.before.before.before) c.before.before.if1.false, d.well-formed.1.1.1.0) }
+    record { fits = omega (arith, row-used _ _ _ _ _ (said c.before.before.before.before) c.before.before.if-so_far-ne0.false, d.ranges.row.fits) }
 
-returns-2 : tie.Need-returns-2
-returns-2 c = taken _ _ _ _ _ (said c.before.before.before.before) c.before.before.if1.false _ _ _ c.rule-table.ensures
+returns-2 : tie.Need-returns
+returns-2 c = taken _ _ _ _ _ (said c.before.before.before.before) c.before.before.if-so_far-ne0.false _ _ _ c.rule_table-n.ensures
 
-pub ask-spec : {M : Type 1} → statement M
-ask-spec = tie.close (tie.spec (λ c κs. search rules) (λ c κs. search rules) (λ c κs. search rules) returns (λ c κs. search rules) add-rows returns-2)
+pub ask_spec : {M : Type 1} → statement M
+ask_spec = tie.close (tie.spec (λ c κs. search rules) (λ c κs. search rules) (λ c κs. search rules) returns (λ c κs. search rules) add-rows returns-2)

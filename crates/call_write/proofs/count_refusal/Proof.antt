@@ -8,5 +8,5 @@ returns : tie.Need-returns
 unfolding count_fault
 returns c = c.when.ensures
 
-pub count-refusal-spec : {M : Type 1} → statement M
-count-refusal-spec = tie.close (tie.spec (λ c κs. search rules) returns)
+pub count_refusal_spec : {M : Type 1} → statement M
+count_refusal_spec = tie.close (tie.spec (λ c κs. search rules) returns)

@@ -12,9 +12,9 @@ returns : tie.Need-returns
 returns c =
     let ten = c.before.before in
     let a = ten.before.before.before.before.before.args in
-    said_or _ a.asked.refusal _ c.or2.ensures refl
-    (said_or _ _ _ c.before.or.ensures (ap refusal_of ten.before.before.when.ensures)
-    (ap refusal_of ten.when2.ensures ∙ ap (λ (b : Bool). refuse (cond b 10 0) 0) ten.before.too_long.ensures))
+    said_or _ a.asked.refusal _ c.or-2.ensures refl
+    (said_or _ _ _ c.before.or.ensures (ap refusal_of ten.before.before.when-of_rows.ensures)
+    (ap refusal_of ten.when-of_room.ensures ∙ ap (λ (b : Bool). refuse (cond b 10 0) 0) ten.before.too_long.ensures))
 
-pub refusal-of-spec : {M : Type 1} → statement M
-refusal-of-spec = tie.close (tie.spec (λ c κs. search rules) (λ c κs. search rules) (λ c κs. search rules) (λ c κs. search rules) (λ c κs. search rules) returns)
+pub refusal_of_spec : {M : Type 1} → statement M
+refusal_of_spec = tie.close (tie.spec (λ c κs. search rules) (λ c κs. search rules) (λ c κs. search rules) (λ c κs. search rules) (λ c κs. search rules) returns)

@@ -8,5 +8,5 @@ use Rattle.call_write_fit.proofs.fit_after.Tie as tie
 returns : tie.Need-returns
 returns c = (ap (λ (b : Bool). c.before.before.args.fit.fits && b) c.before.row_fits.ensures, refl)
 
-pub fit-after-spec : {M : Type 1} → statement M
-fit-after-spec = tie.close (tie.spec (λ c κs. search rules) returns)
+pub fit_after_spec : {M : Type 1} → statement M
+fit_after_spec = tie.close (tie.spec (λ c κs. search rules) returns)

@@ -6,4 +6,4 @@ use Rattle.call_write_fit.proofs.lower.Tie as tie
 
 pub lower_spec : {M : Type 1} → statement M
 unfolding lower_of
-lower_spec = tie.close (tie.spec (λ c. simp (lt-ltb _ _ c.if1.true)) (λ c. simp (le-ltb _ _ c.if1.false)))
+lower_spec = tie.close (tie.spec (λ c. simp (lt-ltb _ _ c.if-named-i.true)) (λ c. simp (le-ltb _ _ c.if-named-i.false)))

@@ -5,17 +5,17 @@ use Rattle.call_write_fit.specs.ByValue.{pointer_by}
 use Rattle.call_write_fit.proofs.pointer_fits.Statement.{statement}
 use Rattle.call_write_fit.proofs.pointer_fits.Tie as tie
 
-returns : tie.Need-returns
+returns : tie.Need-returns-then-symbol-lt-TERMINALS
 unfolding pointer_by
-returns c = simp (lt-ltb _ _ c.if1.true)
+returns c = simp (lt-ltb _ _ c.if-symbol-lt-TERMINALS.true)
 
-returns-2 : tie.Need-returns-2
+returns-2 : tie.Need-returns-then-p-i
 unfolding pointer_by
-returns-2 c = simp (le-ltb _ _ c.before.before.if1.false, lt-ltb _ _ c.before.if2.true)
+returns-2 c = simp (le-ltb _ _ c.before.before.if-symbol-lt-TERMINALS.false, lt-ltb _ _ c.before.if-p-i.true)
 
-returns-3 : tie.Need-returns-3
+returns-3 : tie.Need-returns
 unfolding pointer_by
-returns-3 c = simp (le-ltb _ _ c.before.if1.false, le-ltb _ _ c.if2.false)
+returns-3 c = simp (le-ltb _ _ c.before.if-symbol-lt-TERMINALS.false, le-ltb _ _ c.if-p-i.false)
 
-pub pointer-fits-spec : {M : Type 1} → statement M
-pointer-fits-spec = tie.close (tie.spec returns (λ c. search rules) returns-2 returns-3)
+pub pointer_fits_spec : {M : Type 1} → statement M
+pointer_fits_spec = tie.close (tie.spec returns (λ c. search rules) returns-2 returns-3)

@@ -6,15 +6,15 @@ use borrow.Author.Rules.{rules}
 use Rattle.call_write_word.proofs.row_parts.Statement.{statement}
 use Rattle.call_write_word.proofs.row_parts.Tie as tie
 
-returns : tie.Need-returns
-returns c = let a = c.before.before.before.args in ap (λ (x : Part). record { first = x; second = x }) c.no_part.ensures ∙ parts_none a.rules.now a.row c.before.if1.true
+returns : tie.Need-returns-then-row-eq0
+returns c = let a = c.before.before.before.args in ap (λ (x : Part). record { first = x; second = x }) c.no_part-none.ensures ∙ parts_none a.rules.now a.row c.before.if-row-eq0.true
 
-returns-2 : tie.Need-returns-2
+returns-2 : tie.Need-returns
 returns-2 c =
-    let a = c.before.before.before.before.args in c.body-parts.ensures ∙ parts-some a.rules.now a.row c.before.before.if1.false
+    let a = c.before.before.before.before.args in c.body_parts.ensures ∙ parts-some a.rules.now a.row c.before.before.if-row-eq0.false
 
-pub row-parts-spec : {M : Type 1} → statement M
-row-parts-spec =
+pub row_parts_spec : {M : Type 1} → statement M
+row_parts_spec =
     tie.close
     (tie.spec
     (λ c κs. search rules)

@@ -7,44 +7,43 @@ ghost use Rattle.std.specs.Prelude.{◌≡◌, ◌≤◌, length};
 ghost use Rattle.spec_calls.specs.Printing.{program_text};
 
 use host_input::Input;
-use libc::{STDERR_FILENO, STDOUT_FILENO};
 
 // Writes `line` to standard error. Nothing can be done where that fails.
-fn complain(line: &[u8]) {
-    io::write_all(STDERR_FILENO, line);
+fn complain(rt: &impl Eprint, line: &str) {
+    let _ = rt.eprint(line);
 }
 
 // Writes `text` to standard output. It is the only write there is to it, and its `requires` says that `text` is all of document 01's text for
 // `file`, and nothing else.
-fn print(file: &[u8], text: &[u8])
+fn print(rt: &(impl Print + Eprint), file: &[u8], text: &[u8])
     requires { text.now ≡ program_text file.now }
 {
-    if !io::write_all(STDOUT_FILENO, text) {
-        complain(b"plan_check: the answer cannot be written\n");
+    if rt.write_all(text).is_err() {
+        complain(rt, "plan_check: the answer cannot be written\n");
     }
 }
 
 // Prints the answer for the file that is the first `n` bytes of `bytes`.
-fn answer_front(bytes: &[u8], n: usize)
+fn answer_front(rt: &(impl Print + Eprint), bytes: &[u8], n: usize)
     requires { n ≤ length bytes.now }
 {
     let mut text = [0u8; host_report::TEXT];
     let file = &bytes[..n];
     let size = host_report::answer(file, &mut text);
-    print(file, &text[..size]);
+    print(rt, file, &text[..size]);
 }
 
 // The same of the whole buffer.
-fn answer(bytes: &[u8; host_input::ROOM], n: usize)
+fn answer(rt: &(impl Print + Eprint), bytes: &[u8; host_input::ROOM], n: usize)
     requires { n ≤ 10383 }
 {
-    answer_front(bytes, n);
+    answer_front(rt, bytes, n);
 }
 
-fn main() {
+fn main(rt: HostRuntime) {
     let mut bytes = [0u8; host_input::ROOM];
-    match host_input::read(&mut bytes) {
-        Input::Whole(n) => answer(&bytes, n),
-        Input::Failed => complain(b"plan_check: the input cannot be read\n"),
+    match host_input::read(&mut rt.stdin(), &mut bytes) {
+        Input::Whole(n) => answer(&rt, &bytes, n),
+        Input::Failed => complain(&rt, "plan_check: the input cannot be read\n"),
     }
 }

@@ -2,8 +2,8 @@
 // gives none. Of an input that is longer than any file, only the front is held; what is handed over is refused as the whole input would be.
 #![tactic(auto)]
 
-ghost use Rattle.std.specs.Prelude.{◌≡◌, ℕ, ◌+◌, ◌≤◌, length};
-ghost use Rattle.host_input.specs.Held.{held_by, held_of, FitsIn};
+ghost use Rattle.std.specs.Prelude.{◌≡◌, ℕ, ◌+◌, ◌<◌, ◌≤◌, length, List};
+ghost use Rattle.host_input.specs.Held.{held_by, held_of, FitsIn, Came, CameAt, HandsOver};
 
 use std::io;
 use std::io::Read;
@@ -59,13 +59,17 @@ fn said(got: io::Result<usize>, buffer: &[u8]) -> Chunk
 }
 
 // Reads once from `input` into `buffer`.
-fn read_into<R: Read>(input: &mut R, buffer: &mut [u8]) -> Chunk {
+fn read_into<R: Read>(input: &mut R, buffer: &mut [u8]) -> Chunk
+    ensures { Came (R.remaining input.old) (R.remaining input.new) result buffer.new }
+{
     let got = input.read(buffer);
     said(got, buffer)
 }
 
 // Reads once, and throws away what came: the input is longer than any file.
-fn read_past<R: Read>(input: &mut R) -> Chunk {
+fn read_past<R: Read>(input: &mut R) -> Chunk
+    ensures { (room : List ℕ) × (0 < length room) × Came (R.remaining input.old) (R.remaining input.new) result room }
+{
     let mut scratch = [0u8; 4096];
     read_into(input, &mut scratch)
 }
@@ -73,6 +77,7 @@ fn read_past<R: Read>(input: &mut R) -> Chunk {
 // Reads once, into `buffer` from place `at` on while there is room for a file, and else past it.
 fn read_at<R: Read>(input: &mut R, buffer: &mut [u8], at: usize) -> Chunk
     requires { 10376 ≤ length buffer.old }
+    ensures { CameAt (R.remaining input.old) (R.remaining input.new) result at buffer.old buffer.new }
 {
     if at < HELD {
         return read_into(input, &mut buffer[at..HELD]);
@@ -83,7 +88,8 @@ fn read_at<R: Read>(input: &mut R, buffer: &mut [u8], at: usize) -> Chunk
 // Reads `input` into `buffer` until a read says that it has ended, or fails. A proved loop must end, so this one counts its turns down
 // from a number that no input uses up.
 pub fn read<R: Read>(input: &mut R, buffer: &mut [u8; ROOM]) -> Input
-    ensures { FitsIn result }
+    ensures fits { FitsIn result }
+    ensures bytes { HandsOver (R.remaining input.old) result buffer.new }
 {
     let mut at: usize = 0;
     let mut turns = u64::MAX;

@@ -18,17 +18,17 @@ use Rattle.call_member.specs.RecognizeLaws.{refusal, refused_as, passed, answere
 use Rattle.call_member.proofs.recognize.Statement.{statement}
 use Rattle.call_member.proofs.recognize.Tie as tie
 
-returns : tie.Need-returns
+returns : tie.Need-returns-then-refusal-ne0
 returns c =
     let a = c.before.before.before.before.before.before.args in
-    let found = c.before.before.refusal-for in
+    let found = c.before.before.refusal_for-refusal in
     record {
-      answer = refused_as a.file.now a.word.now (length a.table.now) a.table.now found.result found.ensures c.if1.true;
+      answer = refused_as a.file.now a.word.now (length a.table.now) a.table.now found.result found.ensures c.if-refusal-ne0.true;
       meaning = refl;
     }
 
 -- where nothing refuses the call
-module _ (passes : tie.Else1) where
+module _ (passes : tie.Else-refusal-ne0) where
   abbrev file : List ℕ
   file = passes.before.before.before.before.before.before.args.file.now
 
@@ -39,7 +39,7 @@ module _ (passes : tie.Else1) where
   table = passes.before.before.before.before.before.before.args.table.now
 
   none : (refusal file word (length table) table).number ≡ 0
-  none = sym (ap (λ (x : Refusal). x.number) passes.before.before.refusal-for.ensures) ∙ passes.if1.left
+  none = sym (ap (λ (x : Refusal). x.number) passes.before.before.refusal_for-refusal.ensures) ∙ passes.if-refusal-ne0.false
 
   fits : ((fault file).number ≡ 0) × (word_fault word ≡ 0) × (length word ≤ run_limit) × (length table ≡ stretch_cells)
   fits = passed file word (length table) table none
@@ -52,26 +52,26 @@ module _ (passes : tie.Else1) where
 fill-requires : tie.Need-fill-requires
 fill-requires c κs = fits c.before
 
-mul-if2 : tie.Need-overflow-mul-if2
+mul-if2 : tie.Need-offset_bounds-table-at
 mul-if2 c = omega (arith, (fits c.before.before.before.before).2)
 
-slice-read-if2 : tie.Need-slice-read-if2
+slice-read-if2 : tie.Need-bounds-table-at
 slice-read-if2 c = omega (arith, (fits c.before.before.before.before.before).2, c.before.before.before.fill.ensures.size)
 
-returns-2 : tie.Need-returns-2
+returns-2 : tie.Need-returns-then-table-at-eq1
 returns-2 c =
     let f = c.before.before.before.before in
-    let x = answers f.before.before f.fill.new.1.1.0 f.fill.ensures true (eq-eqb _ _ c.if2.true) in
+    let x = answers f.before.before f.fill.new.table f.fill.ensures true (eq-eqb _ _ c.if-table-at-eq1.true) in
     record { answer = x.0; meaning = x.1 }
 
-returns-3 : tie.Need-returns-3
+returns-3 : tie.Need-returns
 returns-3 c =
     let f = c.before.before.before.before in
-    let x = answers f.before.before f.fill.new.1.1.0 f.fill.ensures false (ne_eqb _ _ c.if2.false) in
+    let x = answers f.before.before f.fill.new.table f.fill.ensures false (ne_eqb _ _ c.if-table-at-eq1.false) in
     record { answer = x.0; meaning = x.1 }
 
-pub recognize-spec : {M : Type 1} → statement M
-recognize-spec =
+pub recognize_spec : {M : Type 1} → statement M
+recognize_spec =
     tie.close
     (tie.spec
     (λ c κs. search rules)

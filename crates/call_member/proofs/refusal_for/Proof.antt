@@ -15,12 +15,12 @@ unfolding run_fault table_fault
 returns c =
     let a = c.before.before.before.before.before.before.before.args in
     let w = a.word.now in
-    let fourth = ap refusal_of c.before.before.when2.ensures ∙ sym (first-last (table_fault a.cells)) in
-    let lengths = said_or _ _ _ c.before.or.ensures (ap refusal_of c.before.before.before.when.ensures) fourth in
-    said_or _ _ _ c.or2.ensures c.before.before.before.before.refusal-for.ensures lengths
+    let fourth = ap refusal_of c.before.before.when-of_table.ensures ∙ sym (first-last (table_fault a.cells)) in
+    let lengths = said_or _ _ _ c.before.or-of_lengths.ensures (ap refusal_of c.before.before.before.when-of_run.ensures) fourth in
+    said_or _ _ _ c.or.ensures c.before.before.before.before.refusal_for-of_judging.ensures lengths
     ∙ sym (first-append (judge_refusals a.file.now w) (refuse (run_fault w) 0 ∷ refuse (table_fault a.cells) 0 ∷ []))
 
-pub refusal-for-spec : {M : Type 1} → statement M
-refusal-for-spec =
+pub refusal_for_spec : {M : Type 1} → statement M
+refusal_for_spec =
     tie.close
     (tie.spec (λ c κs. search rules) (λ c κs. search rules) (λ c κs. search rules) (λ c κs. search rules) (λ c κs. search rules) returns)

@@ -23,18 +23,18 @@ fill-rows-requires c κs =
         short = s.requires.1;
         letters = s.requires.2;
         null = c.before.before.before.before.before.before.before.before.before.before.before.before.before.before.before.nullable-empties.ensures;
-        direct = c.before.before.before.before.before.before.before.before.before.before.before.before.before.fill_direct.new.1.1.0;
+        direct = c.before.before.before.before.before.before.before.before.before.before.before.before.before.fill_direct.new.direct;
         one-step = c.before.before.before.before.before.before.before.before.before.before.before.before.before.fill_direct.ensures;
         closures = c.before.before.before.before.before.before.before.before.before.before.fill_units.ensures;
       },
-      filled_none (map entry_of a.rules.now) a.word.now cleared.new.0 zeroed.new.0 (cleared.auto.0 ∙ length-replicate {A = ℕ} 4160 0) cleared.ensures (zeroed.auto.0 ∙ s.requires.3) zeroed.ensures,
+      filled_none (map entry_of a.rules.now) a.word.now cleared.new.table zeroed.new.table (cleared.auto.table ∙ length-replicate {A = ℕ} 4160 0) cleared.ensures (zeroed.auto.table ∙ s.requires.3) zeroed.ensures,
     )
 
 returns : tie.Need-returns
 returns c =
     let a = c.before.before.before.before.before.before.before.before.before.before.before.before.before.before.before.before.before.before.before.before.before.before.args in
     let f = c.before.before.before.fill_rows in
-    shown (map entry_of a.rules.now) a.word.now f.new.1.1.1.1.0 f.new.1.1.1.1.1.0 f.ensures
+    shown (map entry_of a.rules.now) a.word.now f.new.starts f.new.table f.ensures
 
 pub fill_spec : {M : Type 1} → statement M
 fill_spec =

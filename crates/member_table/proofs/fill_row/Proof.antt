@@ -41,7 +41,7 @@ loop-again : tie.Need-loop-j-preserved invariant-loop-j decreases-loop-j
 loop-again c =
     let l = c.before.before.before.before.before.before.before.before.before.loop-j in
     let t = c.before.before.before.before.fill_stretch in
-    (omega (arith, c.before.before.before.before.before.before.before.before.loop-j-test.true), omega (arith, l.invariant.1), t.auto.1.1.1.1.1.0 ∙ l.invariant.2, t.auto.1.1.1.1.1.1.0 ∙ l.invariant.3, t.ensures.0, t.ensures.1)
+    (omega (arith, c.before.before.before.before.before.before.before.before.loop-j-test.true), omega (arith, l.invariant.1), t.auto.starts ∙ l.invariant.2, t.auto.table ∙ l.invariant.3, t.ensures.0, t.ensures.1)
 
 same_length : tie.Need-shape_of-starts invariant-loop-j decreases-loop-j
 same_length c = c.before.loop-j.invariant.2

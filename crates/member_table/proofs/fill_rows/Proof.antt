@@ -40,7 +40,7 @@ loop-again : tie.Need-loop-i-preserved invariant-loop-i decreases-loop-i
 loop-again c =
     let l = c.before.before.before.before.before.before.before.before.loop-i in
     let t = c.before.before.before.before.fill_row in
-    (omega (arith, l.invariant.0), t.auto.1.1.1.1.0 ∙ l.invariant.1, t.auto.1.1.1.1.1.0 ∙ l.invariant.2, t.ensures)
+    (omega (arith, l.invariant.0), t.auto.starts ∙ l.invariant.1, t.auto.table ∙ l.invariant.2, t.ensures)
 
 same_length : tie.Need-shape_of-starts invariant-loop-i decreases-loop-i
 same_length c = c.before.loop-i.invariant.1

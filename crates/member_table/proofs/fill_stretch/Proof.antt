@@ -12,16 +12,16 @@ use Rattle.member_table.proofs.fill_stretch.Tie as tie
 
 derive-requires : tie.Need-derive-set-requires
 derive-requires c κs =
-    let s = c.before.before.before.before.before in
+    let s = c.before.before.before in
     (s.requires.0, s.requires.1, s.requires.2.right, s.requires.2.full, s.requires.2.room, s.requires.3, s.requires.4)
 
 put-requires : tie.Need-put-requires
-put-requires c κs = let s = c.before.before.before.before.before.before.before in (s.requires.2.size, s.requires.3, omega (arith, s.requires.4, s.requires.0.short))
+put-requires c κs = let s = c.before.before.before.before.before in (s.requires.2.size, s.requires.3, omega (arith, s.requires.4, s.requires.0.short))
 
 -- a stretch of no letter
 returns : tie.Need-returns-then-i-j
 returns c =
-    let s = c.before.before.before.before.before.before.before.before.before.before.before in
+    let s = c.before.before.before.before.before.before.before.before.before in
     let a = s.args in
     let rules = map entry_of a.rules.now in
     let word = a.word.now in
@@ -34,18 +34,18 @@ returns c =
     )
 
 mul-mark-all : tie.Need-overflow_mul-j
-mul-mark-all c = let s = c.before.before.before.before.before.before.before.before.before.before.before.before in omega (arith, s.requires.4, s.requires.0.short)
+mul-mark-all c = let s = c.before.before.before.before.before.before.before.before.before.before in omega (arith, s.requires.4, s.requires.0.short)
 
 mark-all-requires : tie.Need-mark_all-requires
 mark-all-requires c κs =
-    let s = c.before.before.before.before.before.before.before.before.before.before.before.before in
+    let s = c.before.before.before.before.before.before.before.before.before.before in
     let a = s.args in
     (omega (arith, s.requires.2.room, s.requires.4, s.requires.0.short), omega (arith, s.requires.3, c.before.if-i-j.false, s.requires.4, s.requires.0.short))
 
 -- one up to step 64
 returns-2 : tie.Need-returns-then-j-ge-RUN_LIMIT
 returns-2 c =
-    let s = c.before.before.before.before.before.before.before.before.before.before.before.before.before.before.before.before in
+    let s = c.before.before.before.before.before.before.before.before.before.before.before.before.before.before in
     let a = s.args in
     let rules = map entry_of a.rules.now in
     let word = a.word.now in
@@ -54,10 +54,10 @@ returns-2 c =
     let n = c.before.before.before.mark_all in
     let more : a.i < a.j = omega (arith, s.requires.3, c.before.before.before.before.before.if-i-j.false) in (
       row-end rules word a.i a.j s.requires.3 s.requires.4 d.result d.ensures a.ends.now c.if-j-ge-RUN_LIMIT.true s.requires.1,
-      subst (Filled rules word (Done a.i (a.j + 1)) n.new.0) (sym c.before.before.before.before.before.before.before.before.put.ensures)
-          (filled_next rules word a.i a.j s.requires.3 s.requires.4 d.result d.ensures s.requires.0.short a.starts.now n.new.0 a.table.now F
-          (starts-right rules word a.i a.j s.requires.3 s.requires.4 d.result d.ensures more a.starts.now n.new.0 n.ensures F.right)
-          (starts-full rules word a.i a.j s.requires.3 s.requires.4 d.result d.ensures more a.starts.now n.new.0 n.ensures F.full) n.auto.0),
+      subst (Filled rules word (Done a.i (a.j + 1)) n.new.cells) (sym c.before.before.before.before.before.before.before.before.put.ensures)
+          (filled_next rules word a.i a.j s.requires.3 s.requires.4 d.result d.ensures s.requires.0.short a.starts.now n.new.cells a.table.now F
+          (starts-right rules word a.i a.j s.requires.3 s.requires.4 d.result d.ensures more a.starts.now n.new.cells n.ensures F.right)
+          (starts-full rules word a.i a.j s.requires.3 s.requires.4 d.result d.ensures more a.starts.now n.new.cells n.ensures F.full) n.auto.cells),
     )
 
 mark-all-requires-2 : tie.Need-mark_all-requires-2
@@ -65,7 +65,7 @@ mark-all-requires-2 c κs = (search rules, omega (arith, c.before.if-j-ge-RUN_LI
 
 returns-3 : tie.Need-returns
 returns-3 c =
-    let s = c.before.before.before.before.before.before.before.before.before.before.before.before.before.before.before.before.before.before in
+    let s = c.before.before.before.before.before.before.before.before.before.before.before.before.before.before.before.before in
     let a = s.args in
     let rules = map entry_of a.rules.now in
     let word = a.word.now in
@@ -73,11 +73,11 @@ returns-3 c =
     let F = s.requires.2 in
     let n = c.before.before.before.before.before.mark_all in
     let more : a.i < a.j = omega (arith, s.requires.3, c.before.before.before.before.before.before.before.if-i-j.false) in (
-      row_next rules word a.i a.j s.requires.3 s.requires.4 d.result d.ensures more a.ends.now c.mark_all-2.new.0 c.mark_all-2.ensures s.requires.1,
-      subst (Filled rules word (Done a.i (a.j + 1)) n.new.0) (sym c.before.before.before.before.before.before.before.before.before.before.put.ensures)
-          (filled_next rules word a.i a.j s.requires.3 s.requires.4 d.result d.ensures s.requires.0.short a.starts.now n.new.0 a.table.now F
-          (starts-right rules word a.i a.j s.requires.3 s.requires.4 d.result d.ensures more a.starts.now n.new.0 n.ensures F.right)
-          (starts-full rules word a.i a.j s.requires.3 s.requires.4 d.result d.ensures more a.starts.now n.new.0 n.ensures F.full) n.auto.0),
+      row_next rules word a.i a.j s.requires.3 s.requires.4 d.result d.ensures more a.ends.now c.mark_all-2.new.cells c.mark_all-2.ensures s.requires.1,
+      subst (Filled rules word (Done a.i (a.j + 1)) n.new.cells) (sym c.before.before.before.before.before.before.before.before.before.before.put.ensures)
+          (filled_next rules word a.i a.j s.requires.3 s.requires.4 d.result d.ensures s.requires.0.short a.starts.now n.new.cells a.table.now F
+          (starts-right rules word a.i a.j s.requires.3 s.requires.4 d.result d.ensures more a.starts.now n.new.cells n.ensures F.right)
+          (starts-full rules word a.i a.j s.requires.3 s.requires.4 d.result d.ensures more a.starts.now n.new.cells n.ensures F.full) n.auto.cells),
     )
 
 pub fill_stretch_spec : {M : Type 1} → statement M

@@ -44,7 +44,7 @@ loop-again c =
     let e = c.before.body_in.ensures in (
       omega arith,
       elim c.if-body_in.branch [
-          then-body_in w ↦ subst (NullUpto a.rules.now a.set (l.i + 1)) (sym (w.out-is ∙ w.with_one-out.ensures)) (null-hit a.rules.now a.set l.i l.out (omega arith) l.invariant.1 (sym e ∙ w.if-body_in.true))
+        | then-body_in w ↦ subst (NullUpto a.rules.now a.set (l.i + 1)) (sym (w.out-is ∙ w.with_one-out.ensures)) (null-hit a.rules.now a.set l.i l.out (omega arith) l.invariant.1 (sym e ∙ w.if-body_in.true))
         | else-body_in w ↦ subst (NullUpto a.rules.now a.set (l.i + 1)) (sym w.out-is) (null-miss a.rules.now a.set l.i l.out (omega arith) l.invariant.1 (sym e ∙ w.if-body_in.false))
       ],
     )

@@ -3,11 +3,11 @@
 use Rattle.search_decide.proofs.born.Statement.{statement}
 use Rattle.search_decide.proofs.born.Tie as tie
 
-returns : tie.Need-returns
-returns c = rw c.if1.true
+returns : tie.Need-returns-then-broken
+returns c = rw c.if-broken.true
 
-returns-2 : tie.Need-returns-2
-returns-2 c = rw c.if1.false
+returns-2 : tie.Need-returns
+returns-2 c = rw c.if-broken.false
 
-pub born-spec : {M : Type 1} → statement M
-born-spec = tie.close (tie.spec returns returns-2)
+pub born_spec : {M : Type 1} → statement M
+born_spec = tie.close (tie.spec returns returns-2)

@@ -6,14 +6,14 @@ use Rattle.relation.specs.Relation.{states, compose}
 use Rattle.search_glance.proofs.effect_at.Statement.{statement}
 use Rattle.search_glance.proofs.effect_at.Tie as tie
 
-returns : tie.Need-returns
-returns c = rw (eq-eqb _ _ c.before.if1.true) c.identity.ensures
+returns : tie.Need-returns-then-size-eq0
+returns c = rw (eq-eqb _ _ c.before.if-size-eq0.true) c.identity.ensures
 
-returns-2 : tie.Need-returns-2
-returns-2 c = rw (ne_eqb _ _ c.before.before.if1.false, eq-eqb _ _ c.if2.true) c.before.effect_of.ensures
+returns-2 : tie.Need-returns-then-size-eq1
+returns-2 c = rw (ne_eqb _ _ c.before.before.if-size-eq0.false, eq-eqb _ _ c.if-size-eq1.true) c.before.effect_of-left.ensures
 
-returns-3 : tie.Need-returns-3
-returns-3 c = rw (ne_eqb _ _ c.before.before.before.before.if1.false, ne_eqb _ _ c.before.before.if2.false) (c.compose.ensures ∙ ap₂ (compose states) c.before.before.before.effect_of.ensures c.before.effect-of2.ensures)
+returns-3 : tie.Need-returns
+returns-3 c = rw (ne_eqb _ _ c.before.before.before.before.if-size-eq0.false, ne_eqb _ _ c.before.before.if-size-eq1.false) (c.compose.ensures ∙ ap₂ (compose states) c.before.before.before.effect_of-left.ensures c.before.effect_of-right.ensures)
 
-pub effect-at-spec : {M : Type 1} → statement M
-effect-at-spec = tie.close (tie.spec (λ c. search rules) (λ c κs. search rules) returns (λ c. search rules) (λ c κs. search rules) returns-2 (λ c. search rules) (λ c κs. search rules) (λ c κs. search rules) returns-3)
+pub effect_at_spec : {M : Type 1} → statement M
+effect_at_spec = tie.close (tie.spec (λ c. search rules) (λ c κs. search rules) returns (λ c. search rules) (λ c κs. search rules) returns-2 (λ c. search rules) (λ c κs. search rules) (λ c κs. search rules) returns-3)

@@ -6,11 +6,11 @@ use Rattle.relation.specs.Representation.{value}
 use Rattle.search_glance.proofs.effect_of.Statement.{statement}
 use Rattle.search_glance.proofs.effect_of.Tie as tie
 
-returns : tie.Need-returns
-returns c = rw (lt-ltb _ _ c.before.if1.true) (ap value c.read.ensures)
+returns : tie.Need-returns-then-symbol-lt-TERMINALS
+returns c = rw (lt-ltb _ _ c.before.if-symbol-lt-TERMINALS.true) (ap value c.read.ensures)
 
-returns-2 : tie.Need-returns-2
-returns-2 c = rw (le-ltb _ _ c.before.if1.false) c.row-effect.ensures
+returns-2 : tie.Need-returns
+returns-2 c = rw (le-ltb _ _ c.before.if-symbol-lt-TERMINALS.false) c.row_effect.ensures
 
-pub effect-of-spec : {M : Type 1} → statement M
-effect-of-spec = tie.close (tie.spec (λ c κs. search rules) returns (λ c κs. search rules) returns-2)
+pub effect_of_spec : {M : Type 1} → statement M
+effect_of_spec = tie.close (tie.spec (λ c κs. search rules) returns (λ c κs. search rules) returns-2)

@@ -11,35 +11,35 @@ use Rattle.search_glance.specs.GlanceLaws.{effect-two, tries-past}
 use Rattle.search_glance.proofs.glance.Statement.{statement}
 use Rattle.search_glance.proofs.glance.Tie as tie
 
-effect-at-requires : tie.Need-effect-at-requires
+effect-at-requires : tie.Need-effect_at-effect-requires
 effect-at-requires c κs = let p = c.before.before.before.before.before.before.requires in (p.letters-all, p.near, p.used)
 
-try-hints-requires : tie.Need-try-hints-requires
+try-hints-requires : tie.Need-try_hints-hinted-requires
 try-hints-requires c κs = let p = c.before.before.before.before.before.before.before.requires in (p.near, p.table, p.used)
 
-returns : tie.Need-returns
-returns c = let h = c.before in record { glances = inl refl; effect = h.before.effect-at.ensures; known = h.try-hints.ensures.known; slot = h.try-hints.ensures.slot }
+returns : tie.Need-returns-then-rule-ne2
+returns c = let h = c.before in record { glances = inl refl; effect = h.before.effect_at-effect.ensures; known = h.try_hints-hinted.ensures.known; slot = h.try_hints-hinted.ensures.slot }
 
-returns-2 : tie.Need-returns-2
-returns-2 c = let h = c.before.before in record { glances = inl refl; effect = h.before.effect-at.ensures; known = h.try-hints.ensures.known; slot = h.try-hints.ensures.slot }
+returns-2 : tie.Need-returns-then-rule-lt-TERMINALS
+returns-2 c = let h = c.before.before in record { glances = inl refl; effect = h.before.effect_at-effect.ensures; known = h.try_hints-hinted.ensures.known; slot = h.try_hints-hinted.ensures.slot }
 
-after-in-requires : tie.Need-after-in-requires
+after-in-requires : tie.Need-after_in-next-requires
 after-in-requires c κs = c.before.before.before.before.before.before.before.before.before.before.requires.table
 
-may-pass-requires : tie.Need-may-pass-requires
+may-pass-requires : tie.Need-may_pass-requires
 may-pass-requires c κs = c.before.before.before.before.before.before.before.before.before.before.before.requires.paid
 
-returns-3 : tie.Need-returns-3
+returns-3 : tie.Need-returns-then-not-may_pass
 returns-3 c =
     let h = c.before.before.before.before.before in
-    record { glances = inl refl; effect = h.before.effect-at.ensures; known = h.try-hints.ensures.known; slot = h.try-hints.ensures.slot }
+    record { glances = inl refl; effect = h.before.effect_at-effect.ensures; known = h.try_hints-hinted.ensures.known; slot = h.try_hints-hinted.ensures.slot }
 
-effect-of-requires : tie.Need-effect-of-requires
+effect-of-requires : tie.Need-effect_of-left-requires
 effect-of-requires c κs =
     let p = c.before.before.before.before.before.before.before.before.before.before.before.before.before.requires in
     (p.letters-all, p.near, p.used)
 
-over-known-requires : tie.Need-over-known-requires
+over-known-requires : tie.Need-over_known-requires
 over-known-requires c κs =
     let i2 = c.before.before.before.before in
     let h = i2.before.before in
@@ -52,26 +52,26 @@ over-known-requires c κs =
       table = p.table;
       used = p.used;
       paid = p.paid;
-      next = c.before.before.before.after-in.ensures;
+      next = c.before.before.before.after_in-next.ensures;
       effect =
-          h.before.effect-at.ensures
-          ∙ effect-two a.letters.now a.near.now a.state.counts.used xs i2.before.if1.false i2.if2.false a.state.place.left a.state.place.right
-          ∙ ap (λ (e : ℕ). after_left a.near.now a.state.counts.used e a.state.place.right) (sym c.effect_of.ensures);
-      hints = h.try-hints.ensures;
+          h.before.effect_at-effect.ensures
+          ∙ effect-two a.letters.now a.near.now a.state.counts.used xs i2.before.if-rule-ne2.false i2.if-rule-lt-TERMINALS.false a.state.place.left a.state.place.right
+          ∙ ap (λ (e : ℕ). after_left a.near.now a.state.counts.used e a.state.place.right) (sym c.effect_of-left.ensures);
+      hints = h.try_hints-hinted.ensures;
     }
 
-returns-4 : tie.Need-returns-4
+returns-4 : tie.Need-returns
 returns-4 c =
     let l = c.before in
     let i2 = l.before.before.before.before in
     let s = i2.before.before.before.before.before.before.before.before.before.before in
     let a = s.args in
     let xs : List ℕ = get_or a.rules.now a.state.place.rule [] in
-    tries-past a.letters.now a.rules.now a.table.now a.near.now a.state i2.before.if1.false i2.if2.false
-    (subst (λ (e : ℕ). PassedFrom a.table.now a.near.now (get_or xs 0 0) e a.state c.over-known.result) l.effect_of.ensures c.over-known.ensures)
+    tries-past a.letters.now a.rules.now a.table.now a.near.now a.state i2.before.if-rule-ne2.false i2.if-rule-lt-TERMINALS.false
+    (subst (λ (e : ℕ). PassedFrom a.table.now a.near.now (get_or xs 0 0) e a.state c.over_known.result) l.effect_of-left.ensures c.over_known.ensures)
 
-pub glance-spec : {M : Type 1} → statement M
-glance-spec =
+pub glance_spec : {M : Type 1} → statement M
+glance_spec =
     tie.close
     (tie.spec
     (λ c. search rules)

@@ -22,5 +22,5 @@ returns c e =
       paid = leb-false a.terms.budget _ (sym c.spent.ensures ∙ unspent);
     }
 
-pub may-pass-spec : {M : Type 1} → statement M
-may-pass-spec = tie.close (tie.spec (λ c. search rules) (λ c κs. search rules) returns)
+pub may_pass_spec : {M : Type 1} → statement M
+may_pass_spec = tie.close (tie.spec (λ c. search rules) (λ c κs. search rules) returns)

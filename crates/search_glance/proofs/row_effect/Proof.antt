@@ -6,11 +6,11 @@ use Rattle.relation.specs.Representation.{value}
 use Rattle.search_glance.proofs.row_effect.Statement.{statement}
 use Rattle.search_glance.proofs.row_effect.Tie as tie
 
-returns : tie.Need-returns
-returns c = rw (lt-ltb _ _ c.before.if1.true) (ap value c.read.ensures)
+returns : tie.Need-returns-then-position-used
+returns c = rw (lt-ltb _ _ c.before.if-position-used.true) (ap value c.read.ensures)
 
-returns-2 : tie.Need-returns-2
-returns-2 c = rw (le-ltb _ _ c.before.if1.false) (ap value c.empty.ensures)
+returns-2 : tie.Need-returns
+returns-2 c = rw (le-ltb _ _ c.before.if-position-used.false) (ap value c.empty.ensures)
 
-pub row-effect-spec : {M : Type 1} → statement M
-row-effect-spec = tie.close (tie.spec (λ c. search rules) (λ c κs. search rules) returns (λ c κs. search rules) returns-2)
+pub row_effect_spec : {M : Type 1} → statement M
+row_effect_spec = tie.close (tie.spec (λ c. search rules) (λ c κs. search rules) returns (λ c κs. search rules) returns-2)

@@ -5,14 +5,14 @@ use borrow.Author.Rules.{rules}
 use Rattle.search_glance.proofs.try_hints.Statement.{statement}
 use Rattle.search_glance.proofs.try_hints.Tie as tie
 
-returns : tie.Need-returns
-returns c = record { known = λ e. c.before.is_below.ensures c.if1.true; slot = (omega arith, omega arith) }
+returns : tie.Need-returns-then-is_below
+returns c = record { known = λ e. c.before.is_below.ensures c.if-is_below.true; slot = (omega arith, omega arith) }
 
-returns-2 : tie.Need-returns-2
-returns-2 c = record { known = c.is-below2.ensures; slot = (omega arith, omega arith) }
+returns-2 : tie.Need-returns
+returns-2 c = record { known = c.is_below-covers.ensures; slot = (omega arith, omega arith) }
 
-pub try-hints-spec : {M : Type 1} → statement M
-try-hints-spec =
+pub try_hints_spec : {M : Type 1} → statement M
+try_hints_spec =
     tie.close
     (tie.spec
     (λ c. search rules)

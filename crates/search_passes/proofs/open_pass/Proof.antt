@@ -14,43 +14,43 @@ use Rattle.search_state.specs.declared.Terms.{Terms}
 use Rattle.search_passes.proofs.open_pass.Statement.{statement}
 use Rattle.search_passes.proofs.open_pass.Tie as tie
 
-measure-requires : tie.Need-measure-in-requires
+measure-requires : tie.Need-measure_in-requires
 measure-requires c κs =
-    let s = c.before.before.before.before.before.before in
-    (c.before.before.before.gather.ensures.size ∙ s.requires.table, s.requires.old)
+    let s = c in
+    (c.gather.ensures.size ∙ s.requires.table, s.requires.old)
 
-first-requires : tie.Need-first-in-requires
+first-requires : tie.Need-first_in-place-requires
 first-requires c κs =
-    let s = c.before.before.before.before.before.before.before.before.before.before in
-    (c.before.before.before.measure-in.ensures.size ∙ c.before.before.before.before.before.before.before.gather.ensures.size ∙ s.requires.table, s.requires.count)
+    let s = c in
+    (c.measure_in.ensures.size ∙ c.gather.ensures.size ∙ s.requires.table, s.requires.count)
 
-asked : tie.Need-pass-over-requires
+asked : tie.Need-pass_over-requires
 asked c κs =
-    let measured = c.before.before.before.before.before.measure-in.ensures in
-    let gathered = c.before.before.before.before.before.before.before.before.before.gather.ensures in
-    let s = c.before.before.before.before.before.before.before.before.before.before.before.before in
+    let measured = c.measure_in.ensures in
+    let gathered = c.gather.ensures in
+    let s = c in
     record {
       table = measured.size ∙ gathered.size ∙ s.requires.table;
       count = s.requires.count;
       old = s.requires.old;
       measured = measured.lists.measured;
-      places = opens-place s.requires.links s.requires.used gathered measured c.before.first-in.ensures;
+      places = opens-place s.requires.links s.requires.used gathered measured c.first_in-place.ensures;
     }
 
 returns : tie.Need-returns
 returns c P L B j₀ j k m st count z rows a e known g =
-    let o = c.pass-over in
-    let p = c.before.before.first-in in
-    let measured = c.before.before.before.before.before.before.measure-in in
-    let gathered = c.before.before.before.before.before.before.before.before.before.before.gather in
-    let s = c.before.before.before.before.before.before.before.before.before.before.before.before.before in
+    let o = c.pass_over in
+    let p = c.first_in-place in
+    let measured = c.measure_in in
+    let gathered = c.gather in
+    let s = c in
     let rs = take s.args.n s.args.rules.now in
-    let t = measured.new.0 in
+    let t = measured.new.table in
     let Q = with_rules P rs in
     subst (λ (b : Terms). Onward Q B j₀ s.args.counts (opening st b o.result (all_linked b.starts t)) j t) (sym e)
     (open-reached Q B j₀ st rows (count ∙ sym (length-take-le s.args.n s.args.rules.now s.requires.count)) L z a m (subst (λ (b : Terms). b.old ≤ row_cells) e s.requires.old) known g gathered.ensures
-    (subst (λ (b : Terms). MeasuresIn b.old gathered.new.0 t) e measured.ensures) p.result p.ensures
+    (subst (λ (b : Terms). MeasuresIn b.old gathered.new.table t) e measured.ensures) p.result p.ensures
     (subst (λ (b : Terms). PassesOver rs t b (record { counts = s.args.counts; place = p.result }) o.result) e o.ensures))
 
-pub open-pass-spec : {M : Type 1} → statement M
-open-pass-spec = tie.close (tie.spec (λ c κs. search rules) measure-requires first-requires asked (λ c. search rules) returns)
+pub open_pass_spec : {M : Type 1} → statement M
+open_pass_spec = tie.close (tie.spec (λ c κs. search rules) measure-requires first-requires asked (λ c. search rules) returns)

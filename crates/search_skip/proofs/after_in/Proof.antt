@@ -13,5 +13,5 @@ returns c =
     let a = c.before.before.before.args in
     c.after.ensures ∙ ap (λ (l : List ℕ). after_in l a.i) (lent-lists a.table.now)
 
-pub after-in-spec : {M : Type 1} → statement M
-after-in-spec = tie.close (tie.spec (λ c. search rules) (λ c. search rules) (λ c. search rules) (λ c κs. search rules) returns)
+pub after_in_spec : {M : Type 1} → statement M
+after_in_spec = tie.close (tie.spec (λ c. search rules) (λ c. search rules) (λ c. search rules) (λ c κs. search rules) returns)

@@ -12,10 +12,10 @@ use Rattle.search_skip.proofs.first_in.Tie as tie
 
 returns : tie.Need-returns
 returns c =
-    let a = c.before.before.before.before.args in
-    subst (λ (l : List ℕ). FirstPlace l (take a.n a.rules.now) 0 c.first-place.result) (lent-lists a.table.now) c.first-place.ensures
+    let a = c.args in
+    subst (λ (l : List ℕ). FirstPlace l (take a.n a.rules.now) 0 c.first_place.result) (lent-lists a.table.now) c.first_place.ensures
 
-pub first-in-spec : {M : Type 1} → statement M
-first-in-spec =
+pub first_in_spec : {M : Type 1} → statement M
+first_in_spec =
     tie.close
-    (tie.spec (λ c. search rules) (λ c. search rules) (λ c. search rules) (λ c. sym (length-take-le c.before.before.before.args.n c.before.before.before.args.rules.now c.before.before.before.requires.1)) (λ c κs. search rules) returns)
+    (tie.spec (λ c. search rules) (λ c. search rules) (λ c. search rules) (λ c. sym (length-take-le c.args.n c.args.rules.now c.requires.1)) (λ c κs. search rules) returns)

@@ -7,5 +7,5 @@ use Rattle.search_skip.proofs.may_pass.Tie as tie
 returns : tie.Need-returns
 returns c = rw (c.before.spent.ensures, c.repeats.ensures) refl
 
-pub may-pass-spec : {M : Type 1} → statement M
-may-pass-spec = tie.close (tie.spec (λ c κs. search rules) (λ c κs. search rules) returns)
+pub may_pass_spec : {M : Type 1} → statement M
+may_pass_spec = tie.close (tie.spec (λ c κs. search rules) (λ c κs. search rules) returns)

@@ -37,17 +37,17 @@ module _ (b : ℕ) (t ys : List ℕ) (z : length t ≡ table_cells) (m : Measure
 
 asked : tie.Need-measure-requires
 asked c κs =
-    let s = c.before.before in
+    let s = c in
     let t = s.args.table.now in
     (omega (arith, s.requires.0, length-drop lists_from t, length-take (length t - lists_from) (drop lists_from t)), s.requires.1)
 
 returns : tie.Need-returns
 returns c =
-    let s = c.before.before.before.before.before in
+    let s = c in
     let t = s.args.table.now in
-    let ys = c.before.before.measure.new.0 in
-    let m = subst (λ (l : List ℕ). Measures s.args.old l ys) (lent-lists t) c.before.before.measure.ensures in
+    let ys = c.measure.new.lists in
+    let m = subst (λ (l : List ℕ). Measures s.args.old l ys) (lent-lists t) c.measure.ensures in
     subst (MeasuresIn s.args.old t) (sym (put_is s.args.old t ys s.requires.0 m)) (put-measures s.args.old t ys s.requires.0 m)
 
-pub measure-in-spec : {M : Type 1} → statement M
-measure-in-spec = tie.close (tie.spec (λ c. search rules) (λ c. search rules) (λ c. search rules) asked (λ c. search rules) returns)
+pub measure_in_spec : {M : Type 1} → statement M
+measure_in_spec = tie.close (tie.spec (λ c. search rules) (λ c. search rules) (λ c. search rules) asked (λ c. search rules) returns)

@@ -7,5 +7,5 @@ use Rattle.search_skip.proofs.moved.Tie as tie
 returns : tie.Need-returns
 returns c = rw c.first.ensures refl
 
-pub moved-spec : {M : Type 1} → statement M
-moved-spec = tie.close (tie.spec (λ c. search rules) returns)
+pub moved_spec : {M : Type 1} → statement M
+moved_spec = tie.close (tie.spec (λ c. search rules) returns)

@@ -7,16 +7,16 @@ use Rattle.search_state.specs.Layout.{lists_in}
 use Rattle.search_skip.proofs.next_in.Statement.{statement}
 use Rattle.search_skip.proofs.next_in.Tie as tie
 
-returns : tie.Need-returns
+returns : tie.Need-returns-then-right-ne-END
 returns c =
     let s = c.before.before.before in
     let a = s.args in
-    rw c.with-right.ensures (follows-right (lists_in a.table.now) (take a.n a.rules.now) a.place a.right s.requires.2 c.before.if1.true)
+    rw c.with_right.ensures (follows-right (lists_in a.table.now) (take a.n a.rules.now) a.place a.right s.requires.2 c.before.if-right-ne-END.true)
 
-asked : tie.Need-next-row-in-requires
+asked : tie.Need-next_row_in-requires
 asked c κs =
     let s = c.before.before in
-    (s.requires.0, s.requires.1, sym s.requires.2 ∙ c.if1.false)
+    (s.requires.0, s.requires.1, sym s.requires.2 ∙ c.if-right-ne-END.false)
 
-pub next-in-spec : {M : Type 1} → statement M
-next-in-spec = tie.close (tie.spec (λ c κs. search rules) returns asked (λ c. search rules))
+pub next_in_spec : {M : Type 1} → statement M
+next_in_spec = tie.close (tie.spec (λ c κs. search rules) returns asked (λ c. search rules))

@@ -42,7 +42,7 @@ lent_lists t = take (length t - lists_from) (drop lists_from t)
 lent : (rules : List (List ℕ)) (n : ℕ) (b : Terms) (t : List ℕ) (x : Reached) → MayPass rules n b t x.place → (span_cells ≤ length (lent_lists t)) × Measured b.old (lent_lists t)
 lent rules n b t x m = (
   omega (arith, m.table, length-drop lists_from t, length-take (length t - lists_from) (drop lists_from t)),
-  subst (Measured b.old) (sym (lent-lists t)) m.decreases,
+  subst (Measured b.old) (sym (lent-lists t)) m.measured,
 )
 
 module _ (rules : List (List ℕ)) (n : ℕ) (b : Terms) (t : List ℕ) (x : Reached) (m : MayPass rules n b t x.place) (e : passes_at b n x ≡ true) where
@@ -84,98 +84,98 @@ module _ (rules : List (List ℕ)) (n : ℕ) (b : Terms) (t : List ℕ) (x : Rea
           span-lefts (take n rules) t b m.old x whole r right-spans (fitting r.first x.place.right (b.budget - one) r.steps f).0 rights last l
           (subst₂ (λ (k : List ℕ) (q : Rule). Spans b.old k (left_part q.body) l) (lent-lists t) (sym here) w) (fitting l.first x.place.left (b.budget - (one + r.steps)) (l.steps * (r.steps + 1)) g).0 lefts
 
-mul-rule : tie.Need-overflow-mul-rule
+mul-rule : tie.Need-offset_bounds-rules-r
 mul-rule c =
     let s = c.before.before.before in
     omega (arith, passes-here s.args.terms s.args.n s.args.at s.requires.1, s.requires.0.count)
 
-copied : tie.Need-shared-slice-copy-out-rule
+copied : tie.Need-bounds-rules-r
 copied c =
     let s = c.before.before.before in
     omega (arith, passes-here s.args.terms s.args.n s.args.at s.requires.1, s.requires.0.count)
 
-add-joins : tie.Need-overflow-add-joins
+add-joins : tie.Need-overflow_add-joins
 add-joins c =
     let s = c.before.before.before.before.before in
     omega (arith, passes-paid s.args.terms s.args.n s.args.at s.requires.1)
 
-right-asked : tie.Need-right-span-requires
+right-asked : tie.Need-right_span-rights-requires
 right-asked c κs =
     let s = c.before.before.before.before.before.before in
     lent s.args.rules.now s.args.n s.args.terms s.args.table.now s.args.at s.requires.0
 
-sub-rights : tie.Need-overflow-sub-if1
+sub-rights : tie.Need-overflow_sub-terms
 sub-rights c =
     let s = c.before.before.before.before.before.before.before.before.before.before in
     omega (arith, passes-paid s.args.terms s.args.n s.args.at s.requires.1)
 
-returns : tie.Need-returns
+returns : tie.Need-returns-then-rights-place
 returns c =
     let s = c.before.before.before.before.before.before.before.before.before.before.before.before.before in
     let a = s.args in
     rw c.moved.ensures (by_place a.rules.now a.n a.terms a.table.now a.at s.requires.0 s.requires.1)
 
-add_row : tie.Need-overflow-add-row
+add_row : tie.Need-overflow_add-row
 add_row c =
     let s = c.before.before.before.before.before.before.before.before.before.before.before.before.before in
     let a = s.args in
-    let r = c.before.before.before.before.before.before.right-span in
-    omega (arith, rights a.rules.now a.n a.terms a.table.now a.at s.requires.0 s.requires.1 r.result r.ensures c.before.if1.false)
+    let r = c.before.before.before.before.before.before.right_span-rights in
+    omega (arith, rights a.rules.now a.n a.terms a.table.now a.at s.requires.0 s.requires.1 r.result r.ensures c.before.if-rights-place.false)
 
-returns-2 : tie.Need-returns-2
+returns-2 : tie.Need-returns-then-next-ne-END
 returns-2 c =
     let s = c.before.before.before.before.before.before.before.before.before.before.before.before.before.before.before.before in
     let a = s.args in
-    let r = c.before.before.before.before.before.before.before.before.before.right-span in
-    rw c.moved2.ensures (by-rights a.rules.now a.n a.terms a.table.now a.at s.requires.0 s.requires.1 r.result r.ensures c.before.before.before.before.if1.false)
+    let r = c.before.before.before.before.before.before.before.before.before.right_span-rights in
+    rw c.moved-then-next-ne-END.ensures (by-rights a.rules.now a.n a.terms a.table.now a.at s.requires.0 s.requires.1 r.result r.ensures c.before.before.before.before.if-rights-place.false)
 
-left-asked : tie.Need-left-span-requires
+left-asked : tie.Need-left_span-lefts-requires
 left-asked c κs =
     let s = c.before.before.before.before.before.before.before.before.before.before.before.before.before.before.before in
     lent s.args.rules.now s.args.n s.args.terms s.args.table.now s.args.at s.requires.0
 
-add-more : tie.Need-overflow-add-more
-add-more c = omega (arith, c.before.before.before.before.before.before.before.before.before.before.right-span.ensures.few)
+add-more : tie.Need-overflow_add-more
+add-more c = omega (arith, c.before.before.before.before.before.before.before.before.before.before.right_span-rights.ensures.few)
 
-mul-more : tie.Need-overflow-mul-more
+mul-more : tie.Need-overflow_mul-more
 mul-more c =
-    let l = c.before.before.left-span in
-    let r = c.before.before.before.before.before.before.before.before.before.before.before.right-span in
+    let l = c.before.before.left_span-lefts in
+    let r = c.before.before.before.before.before.before.before.before.before.before.before.right_span-rights in
     omega (arith, product l.result.steps r.result.steps l.ensures.few r.ensures.few)
 
-sub_more : tie.Need-overflow-sub-if3
+sub_more : tie.Need-overflow_sub-terms-2
 sub_more c =
     let s = c.before.before.before.before.before.before.before.before.before.before.before.before.before.before.before.before.before.before.before.before.before in
     let a = s.args in
-    let r = c.before.before.before.before.before.before.before.before.before.before.before.before.before.before.right-span in
-    omega (arith, rights a.rules.now a.n a.terms a.table.now a.at s.requires.0 s.requires.1 r.result r.ensures c.before.before.before.before.before.before.before.before.before.if1.false)
+    let r = c.before.before.before.before.before.before.before.before.before.before.before.before.before.before.right_span-rights in
+    omega (arith, rights a.rules.now a.n a.terms a.table.now a.at s.requires.0 s.requires.1 r.result r.ensures c.before.before.before.before.before.before.before.before.before.if-rights-place.false)
 
-returns-3 : tie.Need-returns-3
+returns-3 : tie.Need-returns-then-lefts-place
 returns-3 c =
     let s = c.before.before.before.before.before.before.before.before.before.before.before.before.before.before.before.before.before.before.before.before.before.before.before in
     let a = s.args in
-    let r = c.before.before.before.before.before.before.before.before.before.before.before.before.before.before.before.before.right-span in
-    rw c.moved3.ensures
-    (by-rights a.rules.now a.n a.terms a.table.now a.at s.requires.0 s.requires.1 r.result r.ensures c.before.before.before.before.before.before.before.before.before.before.before.if1.false)
+    let r = c.before.before.before.before.before.before.before.before.before.before.before.before.before.before.before.before.right_span-rights in
+    rw c.moved-then-lefts-place.ensures
+    (by-rights a.rules.now a.n a.terms a.table.now a.at s.requires.0 s.requires.1 r.result r.ensures c.before.before.before.before.before.before.before.before.before.before.before.if-rights-place.false)
 
-add-moved : tie.Need-overflow-add-moved
+add-moved : tie.Need-overflow_add-row-2
 add-moved c =
     let s = c.before.before.before.before.before.before.before.before.before.before.before.before.before.before.before.before.before.before.before.before.before.before in
     let a = s.args in
-    let r = c.before.before.before.before.before.before.before.before.before.before.before.before.before.before.before.right-span in
-    let l = c.before.before.before.before.before.before.left-span in
+    let r = c.before.before.before.before.before.before.before.before.before.before.before.before.before.before.before.right_span-rights in
+    let l = c.before.before.before.before.before.before.left_span-lefts in
     omega
-    (arith, lefts a.rules.now a.n a.terms a.table.now a.at s.requires.0 s.requires.1 r.result r.ensures c.before.before.before.before.before.before.before.before.before.before.if1.false l.result l.ensures c.if3.false)
+    (arith, lefts a.rules.now a.n a.terms a.table.now a.at s.requires.0 s.requires.1 r.result r.ensures c.before.before.before.before.before.before.before.before.before.before.if-rights-place.false l.result l.ensures c.if-lefts-place.false)
 
-returns-4 : tie.Need-returns-4
+returns-4 : tie.Need-returns
 returns-4 c =
     let s = c.before.before.before.before.before.before.before.before.before.before.before.before.before.before.before.before.before.before.before.before.before.before.before in
     let a = s.args in
-    let r = c.before.before.before.before.before.before.before.before.before.before.before.before.before.before.before.before.right-span in
-    let l = c.before.before.before.before.before.before.before.left-span in
-    rw c.moved4.ensures
-    (by-lefts a.rules.now a.n a.terms a.table.now a.at s.requires.0 s.requires.1 r.result r.ensures c.before.before.before.before.before.before.before.before.before.before.before.if1.false l.result l.ensures c.before.if3.false
-    (sym c.before.before.before.before.before.before.before.before.before.after-in.ensures ∙ c.before.before.before.before.before.before.before.before.if2.false))
+    let r = c.before.before.before.before.before.before.before.before.before.before.before.before.before.before.before.before.right_span-rights in
+    let l = c.before.before.before.before.before.before.before.left_span-lefts in
+    rw c.moved-2.ensures
+    (by-lefts a.rules.now a.n a.terms a.table.now a.at s.requires.0 s.requires.1 r.result r.ensures c.before.before.before.before.before.before.before.before.before.before.before.if-rights-place.false l.result l.ensures c.before.if-lefts-place.false
+    (sym c.before.before.before.before.before.before.before.before.before.after_in-next.ensures ∙ c.before.before.before.before.before.before.before.before.if-next-ne-END.false))
 
-pub pass-span-spec : {M : Type 1} → statement M
-pass-span-spec = tie.close (tie.spec mul-rule copied add-joins (λ c. search rules) (λ c. search rules) (λ c. search rules) right-asked sub-rights (λ c κs. search rules) returns add_row (λ c κs. search rules) (λ c κs. search rules) returns-2 left-asked add-more mul-more sub_more (λ c κs. search rules) returns-3 add-moved (λ c κs. search rules) returns-4)
+pub pass_span_spec : {M : Type 1} → statement M
+pass_span_spec = tie.close (tie.spec mul-rule copied add-joins (λ c. search rules) (λ c. search rules) (λ c. search rules) right-asked sub-rights (λ c κs. search rules) returns add_row (λ c κs. search rules) (λ c κs. search rules) returns-2 left-asked add-more mul-more sub_more (λ c κs. search rules) returns-3 add-moved (λ c κs. search rules) returns-4)

@@ -5,7 +5,7 @@ use Rattle.search_skip.proofs.repeats.Statement.{statement}
 use Rattle.search_skip.proofs.repeats.Tie as tie
 
 returns : tie.Need-returns
-returns c = rw (c.before.is-before.ensures, c.is-before2.ensures) refl
+returns c = rw (c.before.is_before.ensures, c.is_before-2.ensures) refl
 
-pub repeats-spec : {M : Type 1} → statement M
-repeats-spec = tie.close (tie.spec (λ c κs. search rules) (λ c κs. search rules) returns)
+pub repeats_spec : {M : Type 1} → statement M
+repeats_spec = tie.close (tie.spec (λ c κs. search rules) (λ c κs. search rules) returns)

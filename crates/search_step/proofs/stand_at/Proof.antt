@@ -4,11 +4,11 @@ use borrow.Author.Rules.{rules}
 use Rattle.search_step.proofs.stand_at.Statement.{statement}
 use Rattle.search_step.proofs.stand_at.Tie as tie
 
-returns : tie.Need-returns
-returns c = rw (sym c.before.before.spent.ensures ∙ c.before.if1.true) c.end_with.ensures
+returns : tie.Need-returns-then-spent
+returns c = rw (sym c.before.before.spent.ensures ∙ c.before.if-spent.true) c.end_with.ensures
 
-returns-2 : tie.Need-returns-2
-returns-2 c = rw (sym c.before.before.before.spent.ensures ∙ c.before.before.if1.false, c.before.position-row.ensures, c.position-row2.ensures)
+returns-2 : tie.Need-returns
+returns-2 c = rw (sym c.before.before.before.spent.ensures ∙ c.before.before.if-spent.false, c.before.position_row.ensures, c.position_row-2.ensures)
 
-pub stand-at-spec : {M : Type 1} → statement M
-stand-at-spec = tie.close (tie.spec (λ c κs. search rules) (λ c κs. search rules) returns (λ c κs. search rules) (λ c κs. search rules) returns-2)
+pub stand_at_spec : {M : Type 1} → statement M
+stand_at_spec = tie.close (tie.spec (λ c κs. search rules) (λ c κs. search rules) returns (λ c κs. search rules) (λ c κs. search rules) returns-2)

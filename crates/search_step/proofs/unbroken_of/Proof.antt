@@ -3,17 +3,17 @@ use borrow.Author.Tests.{eq-eqb, ne_eqb}
 use Rattle.search_step.proofs.unbroken_of.Statement.{statement}
 use Rattle.search_step.proofs.unbroken_of.Tie as tie
 
-returns : tie.Need-returns
-returns c = rw (eq-eqb _ _ c.if1.true)
+returns : tie.Need-returns-then-code-eq-HOLDS
+returns c = rw (eq-eqb _ _ c.if-code-eq-HOLDS.true)
 
-returns-2 : tie.Need-returns-2
-returns-2 c = rw (ne_eqb _ _ c.before.if1.false, eq-eqb _ _ c.if2.true)
+returns-2 : tie.Need-returns-then-code-eq-FULL
+returns-2 c = rw (ne_eqb _ _ c.before.if-code-eq-HOLDS.false, eq-eqb _ _ c.if-code-eq-FULL.true)
 
-returns-3 : tie.Need-returns-3
-returns-3 c = rw (ne_eqb _ _ c.before.before.if1.false, ne_eqb _ _ c.before.if2.false, eq-eqb _ _ c.if3.true)
+returns-3 : tie.Need-returns-then-code-eq-EMPTY
+returns-3 c = rw (ne_eqb _ _ c.before.before.if-code-eq-HOLDS.false, ne_eqb _ _ c.before.if-code-eq-FULL.false, eq-eqb _ _ c.if-code-eq-EMPTY.true)
 
-returns-4 : tie.Need-returns-4
-returns-4 c = rw (ne_eqb _ _ c.before.before.if1.false, ne_eqb _ _ c.before.if2.false, ne_eqb _ _ c.if3.false)
+returns-4 : tie.Need-returns
+returns-4 c = rw (ne_eqb _ _ c.before.before.if-code-eq-HOLDS.false, ne_eqb _ _ c.before.if-code-eq-FULL.false, ne_eqb _ _ c.if-code-eq-EMPTY.false)
 
-pub unbroken-of-spec : {M : Type 1} → statement M
-unbroken-of-spec = tie.close (tie.spec returns returns-2 returns-3 returns-4)
+pub unbroken_of_spec : {M : Type 1} → statement M
+unbroken_of_spec = tie.close (tie.spec returns returns-2 returns-3 returns-4)

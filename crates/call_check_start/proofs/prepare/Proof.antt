@@ -6,47 +6,47 @@ use Rattle.call_check_start.proofs.Started.{starts-refused, may-open, starts}
 use Rattle.call_check_start.proofs.prepare.Statement.{statement}
 use Rattle.call_check_start.proofs.prepare.Tie as tie
 
-returns : tie.Need-returns
+returns : tie.Need-returns-then-fault-ne0
 returns c =
-    let a = c.before.before.before.before.before.before.before.args in
-    starts-refused a.file.now (settings_of a.rows a.options) _ _ _ _ _ c.before.before.before.refusal-for.ensures c.before.if1.true _ c.wait.ensures
+    let a = c.args in
+    starts-refused a.file.now (settings_of a.rows a.options) _ _ _ _ _ c.refusal_for-fault.ensures c.if-fault-ne0.true _ c.wait.ensures
 
-open-pass-requires : tie.Need-open-pass-requires
+open-pass-requires : tie.Need-open_pass-at-requires
 open-pass-requires c κs =
-    let w = c.before.before.before.before in
-    let u = w.before.before.before.before.before.before.before in
-    let r = u.before.before in
-    let a = r.before.before.before.before.before.before.before.before.before.before.before.args in
-    may-open a.file.now (settings_of a.rows a.options) _ _ _ _ r.rule-table.ensures _ u.unlink-all.ensures _ w.wait2.ensures
+    let w = c in
+    let u = w in
+    let r = u in
+    let a = r.args in
+    may-open a.file.now (settings_of a.rows a.options) _ _ _ _ r.rule_table-n.ensures _ u.unlink_all.ensures _ w.wait-before.ensures
 
-all-linked-requires : tie.Need-all-linked-requires
+all-linked-requires : tie.Need-all_linked-requires
 all-linked-requires c κs =
-    let u = c.before.before.before.before.before.before.before.before.before.before.before.before.before.before.before in
-    search (rules, u.unlink-all.ensures.size)
+    let u = c in
+    search (rules, u.unlink_all.ensures.size)
 
-same_length : tie.Need-same-length
-same_length c = let t = c.before.before.before.before in t.table2.given ∙ t.before.before.before.before.before.before.before.before.before.before.before.before.table.given
+same_length : tie.Need-shape_of-table
+same_length c = let t = c in t.table-2-1.given ∙ t.table-1.given
 
-same-length-2 : tie.Need-same-length-2
-same-length-2 c = c.before.before.before.before.before.before.before.before.before.before.before.before.near.given
+same-length-2 : tie.Need-shape_of-near
+same-length-2 c = c.near-1.given
 
-returns-2 : tie.Need-returns-2
+returns-2 : tie.Need-returns
 returns-2 c =
-    let p = c.before.before.before.before.before in
-    let w = p.before.before.before.before.before in
-    let f = w.before.before.before in
-    let u = f.before.before.before.before in
-    let r = u.before.before in
-    let s = r.before.before in
-    let t = s.before in
-    let i = t.before.before in
-    let e = i.before.before.before.before.before.before in
+    let p = c in
+    let w = p in
+    let f = w in
+    let u = f in
+    let r = u in
+    let s = r in
+    let t = s in
+    let i = t in
+    let e = i in
     let a = e.args in
-    starts a.file.now (settings_of a.rows a.options) _ t.letter-relations.ensures _ s.final-states.ensures _ _ _ r.rule-table.ensures _ _ u.unlink-all.ensures a.near.now _ e.requires.1 f.forget.ensures _ w.wait2.ensures _
-    p.open-pass.ensures _ c.before.all-linked.ensures _ c.stand-or-finish.ensures _ i.before.before.refusal-for.ensures i.if1.false
+    starts a.file.now (settings_of a.rows a.options) _ t.letter_relations.ensures _ s.final_states-finals.ensures _ _ _ r.rule_table-n.ensures _ _ u.unlink_all.ensures a.near.now _ e.requires.1 f.forget.ensures _ w.wait-before.ensures _
+    p.open_pass-at.ensures _ c.all_linked.ensures _ c.stand_or_finish.ensures _ i.refusal_for-fault.ensures i.if-fault-ne0.false
 
-pub prepare-spec : {M : Type 1} → statement M
-prepare-spec =
+pub prepare_spec : {M : Type 1} → statement M
+prepare_spec =
     tie.close
     (tie.spec
     (λ c κs. search rules)

@@ -1,6 +1,6 @@
 -- By the number. Assumes nothing.
 use mathlib.Core.Path.{sym}
-use Rattle.spec_file.specs.RefusalLaws.{number-some, number-none}
+use Rattle.spec_file.proofs.RefusalLaws.{number-some, number-none}
 use Rattle.spec_file.proofs.Refusal.or.Statement.{statement}
 use Rattle.spec_file.proofs.Refusal.or.Tie as tie
 

@@ -1,5 +1,5 @@
 -- The tests in the definition's order. Assumes nothing.
-use mathlib.Core.Path.{◌≡◌, ap, sym, ◌∙◌}
+use mathlib.Core.Path.{ap, sym, ◌∙◌}
 use Prim.Native.Nat.{◌+◌, ◌%◌}
 use lib.ListN.{length}
 use native.Mathlib.Omega.{arith}

@@ -11,7 +11,8 @@ use Rattle.spec_file.specs.Refusals.{refuse, fault, by_number}
 use Rattle.spec_file.specs.Views.{rules_of, automaton_of}
 use Rattle.spec_order.specs.Journal.{absent, Row}
 use Rattle.spec_order.specs.Order.{Answer, Verdict, broken}
-use Rattle.spec_order.proofs.Truth.{SaysBy, check-says}
+use Rattle.spec_order.proofs.CheckTruth.{check-says}
+use Rattle.spec_order.proofs.Truth.{SaysBy}
 use Rattle.spec_calls.specs.Codes.{refused_by}
 use Rattle.spec_calls.specs.Base.{members_of, words}
 use Rattle.spec_calls.proofs.BaseLaws.{base-laws, word-sizes}

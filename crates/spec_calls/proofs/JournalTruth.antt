@@ -13,7 +13,7 @@ use Rattle.spec_order.specs.Behind.{words_of, word_behind}
 use Rattle.spec_order.specs.Fitting.{row_fits}
 use Rattle.spec_order.proofs.SideBySide.{side-at}
 use Rattle.spec_order.proofs.Soundness.{RowSound}
-use Rattle.spec_order.proofs.Truth.{check-says}
+use Rattle.spec_order.proofs.CheckTruth.{check-says}
 use Rattle.spec_order.proofs.Antichain.{Incomparable, antichain-at, check-antichain}
 use Rattle.spec_order.proofs.FittingRows.{check-fits}
 use Rattle.spec_calls.specs.Base.{members_of, forms_on, words}

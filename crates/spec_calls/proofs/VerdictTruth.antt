@@ -17,7 +17,8 @@ use Rattle.spec_order.specs.Journal.{Row, no_row}
 use Rattle.spec_order.specs.Order.{Answer, Verdict, holds, broken, full, spent, empty}
 use Rattle.spec_order.specs.Behind.{word_behind}
 use Rattle.spec_order.proofs.Soundness.{Sound}
-use Rattle.spec_order.proofs.Truth.{Settled, SaysBy, Says, check-says, settled-calm, holds-derives, empty-derives, shown_row}
+use Rattle.spec_order.proofs.CheckTruth.{check-says}
+use Rattle.spec_order.proofs.Truth.{Settled, SaysBy, Says, settled-calm, holds-derives, empty-derives, shown_row}
 use Rattle.spec_calls.specs.Base.{members_of, is_one_of, words}
 use Rattle.spec_calls.proofs.BaseLaws.{base-laws, word-sizes, relation-derived, word-derived}
 use Rattle.spec_calls.specs.Checking.{Settings, algebra_over, order_over, shown, shown_head}

@@ -15,7 +15,7 @@ use Rattle.spec_order.specs.Candidates.{Candidate}
 use Rattle.spec_order.proofs.Coverage.{kept}
 use Rattle.spec_order.specs.Journal.{Row, live, live_of}
 use Rattle.spec_order.proofs.Journals.{journal-ind}
-use Rattle.spec_order.specs.Order.{going, born, dropped, larger, retire, added, check}
+use Rattle.spec_order.specs.Order.{born, dropped, larger, retire, added, check}
 
 module _ {E : Type 0} (A : Algebra E) where
   -- two live rows of one nonterminal, neither contained in the other

@@ -211,7 +211,7 @@ module _ {E : Type 0} (A : Algebra E) (m : ℕ) (few : (x y : E) → length (A.f
       by (going t) e p next = fork (eqb (length t.rows) (length s.rows)) refl
         where
           ended : Answer E
-          ended = answer (finish A.starts t.rows) (suc h) absent t
+          ended = close_by A.starts true (suc h) (passes A rules J B f (suc (suc h))) t
 
           rowless : (x : Bool) → ExactBy (finish_by x) ended
           rowless true = refl

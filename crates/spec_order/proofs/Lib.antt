@@ -1,6 +1,7 @@
 pub mod Antichain
 pub mod BehindLaws
 pub mod Carrying
+pub mod CheckTruth
 pub mod Completeness
 pub mod Counting
 pub mod Coverage

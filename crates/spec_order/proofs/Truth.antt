@@ -1,10 +1,10 @@
 -- What each verdict says is true of derivations, and every row is sound. Assumes nothing.
-use Rattle.std.specs.Prelude.{◌≡◌, ◌⊎◌, Bool, eqb}
+use Rattle.std.specs.Prelude.{◌≡◌, ◌⊎◌, eqb}
 use Rattle.std.proofs.Math.Path.{refl, sym, ap, subst}
 use Rattle.std.proofs.Common.{ap₂, ◌∙◌, inl, inr, le_of_suc-le-suc, arith}
 use Rattle.std.proofs.Math.Bool.{true, false, true≢false}
 use mathlib.Core.List.{List, [], ◌∷◌, ◌++◌, map, append-nil, append_assoc}
-use Prim.Native.Nat.{ℕ, zero, suc, ◌+◌, ◌≤◌, ◌<◌}
+use Prim.Native.Nat.{ℕ, suc, ◌+◌, ◌≤◌, ◌<◌}
 use Rattle.std.proofs.Math.Nat.{le_refl}
 use Rattle.std.proofs.Math.Numerals.{add-one}
 use Rattle.std.proofs.Math.ListN.{length, get_or, length-append}
@@ -14,19 +14,19 @@ use borrow.Author.Tests.{eqb-true}
 use Rattle.std.proofs.Math.Pow.{low}
 use Rattle.spec_basics.specs.Elements.{In, each}
 use Rattle.spec_basics.specs.Lists.{in-cases, map-in, any_of, any_at, each_at, each-fails}
-use Rattle.spec_basics.specs.Tests.{and-fst, and-snd, fails}
+use Rattle.spec_basics.specs.Tests.{and-fst, fails}
 use Rattle.spec_language.specs.Grammar.{Rule}
 use Rattle.spec_order.specs.Algebra.{Algebra, Laws}
-use Rattle.spec_order.specs.Behind.{Spelling, row_word, words_from, words_of, word_behind}
+use Rattle.spec_order.specs.Behind.{Spelling, row_word, words_of, word_behind}
 use Rattle.spec_order.specs.Candidates.{Candidate, pass_candidates}
 use Rattle.spec_order.proofs.Carrying.{within-le}
-use Rattle.spec_order.proofs.Completeness.{effect_values, Above, FormsInto, higher, closed, LiveIn, follows}
+use Rattle.spec_order.proofs.Completeness.{effect_values, Above, FormsInto, closed, LiveIn}
 use Rattle.spec_order.specs.Derivation.{Yields}
-use Rattle.spec_order.specs.Journal.{Row, absent, no_row, live, live_of}
-use Rattle.spec_order.specs.Order.{Progress, Verdict, holds, broken, full, spent, empty, Outcome, going, stopped, Answer, born, answer, retire, added, consider, finish_by, has_row, finish, close_by, close, one_pass, passes, check}
+use Rattle.spec_order.specs.Journal.{Row, no_row, live, live_of}
+use Rattle.spec_order.specs.Order.{Progress, Verdict, holds, broken, full, spent, empty, Answer, born, answer, retire, added, consider, has_row, one_pass}
 use Rattle.spec_order.proofs.SideBySide.{side-at, side-in}
 use Rattle.spec_order.proofs.Soundness.{spelled_values, Sizes, words-added, RowSound, Sound, sound-taller, CandidateSound, sound-added, candidates-sound}
-use Rattle.spec_order.proofs.Walking.{Post, Covers, step-post, walk-post, walk-covers}
+use Rattle.spec_order.proofs.Walking.{Post, step-post, walk-post}
 
 module _ {E : Type 0} (A : Algebra E) where
   pub length-added : (k : ℕ) (c : Candidate E) (rows : List (Row E)) → length (added A.below k c rows) ≡ suc (length rows)
@@ -98,7 +98,7 @@ module _ {E W : Type 0} (A : Algebra E) (L : Laws A) (S : Spelling E W) (Z : Siz
     pub least : length rows₀ ≤ length s.rows
     pub same : length s.rows ≡ length rows₀ → s.rows ≡ rows₀
 
-  abbrev End : ℕ → Verdict → ℕ → Progress E → Type 0
+  abbrev pub End : ℕ → Verdict → ℕ → Progress E → Type 0
   unfolding answer
   End k v i s = Sound A S rules k s.rows × SaysBy A S rules v (answer v k i s)
 
@@ -144,55 +144,13 @@ module _ {E W : Type 0} (A : Algebra E) (L : Laws A) (S : Spelling E W) (Z : Siz
       grown-sound = sound-added A S rules (suc h) c rows₀ s.rows d.more cs d.grew d.sound
 
   -- the same of a whole pass
-  one-pass : (h : ℕ) (s : Progress E) → Between h s.rows → Post (During h s.rows) (End (suc h)) (one_pass A rules J B (suc h) s)
+  pub one-pass : (h : ℕ) (s : Progress E) → Between h s.rows → Post (During h s.rows) (End (suc h)) (one_pass A rules J B (suc h) s)
   unfolding one_pass
   one-pass h s b =
       walk-post A J B (suc h) (During h s.rows) (End (suc h)) (pass_candidates A.forms s.rows 0 rules)
       (λ c m t d. one-step h s.rows c (λ p e y. calm s.rows b.quiet p e (b.covers p e y)) (candidates-sound A S rules Z h s.rows b.sound c m) t d)
       s
       (record { sound = sound-taller A S rules h s.rows b.sound; quiet = b.quiet; more = []; grew = sym (append-nil (words_of S rules s.rows)); least = le_refl (length s.rows); same = λ e. refl })
-
-  -- pass by pass: after h + 1 of them every derivation of height at most h + 1 is covered by a live row
-  pub after-pass : (h : ℕ) (s t : Progress E) → Between h s.rows → one_pass A rules J B (suc h) s ≡ going t → Between (suc h) t.rows
-  unfolding one_pass
-  after-pass h s t b e =
-      let d : During h s.rows t = subst (Post (During h s.rows) (End (suc h))) e (one-pass h s b) in
-      let v : Covers A (pass_candidates A.forms s.rows 0 rules) s t =
-      subst (Post (Covers A (pass_candidates A.forms s.rows 0 rules) s) (λ v i u. Unit {0})) e (walk-covers A J B (suc h) L (pass_candidates A.forms s.rows 0 rules) s) in
-      record { sound = d.sound; quiet = d.quiet; covers = higher A L rules h (LiveIn s.rows) (LiveIn t.rows) b.covers (follows A s.rows rules t.rows v.each) }
-
-  pub passes-say : (f h : ℕ) (s : Progress E) → Between h s.rows → Says A S rules (passes A rules J B f (suc h) s)
-  unfolding passes answer one_pass
-  passes-say zero h s b = record { sound = sound-taller A S rules h s.rows b.sound; verdict = tt }
-  passes-say (suc f) h s b =
-      by (one_pass A rules J B (suc h) s) refl (one-pass h s b) (walk-covers A J B (suc h) L (pass_candidates A.forms s.rows 0 rules) s) (passes-say f (suc h))
-    where
-      finished : (t : Progress E) → Settled A S rules (answer (finish A.starts t.rows) (suc h) absent t) → (x : Bool) → each (has_row t.rows) A.starts ≡ x
-          → SaysBy A S rules (finish_by x) (answer (finish A.starts t.rows) (suc h) absent t)
-      finished t y true e = (y, e)
-      finished t y false e = (y, e)
-
-      fork : (t : Progress E) → one_pass A rules J B (suc h) s ≡ going t → (x : Bool) → eqb (length t.rows) (length s.rows) ≡ x → During h s.rows t
-          → Covers A (pass_candidates A.forms s.rows 0 rules) s t
-          → ((t : Progress E) → Between (suc h) t.rows → Says A S rules (passes A rules J B f (suc (suc h)) t))
-          → Says A S rules (close_by A.starts x (suc h) (passes A rules J B f (suc (suc h))) t)
-      fork t w true e d v next =
-          let same : t.rows ≡ s.rows = d.same (eqb-true (length t.rows) (length s.rows) e) in
-          let covers = subst (λ (x : List (Row E)). FormsInto A rules (LiveIn x) (LiveIn t.rows)) (sym same) (follows A s.rows rules t.rows v.each) in
-          record { sound = d.sound; verdict = finished t (d.quiet, covers) (each (has_row t.rows) A.starts) refl }
-      fork t w false e d v next = next t (after-pass h s t b w)
-
-      by : (r : Outcome E) → one_pass A rules J B (suc h) s ≡ r → Post (During h s.rows) (End (suc h)) r
-          → Post (Covers A (pass_candidates A.forms s.rows 0 rules) s) (λ v i t. Unit {0}) r
-          → ((t : Progress E) → Between (suc h) t.rows → Says A S rules (passes A rules J B f (suc (suc h)) t))
-          → Says A S rules (close A.starts (suc h) (length s.rows) (passes A rules J B f (suc (suc h))) r)
-      by (stopped v i t) w p q next = record { sound = p.0; verdict = p.1 }
-      by (going t) w p q next = fork t w (eqb (length t.rows) (length s.rows)) refl p q next
-
-  -- the check's verdict is true, and its rows are sound
-  pub check-says : Says A S rules (check A rules J B)
-  unfolding check words_of words_from
-  check-says = passes-say (suc J) 0 (record { rows = []; joins = 0 }) (record { sound = tt; quiet = λ r m. absurd m; covers = λ p e d. absurd d })
 
   -- after "holds" and "empty" the live rows cover everything derived, and nothing derived breaks
   pub settled-covers : (a : Answer E) → Settled A S rules a → (h p : ℕ) (e : E) → Gets A rules h p e → Above A (LiveIn a.journal) p e

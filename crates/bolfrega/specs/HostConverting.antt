@@ -3,12 +3,12 @@
 use Rattle.std.specs.Prelude.{◌≡◌, refl, true, List, ℕ, zero, suc, ◌≤◌, ◌<◌, length}
 use Rattle.std.proofs.Common.{sym, ap, ◌∙◌, subst, suc-ne-zero, arith}
 use Rattle.spec_file.specs.Refusals.{Refusal, first_of}
-use Rattle.spec_file.specs.RefusalLaws.{number-some, number-none}
+use Rattle.spec_file.proofs.RefusalLaws.{number-some, number-none}
 use Rattle.spec_calls.specs.Replies.{Reply, refused, answered, reply}
-use Rattle.spec_calls.specs.ReplyLaws.{reply-first}
+use Rattle.spec_calls.proofs.ReplyLaws.{reply-first}
 use Rattle.spec_calls.specs.Codes.{first_answer_code, code_by}
 use Rattle.relation.specs.Digits.{bit}
-use Rattle.spec_unfold.specs.StartLaws.{member_below}
+use Rattle.spec_unfold.proofs.StartLaws.{member_below}
 use Rattle.spec_unfold.specs.Moving.{widened, narrowed}
 use Rattle.spec_unfold.specs.Unfolding.{least_for, unfolded_file}
 use Rattle.spec_unfold.specs.Calls.{widen_refusals, narrow_refusals, unfold_refusals, widen_of, narrow_of, unfold_of, widen_after, narrow_after, unfold_after}

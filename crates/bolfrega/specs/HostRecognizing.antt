@@ -7,9 +7,9 @@ use Rattle.std.proofs.lemmas.Bool.{false≢true}
 use Rattle.relation.specs.Digits.{bit}
 use Rattle.spec_language.specs.Grammar.{initial}
 use Rattle.spec_file.specs.Refusals.{Refusal, first_of}
-use Rattle.spec_file.specs.RefusalLaws.{number-none}
+use Rattle.spec_file.proofs.RefusalLaws.{number-none}
 use Rattle.spec_calls.specs.Replies.{refused, answered}
-use Rattle.spec_calls.specs.ReplyLaws.{reply-first}
+use Rattle.spec_calls.proofs.ReplyLaws.{reply-first}
 use Rattle.spec_calls.specs.Codes.{first_answer_code, code_by}
 use Rattle.spec_calls.specs.DemandThree.{Derivable}
 use Rattle.spec_calls.specs.Recognizing.{cell, recognize_refusals, recognize_of, RecognizeMeans}

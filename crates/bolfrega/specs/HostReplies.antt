@@ -9,7 +9,7 @@ use Rattle.spec_file.specs.Refusals.{Refusal, refuse, fault, by_number}
 use Rattle.spec_order.specs.Journal.{Row}
 use Rattle.spec_order.specs.Order.{Answer, Verdict, holds, broken, full, spent, empty}
 use Rattle.spec_calls.specs.Checking.{Settings, journal_limit, journal_fault, order_on, check_of, kept_by, journal_after, shown}
-use Rattle.spec_calls.specs.Promising.{promises, broken-word, broken-writes}
+use Rattle.spec_calls.proofs.Promising.{promises, broken-word, broken-writes}
 use Rattle.spec_calls.specs.Replies.{Reply, refused, answered, unless}
 use Rattle.spec_calls.specs.Writing.{room_fault, written_by, buffer_after}
 use Rattle.spec_calls.specs.Codes.{first_answer_code, holds_code, broken_code, full_code, empty_code, verdict_code, code_by}

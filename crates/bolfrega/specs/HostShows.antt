@@ -18,11 +18,11 @@ use Rattle.spec_calls.specs.Codes.{refused_by}
 use Rattle.spec_calls.specs.Base.{forms_on, words}
 use Rattle.spec_calls.specs.Checking.{Settings, check_of, shown, shown_head}
 use Rattle.spec_calls.specs.DemandThree.{Promises}
-use Rattle.spec_calls.specs.JournalTruth.{row-true}
-use Rattle.spec_calls.specs.Promising.{from-order}
+use Rattle.spec_calls.proofs.JournalTruth.{row-true}
+use Rattle.spec_calls.proofs.Promising.{from-order}
 use Rattle.spec_calls.specs.Replies.{answered, unless, refused}
 use Rattle.spec_calls.specs.Writing.{long_word, room_fault, word_of, written_by}
-use Rattle.spec_calls.specs.WritingTruth.{room-cases}
+use Rattle.spec_calls.proofs.WritingTruth.{room-cases}
 use Rattle.host_check.specs.Details.{zero_row, last_three, shown_by}
 use Rattle.bolfrega.specs.Hosts.{told_pass, told_pairs, told_length, told_refused, InBuffer, Shows}
 use Rattle.bolfrega.specs.HostReplies.{broken_row, writing, ToldAnswer}

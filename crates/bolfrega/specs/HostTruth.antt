@@ -13,8 +13,8 @@ use Rattle.spec_order.specs.Order.{Answer, Verdict, holds, broken, full, spent, 
 use Rattle.spec_calls.specs.Base.{initial_alone}
 use Rattle.spec_calls.specs.Checking.{Settings, journal_fault, algebra_over, check_of, shown, shown_head}
 use Rattle.spec_calls.specs.DemandThree.{Member, SomeFrom, NoneFrom, Counterexample, AllAccepted, joins_bound, Extends, Promises}
-use Rattle.spec_calls.specs.MemberLaws.{member-bit, bit-member, only-initial}
-use Rattle.spec_calls.specs.Promising.{from-order}
+use Rattle.spec_calls.proofs.MemberLaws.{member-bit, bit-member, only-initial}
+use Rattle.spec_calls.proofs.Promising.{from-order}
 use Rattle.spec_calls.specs.Replies.{Reply, refused, answered}
 use Rattle.spec_calls.specs.Codes.{first_answer_code, holds_code, broken_code, full_code, spent_code, empty_code, verdict_code}
 use Rattle.host_check.specs.Details.{if_broken, last_three, head_of}

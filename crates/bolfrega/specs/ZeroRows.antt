@@ -13,7 +13,7 @@ use Rattle.spec_file.specs.Refusals.{Refusal, refuse, fault}
 use Rattle.spec_order.specs.Journal.{Row}
 use Rattle.spec_order.specs.Order.{Answer}
 use Rattle.spec_calls.specs.Checking.{Settings, journal_limit, journal_fault, check_of, journal_after}
-use Rattle.spec_calls.specs.Promising.{promises}
+use Rattle.spec_calls.proofs.Promising.{promises}
 use Rattle.spec_calls.specs.Replies.{Reply, refused}
 use Rattle.spec_calls.specs.Rows.{row_of, blank, settings_of, Journal}
 use Rattle.spec_calls.specs.declared.Options.{Options}

@@ -12,10 +12,10 @@ use Rattle.spec_file.specs.Refusals.{by_number, first_of}
 use Rattle.spec_order.specs.Order as order
 use Rattle.spec_order.specs.Journal.{Row}
 use Rattle.spec_calls.specs.Checking.{Settings, check_refusals, order_on, check_of, kept_by, journal_after}
-use Rattle.spec_calls.specs.Promising.{promises}
+use Rattle.spec_calls.proofs.Promising.{promises}
 use Rattle.spec_calls.specs.declared.Options.{Options}
-use Rattle.spec_calls.specs.ReplyLaws.{reply-first}
-use Rattle.spec_file.specs.RefusalLaws.{number-some}
+use Rattle.spec_calls.proofs.ReplyLaws.{reply-first}
+use Rattle.spec_file.proofs.RefusalLaws.{number-some}
 use Rattle.spec_calls.specs.Replies.{Reply, refused, answered, unless}
 use Rattle.spec_calls.specs.Rows.{row_of, Journal}
 use Rattle.spec_calls.specs.declared.Row.{Row as LentRow}

@@ -13,14 +13,14 @@ use Rattle.relation.specs.RelationLaws.{table-lt, has-table, has-empty, ext-has}
 use Rattle.relation.specs.Representation.{value}
 use Rattle.spec_language.specs.Grammar.{Rule}
 use Rattle.spec_language.specs.Remarks.{last_remark, is_remark}
-use Rattle.spec_language.specs.RemarkLaws.{past-remarks}
+use Rattle.spec_language.proofs.RemarkLaws.{past-remarks}
 use Rattle.spec_language.specs.Automaton.{Transition}
 use Rattle.spec_language.specs.WordRelation.{moves, letter_relation, is_final}
-use Rattle.spec_language.specs.Paths.{letter_relation-step}
+use Rattle.spec_language.proofs.Paths.{letter_relation-step}
 use Rattle.spec_file.specs.Limits.{terminals}
 use Rattle.spec_file.specs.Refusals.{fault}
 use Rattle.spec_file.specs.Views.{rules_of, transitions_of, automaton_of}
-use Rattle.spec_file.specs.Valid.{letter-low}
+use Rattle.spec_file.proofs.Valid.{letter-low}
 use Rattle.spec_order.specs.Order.{check}
 use Rattle.spec_file.specs.Entries.{entry_of}
 use Rattle.spec_calls.specs.Checking.{Settings, algebra_over, order_on}

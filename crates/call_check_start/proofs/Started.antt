@@ -13,7 +13,7 @@ use Rattle.relation.specs.Digits.{number}
 use Rattle.relation.specs.Relation.{states}
 use Rattle.spec_language.specs.WordRelation.{is_final}
 use Rattle.spec_file.specs.Refusals.{fault, first_of}
-use Rattle.spec_file.specs.RefusalLaws.{not-held}
+use Rattle.spec_file.proofs.RefusalLaws.{not-held}
 use Rattle.spec_file.specs.Views.{rules_of, transitions_of, automaton_of}
 use Rattle.spec_file.specs.Answers.{refusal_of}
 use Rattle.spec_file.specs.declared.Refusal.{Refusal}

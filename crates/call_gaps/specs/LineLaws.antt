@@ -13,7 +13,7 @@ use Rattle.spec_language.specs.Remarks.{first_remark}
 use Rattle.spec_file.specs.Views.{cons_if, automaton_of}
 use Rattle.spec_calls.specs.Gaps.{ListEntry}
 use Rattle.spec_calls.specs.Listing.{gap_at, gap_of, state_gaps, gaps_in, gaps_of, bytes_of, list_bytes, over}
-use Rattle.spec_calls.specs.GapLists.{state-short, gaps-short, bytes-length}
+use Rattle.spec_calls.proofs.GapLists.{state-short, gaps-short, bytes-length}
 use Rattle.call_gaps.specs.Sheets.{Sheet, Lines, lines_in, with_entry, gap_in, pair_into, state_into, all_into}
 
 bytes_next : (es : List ListEntry) (e : ListEntry) → concat_map bytes_of (es ++ (e ∷ [])) ≡ concat_map bytes_of es ++ bytes_of e

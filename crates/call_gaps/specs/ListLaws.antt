@@ -5,11 +5,11 @@ use Rattle.std.proofs.Common.{ap, ◌∙◌, subst, ltb-false}
 use Rattle.spec_file.specs.declared.Refusal.{Refusal as RefusalAnswer}
 use Rattle.spec_file.specs.Answers.{refusal_of}
 use Rattle.spec_file.specs.Refusals.{Refusal, fault, first_of}
-use Rattle.spec_file.specs.RefusalLaws.{number-some, number-none, not-held, none-refuses}
+use Rattle.spec_file.proofs.RefusalLaws.{number-some, number-none, not-held, none-refuses}
 use Rattle.spec_calls.specs.Replies.{refused, answered}
-use Rattle.spec_calls.specs.ReplyLaws.{reply-first}
+use Rattle.spec_calls.proofs.ReplyLaws.{reply-first}
 use Rattle.spec_calls.specs.Listing.{gaps_of, list_bytes, list_fault, list_refusals, list_of, listed_by, list_after, ListMeans}
-use Rattle.spec_calls.specs.ListingTruth.{list-means}
+use Rattle.spec_calls.proofs.ListingTruth.{list-means}
 use Rattle.call_gaps.specs.declared.Listed.{Listed}
 use Rattle.call_gaps.specs.declared.Listed.TheVariants.{Refused}
 use Rattle.call_gaps.specs.Answers.{listed_of, Lists}

@@ -19,10 +19,10 @@ use Rattle.spec_file.specs.Refusals.{fault}
 use Rattle.spec_file.specs.Views.{transition_of, final_of, collect, transitions_of, finals_of, automaton_of}
 use Rattle.spec_file.specs.declared.Transition.{Transition as FileTransition}
 use Rattle.spec_file.specs.Entries.{transition_in, transition_at, final_at}
-use Rattle.spec_file.specs.EntryLaws.{whole}
+use Rattle.spec_file.proofs.EntryLaws.{whole}
 use Rattle.file_tables.specs.Prefixes.{none_yet, turn}
 use Rattle.spec_calls.specs.Listing.{touches, takes_state, uses_letter}
-use Rattle.spec_calls.specs.MoveCounts.{leads, moves-none, moves_next, moves-few}
+use Rattle.spec_calls.proofs.MoveCounts.{leads, moves-none, moves_next, moves-few}
 use Rattle.call_gaps.specs.Sheets.{cell_of, with_move, with_mark, Sheet, up_to_record, Taken, Bytes}
 
 -- ---- a mark

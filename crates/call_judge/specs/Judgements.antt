@@ -8,12 +8,12 @@ use Rattle.relation.specs.Relation.{states}
 use Rattle.spec_language.specs.WordRelation.{rejected}
 use Rattle.spec_file.specs.Limits.{terminals}
 use Rattle.spec_file.specs.Refusals.{Refusal, first_of}
-use Rattle.spec_file.specs.RefusalLaws.{number-some, number-none, not-held, none-refuses}
+use Rattle.spec_file.proofs.RefusalLaws.{number-some, number-none, not-held, none-refuses}
 use Rattle.spec_file.specs.Views.{automaton_of}
 use Rattle.spec_calls.specs.Replies.{Reply, refused, answered, unless}
-use Rattle.spec_calls.specs.ReplyLaws.{reply-first}
+use Rattle.spec_calls.proofs.ReplyLaws.{reply-first}
 use Rattle.spec_calls.specs.Judging.{Judgement, judgement_by, word_limit, word_fault, judge_refusals, judge_of, JudgementMeans}
-use Rattle.spec_calls.specs.JudgingTruth.{judge-means}
+use Rattle.spec_calls.proofs.JudgingTruth.{judge-means}
 use Rattle.call_judge.specs.declared.Judged.{Judged}
 use Rattle.call_judge.specs.Letters.{strays}
 use Rattle.call_judge.specs.Answers.{judged_of, Judging}

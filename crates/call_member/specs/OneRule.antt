@@ -8,11 +8,11 @@ use Rattle.relation.specs.Digits.{bit}
 use Rattle.spec_language.specs.Grammar.{terminal, Production, initial}
 use Rattle.spec_language.specs.Rewriting.{Language}
 use Rattle.spec_language.specs.Spelling.{Spells, DerivesWithin}
-use Rattle.spec_language.specs.Agreement.{language}
+use Rattle.spec_language.proofs.Agreement.{language}
 use Rattle.spec_file.specs.Views.{collect, rules_of, productions_of}
 use Rattle.spec_calls.specs.Replies.{answered}
 use Rattle.spec_calls.specs.Recognizing.{cell, TableShows, RecognizeMeans}
-use Rattle.spec_calls.specs.Cases.{entry}
+use Rattle.spec_calls.proofs.Cases.{entry}
 
 -- 0 gives 5 127
 abbrev remarked : List ℕ

@@ -13,23 +13,23 @@ use Rattle.spec_language.specs.Grammar.{Symbol, terminal, nonterminal, symbols, 
 use Rattle.spec_language.specs.Rewriting.{Language}
 use Rattle.spec_language.specs.Spelling.{SpellsSymbol, Spells, DerivesWithin}
 use Rattle.spec_language.specs.Rewriting.{Language}
-use Rattle.spec_language.specs.Agreement.{language}
-use Rattle.spec_language.specs.RuleLaws.{by-rule}
+use Rattle.spec_language.proofs.Agreement.{language}
+use Rattle.spec_language.proofs.RuleLaws.{by-rule}
 use Rattle.spec_language.specs.Automaton.{Accepts}
 use Rattle.spec_language.specs.WordRelation.{rejected}
 use Rattle.spec_file.specs.Limits.{terminals}
 use Rattle.spec_file.specs.Entries.{rule_at}
 use Rattle.spec_file.specs.Refusals.{fault}
 use Rattle.spec_file.specs.Views.{symbol_by, symbol_of, body_by, rules_of, productions_of, automaton_of}
-use Rattle.spec_file.specs.EntryLaws.{rules-length, rule-read}
+use Rattle.spec_file.proofs.EntryLaws.{rules-length, rule-read}
 use Rattle.spec_order.specs.Order.{Answer, holds, broken}
 use Rattle.spec_calls.specs.Replies.{answered}
-use Rattle.spec_calls.specs.ReplyLaws.{reply-answers, reply-none}
+use Rattle.spec_calls.proofs.ReplyLaws.{reply-answers, reply-none}
 use Rattle.spec_calls.specs.Checking.{Settings, check_of, shown, shown_head}
 use Rattle.spec_calls.specs.DemandThree.{Member}
-use Rattle.spec_calls.specs.Promising.{from-order, promises}
+use Rattle.spec_calls.proofs.Promising.{from-order, promises}
 use Rattle.spec_calls.specs.Judging.{Judgement, accepted, turned_away, judgement_by, word_limit, word_fault, judge_refusals, judge_of, JudgementMeans}
-use Rattle.spec_calls.specs.JudgingTruth.{judge-means}
+use Rattle.spec_calls.proofs.JudgingTruth.{judge-means}
 use Rattle.spec_calls.specs.Recognizing.{run_limit, cell, stretch_cells, recognize_refusals, recognize_of, RecognizeMeans}
 use Rattle.call_judge.specs.Letters.{strays}
 use Rattle.call_member.specs.RecognizeLaws.{short-enough, that-size}

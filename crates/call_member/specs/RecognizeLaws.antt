@@ -11,12 +11,12 @@ use Rattle.spec_file.specs.Limits.{terminals, nonterminals}
 use Rattle.spec_file.specs.declared.Refusal.{Refusal as RefusalAnswer}
 use Rattle.spec_file.specs.Answers.{refusal_of}
 use Rattle.spec_file.specs.Refusals.{Refusal, first_of, fault}
-use Rattle.spec_file.specs.RefusalLaws.{number-some, number-none, not-held, none-refuses}
+use Rattle.spec_file.proofs.RefusalLaws.{number-some, number-none, not-held, none-refuses}
 use Rattle.spec_file.specs.Views.{rules_of, productions_of}
-use Rattle.spec_file.specs.EntryLaws.{rules-length, rule-read}
-use Rattle.spec_file.specs.Ranges.{rule-in-range}
+use Rattle.spec_file.proofs.EntryLaws.{rules-length, rule-read}
+use Rattle.spec_file.proofs.Ranges.{rule-in-range}
 use Rattle.spec_calls.specs.Replies.{refused, answered, unless}
-use Rattle.spec_calls.specs.ReplyLaws.{reply-first}
+use Rattle.spec_calls.proofs.ReplyLaws.{reply-first}
 use Rattle.spec_calls.specs.Judging.{word_fault}
 use Rattle.spec_calls.specs.Recognizing.{run_limit, row_start, cell, stretch_cells, TableShows, run_fault, table_fault, recognize_refusals, recognize_of, RecognizeMeans}
 use Rattle.call_judge.specs.Letters.{strays}

@@ -5,13 +5,13 @@ use Rattle.std.proofs.Math.Path.{subst}
 use mathlib.Core.List.{List, [], ◌∷◌}
 use Rattle.std.proofs.Math.ListN.{length}
 use Rattle.spec_file.specs.Refusals.{refuse, first_of}
-use Rattle.spec_file.specs.RefusalLaws.{none-refuses, first-last}
-use Rattle.spec_calls.specs.ReplyLaws.{reply-none}
+use Rattle.spec_file.proofs.RefusalLaws.{none-refuses, first-last}
+use Rattle.spec_calls.proofs.ReplyLaws.{reply-none}
 use Rattle.spec_unfold.specs.Moving.{widened, narrowed}
 use Rattle.spec_unfold.specs.Calls.{output_fault, widen_refusals, narrow_refusals, widen_of, narrow_of, widen_after, narrow_after}
-use Rattle.spec_unfold.specs.CallLaws.{widen-answers, narrow-answers}
+use Rattle.spec_unfold.proofs.CallLaws.{widen-answers, narrow-answers}
 use Rattle.spec_unfold.specs.MovingMeans.{WidenMeans, NarrowMeans}
-use Rattle.spec_unfold.specs.MovingTruth.{widen-means, narrow-means}
+use Rattle.spec_unfold.proofs.MovingTruth.{widen-means, narrow-means}
 use Rattle.call_move.specs.declared.Moved.{Moved}
 use Rattle.call_move.specs.Answers.{moved_of, Widens, Narrows}
 use Rattle.call_move.specs.FrontLaws.{widened-length, narrowed-length}

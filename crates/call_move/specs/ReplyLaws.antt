@@ -4,9 +4,9 @@ use Rattle.std.proofs.Common.{sym, ap, ◌∙◌}
 use Rattle.spec_file.specs.declared.Refusal.{Refusal as RefusalAnswer}
 use Rattle.spec_file.specs.Answers.{refusal_of}
 use Rattle.spec_file.specs.Refusals.{Refusal, first_of}
-use Rattle.spec_file.specs.RefusalLaws.{number-some, number-none}
+use Rattle.spec_file.proofs.RefusalLaws.{number-some, number-none}
 use Rattle.spec_calls.specs.Replies.{Reply, refused, answered, reply}
-use Rattle.spec_calls.specs.ReplyLaws.{reply-first}
+use Rattle.spec_calls.proofs.ReplyLaws.{reply-first}
 use Rattle.spec_calls.specs.Writing.{written_by}
 use Rattle.call_move.specs.Fronts.{over}
 

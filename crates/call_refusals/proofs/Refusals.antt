@@ -3,7 +3,7 @@ use mathlib.Core.Path.{◌≡◌, sym, ap, ◌∙◌}
 use mathlib.Core.List.{List}
 use Prim.Native.Nat.{ℕ}
 use Rattle.spec_file.specs.Refusals.{Refusal, fault, first_of}
-use Rattle.spec_file.specs.RefusalLaws.{none-refuses}
+use Rattle.spec_file.proofs.RefusalLaws.{none-refuses}
 use Rattle.spec_file.specs.Answers.{refusal_of}
 use Rattle.spec_file.specs.declared.Refusal as declared
 use Rattle.spec_calls.specs.Checking.{journal_fault, check_refusals}

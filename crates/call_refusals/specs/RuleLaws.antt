@@ -5,8 +5,8 @@ use Rattle.std.proofs.lemmas.List.{length-map}
 use Rattle.spec_file.specs.Limits.{rule_limit}
 use Rattle.spec_file.specs.Refusals.{fault}
 use Rattle.spec_file.specs.Views.{rules_of}
-use Rattle.spec_file.specs.EntryLaws.{rules-length}
-use Rattle.spec_file.specs.Sorted.{few}
+use Rattle.spec_file.proofs.EntryLaws.{rules-length}
+use Rattle.spec_file.proofs.Sorted.{few}
 use Rattle.spec_file.specs.Entries.{entry_of}
 use Rattle.file_tables.specs.Tables.{RuleTable}
 

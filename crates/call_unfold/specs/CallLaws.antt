@@ -7,19 +7,19 @@ use Rattle.spec_basics.specs.Tests.{or-neither}
 use Rattle.spec_file.specs.Forms.{sixteen}
 use Rattle.spec_file.specs.Limits.{rule_limit, nonterminals}
 use Rattle.spec_file.specs.Refusals.{refuse, fault_in, first_of}
-use Rattle.spec_file.specs.RefusalLaws.{number-some, number-none, none-refuses}
+use Rattle.spec_file.proofs.RefusalLaws.{number-some, number-none, none-refuses}
 use Rattle.spec_calls.specs.Replies.{answered}
-use Rattle.spec_calls.specs.ReplyLaws.{reply-none}
+use Rattle.spec_calls.proofs.ReplyLaws.{reply-none}
 use Rattle.spec_records.specs.Agreement.{sixteen-fits}
 use Rattle.spec_records.specs.Blocks.{records_of}
 use Rattle.spec_records.specs.FormLaws.{sound}
 use Rattle.spec_unfold.specs.Chains.{chains_in}
 use Rattle.spec_unfold.specs.Unfolding.{first_chain, unfolded_file, too_many}
-use Rattle.spec_unfold.specs.Needing.{first-low}
+use Rattle.spec_unfold.proofs.Needing.{first-low}
 use Rattle.spec_unfold.specs.Calls.{output_fault, chain_fault, unfold_refusals, unfold_of, unfold_after}
-use Rattle.spec_unfold.specs.CallLaws.{unfold-answers}
+use Rattle.spec_unfold.proofs.CallLaws.{unfold-answers}
 use Rattle.spec_unfold.specs.UnfoldingMeans.{UnfoldMeans}
-use Rattle.spec_unfold.specs.UnfoldingTruth.{unfold-means}
+use Rattle.spec_unfold.proofs.UnfoldingTruth.{unfold-means}
 use Rattle.call_move.specs.declared.Moved.{Moved}
 use Rattle.call_move.specs.Answers.{moved_of}
 use Rattle.call_move.specs.ReplyLaws.{Replied}

@@ -8,7 +8,7 @@ use Rattle.spec_file.specs.Views.{cons_if}
 use Rattle.spec_records.specs.Blocks.{blocks, records_of}
 use Rattle.spec_records.specs.OnRecords.{precedes}
 use Rattle.spec_unfold.specs.Chains.{RuleOver}
-use Rattle.spec_unfold.specs.SortingLaws.{Ordered}
+use Rattle.spec_unfold.proofs.SortingLaws.{Ordered}
 use Rattle.spec_unfold.specs.Unfolding.{keep, has_kind, byte_rule, byte_rules}
 
 -- the records that are no rules

@@ -12,11 +12,11 @@ use Rattle.spec_records.specs.Blocks.{records_of}
 use Rattle.spec_records.specs.BlockLaws.{Wide, length-bytes, length-blocks, records-wide}
 use Rattle.spec_records.specs.OnRecords.{precedes}
 use Rattle.spec_unfold.specs.Chains.{RuleOver, chains_for, chains_in, chain, unfolded}
-use Rattle.spec_unfold.specs.ChainFacts.{length-unfolded}
+use Rattle.spec_unfold.proofs.ChainFacts.{length-unfolded}
 use Rattle.spec_unfold.specs.Moving.{narrower}
-use Rattle.spec_unfold.specs.RuleRecords.{rule-length, keep-in}
+use Rattle.spec_unfold.proofs.RuleRecords.{rule-length, keep-in}
 use Rattle.spec_unfold.specs.Sorting.{sort}
-use Rattle.spec_unfold.specs.SortingLaws.{sort-in, length-all}
+use Rattle.spec_unfold.proofs.SortingLaws.{sort-in, length-all}
 use Rattle.spec_unfold.specs.Unfolding.{has_kind, byte_rules, call_byte, first_chain, rule_bytes, chained_rules, unfolded_records, unfolded_file}
 use Rattle.call_unfold.specs.KeptLaws.{others, both-kinds}
 

@@ -18,14 +18,14 @@ use Rattle.spec_records.specs.BlockLaws.{bytes-append, length-blocks}
 use Rattle.spec_records.specs.OnRecords.{precedes}
 use Rattle.spec_records.specs.FormLaws.{SoundFile, sound}
 use Rattle.spec_unfold.specs.Chains.{RuleOver, chains_in, unfolded}
-use Rattle.spec_unfold.specs.ChainFacts.{Small, length-unfolded}
+use Rattle.spec_unfold.proofs.ChainFacts.{Small, length-unfolded}
 use Rattle.spec_unfold.specs.Moving.{narrower, narrowed}
-use Rattle.spec_unfold.specs.OrderLaws.{rising-ordered}
-use Rattle.spec_unfold.specs.RuleRecords.{rule-length}
+use Rattle.spec_unfold.proofs.OrderLaws.{rising-ordered}
+use Rattle.spec_unfold.proofs.RuleRecords.{rule-length}
 use Rattle.spec_unfold.specs.Sorting.{sort}
-use Rattle.spec_unfold.specs.SortingLaws.{sort-in, length-all}
+use Rattle.spec_unfold.proofs.SortingLaws.{sort-in, length-all}
 use Rattle.spec_unfold.specs.Unfolding.{byte_rules, call_byte, rule_bytes, chained_rules, unfolded_file, too_many}
-use Rattle.spec_unfold.specs.UnfoldingLaws.{wide, alone, small}
+use Rattle.spec_unfold.proofs.UnfoldingLaws.{wide, alone, small}
 use Rattle.file_checks.specs.BigEndian.{big_endian}
 use Rattle.file_checks.specs.BigEndianLaws.{BytesBelow}
 use Rattle.unfold_order.specs.Keys.{key, digits_of}

@@ -7,7 +7,7 @@ use native.Mathlib.Omega.{arith}
 use lib.Dec.{leb, ltb}
 use borrow.Author.Tests.{leb-false, ltb-false}
 use Rattle.spec_basics.specs.Tests.{or-neither}
-use Rattle.spec_file.specs.RefusalLaws.{number-some, number-none, neither-refuses, not-held, none-refuses}
+use Rattle.spec_file.proofs.RefusalLaws.{number-some, number-none, neither-refuses, not-held, none-refuses}
 use Rattle.spec_file.specs.Refusals as refusals
 use Rattle.spec_file.specs.Refusals.{refuse, or_next, first_of}
 use Rattle.spec_file.specs.Answers.{refusal_of}

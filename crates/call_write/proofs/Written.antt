@@ -11,8 +11,8 @@ use lib.ListN.{length, take, drop, length-map}
 use borrow.Author.Tests.{leb-true, lt-ltb, le-ltb}
 use Rattle.relation.specs.Relation.{states}
 use Rattle.spec_language.specs.Grammar.{Rule}
-use Rattle.spec_calls.specs.ReplyLaws.{reply-first}
-use Rattle.spec_file.specs.RefusalLaws.{number-none, neither-refuses, next-same, next-again, none-refuses, first-last, first-append}
+use Rattle.spec_calls.proofs.ReplyLaws.{reply-first}
+use Rattle.spec_file.proofs.RefusalLaws.{number-none, neither-refuses, next-same, next-again, none-refuses, first-last, first-append}
 use Rattle.spec_file.specs.Refusals as refusals
 use Rattle.spec_file.specs.Refusals.{refuse, by_number, or_next, first_of}
 use Rattle.spec_file.specs.Views.{rules_of, automaton_of}
@@ -28,7 +28,7 @@ use Rattle.spec_calls.specs.Checking.{check_refusals}
 use Rattle.spec_calls.specs.Replies.{answered, unless, refused}
 use Rattle.spec_file.specs.Entries.{entry_of}
 use Rattle.spec_calls.specs.Writing.{too_long, row_fault, room_fault, word_of, write_refusals, write_of, written_by, buffer_after, WordMeans}
-use Rattle.spec_calls.specs.WritingTruth.{write-means}
+use Rattle.spec_calls.proofs.WritingTruth.{write-means}
 use Rattle.call_write_fit.specs.Forms.{no_forms}
 use Rattle.call_write_fit.specs.ByValue.{last_len}
 use Rattle.call_write_fit.specs.declared.Fit.{Fit}

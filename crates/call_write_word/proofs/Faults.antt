@@ -9,18 +9,18 @@ use lib.ListN.{length, get_or}
 use borrow.Author.Tests.{ltb-true, ltb-false, leb-true, leb-false, not-false, le-leb}
 use Rattle.spec_basics.specs.Tests.{or-neither}
 use Rattle.spec_language.specs.Grammar.{Rule}
-use Rattle.spec_file.specs.RefusalLaws.{not-held}
+use Rattle.spec_file.proofs.RefusalLaws.{not-held}
 use Rattle.spec_order.specs.Algebra.{Forms}
 use Rattle.spec_order.specs.Journal.{Row, no_row, capped}
 use Rattle.spec_order.specs.Behind.{word_behind}
 use Rattle.spec_order.specs.Fitting.{all_rows_fit}
 use Rattle.spec_calls.specs.Base.{words}
-use Rattle.spec_calls.specs.BaseLaws.{word-sizes}
+use Rattle.spec_calls.proofs.BaseLaws.{word-sizes}
 use Rattle.spec_calls.specs.Writing.{long_word, too_long, row_fault, room_fault}
 use Rattle.call_write_fit.specs.Forms.{no_forms}
 use Rattle.call_write_word.specs.Parts.{older_row, Ready}
-use Rattle.spec_order.specs.FittingLaws.{FitThrough, fit-through, fit_same}
-use Rattle.spec_order.specs.BehindLaws.{len-behind}
+use Rattle.spec_order.proofs.FittingLaws.{FitThrough, fit-through, fit_same}
+use Rattle.spec_order.proofs.BehindLaws.{len-behind}
 
 -- 9 does not ask for effects
 pub row-fault-same : (M N : Forms ℕ) (rules : List Rule) (rows : List (Row ℕ)) (used i : ℕ) → row_fault M rules rows used i ≡ row_fault N rules rows used i

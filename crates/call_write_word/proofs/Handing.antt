@@ -13,13 +13,13 @@ use Rattle.spec_order.specs.Journal.{Row, no_row, capped}
 use Rattle.spec_order.specs.Behind.{symbol_word, body_word, words_of, word_behind}
 use Rattle.spec_order.specs.Fitting.{pointer_fits}
 use Rattle.spec_calls.specs.Base.{words}
-use Rattle.spec_calls.specs.BaseLaws.{word-sizes}
+use Rattle.spec_calls.proofs.BaseLaws.{word-sizes}
 use Rattle.call_write_word.specs.declared.Part.{Part}
 use Rattle.call_write_word.specs.declared.Parts.{Parts}
 use Rattle.call_write_fit.specs.Forms.{no_forms}
 use Rattle.call_write_word.specs.Parts.{nothing, older_row, part_of, body_parts, parts_of, part_word, parts_word, FitsIf, Ready}
-use Rattle.spec_order.specs.FittingLaws.{FitThrough, PointersFit, lower, body_at, fitting}
-use Rattle.spec_order.specs.BehindLaws.{behind-body, len-behind}
+use Rattle.spec_order.proofs.FittingLaws.{FitThrough, PointersFit, lower, body_at, fitting}
+use Rattle.spec_order.proofs.BehindLaws.{behind-body, len-behind}
 
 no_length : (w : List ℕ) → capped (length w) ≡ 0 → w ≡ []
 unfolding capped

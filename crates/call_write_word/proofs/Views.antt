@@ -15,7 +15,7 @@ use Rattle.spec_calls.specs.Rows.{row_of, blank}
 use Rattle.call_write_fit.specs.Forms.{no_forms}
 use Rattle.call_write_word.specs.declared.Parts.{Parts}
 use Rattle.call_write_word.specs.Parts.{nothing, body_parts, parts_of}
-use Rattle.spec_order.specs.FittingLaws.{fitting}
+use Rattle.spec_order.proofs.FittingLaws.{fitting}
 
 module _ (rules : List (List ℕ)) (r : LentRow) where
   abbrev none : Parts

@@ -15,10 +15,10 @@ use Rattle.relation.specs.Representation.{value}
 use Rattle.relation.specs.Stored.{relation_in, with_relation, relations_of}
 use Rattle.relation.specs.StoredLaws.{relations-length, relations-at, relations-past, relations-none, relations-same, relations-with}
 use Rattle.spec_language.specs.Remarks.{first_remark, last_remark, is_remark}
-use Rattle.spec_language.specs.RemarkLaws.{remark-between, between-remark, below-remarks}
+use Rattle.spec_language.proofs.RemarkLaws.{remark-between, between-remark, below-remarks}
 use Rattle.spec_language.specs.Automaton.{Transition}
 use Rattle.spec_language.specs.WordRelation.{moves, letter_relation}
-use Rattle.spec_language.specs.Paths.{letter_relation-lt, letter_relation-remark, letter_relation-step}
+use Rattle.spec_language.proofs.Paths.{letter_relation-lt, letter_relation-remark, letter_relation-step}
 use Rattle.spec_file.specs.Limits.{terminals, letter_words}
 use Rattle.file_tables.specs.Tables.{letter_table, remarks_below, with_transition}
 

@@ -10,7 +10,7 @@ use Rattle.spec_file.specs.Records.{record_count}
 use Rattle.spec_file.specs.Refusals.{Refusal, fault}
 use Rattle.spec_file.specs.Reading.{ReaderStep, gives, refuses, ended, step_from}
 use Rattle.spec_file.specs.Walk.{refusal_in}
-use Rattle.spec_file.specs.WalkLaws.{At, at_moved, at-stop}
+use Rattle.spec_file.proofs.WalkLaws.{At, at_moved, at-stop}
 use Rattle.file_reader.specs.Answers.{place_after}
 use Rattle.file_whole.specs.Given.{gives_record, rules_given, transitions_given}
 

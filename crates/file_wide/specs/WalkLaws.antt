@@ -10,7 +10,7 @@ use Rattle.spec_file.specs.Forms.{Form}
 use Rattle.spec_file.specs.Limits.{record_limit}
 use Rattle.spec_file.specs.Records.{record_count_in, kind_in, count_in, rule_kind, transition_kind}
 use Rattle.spec_file.specs.Refusals.{refuse, first_holding, length_fault_in, fault_by_in, fault_at_in, fault_from_in, or_next}
-use Rattle.spec_file.specs.RefusalLaws.{number-some}
+use Rattle.spec_file.proofs.RefusalLaws.{number-some}
 
 -- the two tests of a file's length, each a refusal where it holds
 pub length-tests : (F : Form) (bs : List ℕ) → 0 < F.torn

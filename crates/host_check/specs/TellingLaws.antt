@@ -11,15 +11,15 @@ use Rattle.spec_file.specs.Refusals.{refuse, fault, by_number}
 use Rattle.spec_file.specs.Views.{rules_of, automaton_of}
 use Rattle.spec_order.specs.Journal.{absent, Row}
 use Rattle.spec_order.specs.Order.{Answer, Verdict, broken}
-use Rattle.spec_order.specs.Truth.{SaysBy, check-says}
+use Rattle.spec_order.proofs.Truth.{SaysBy, check-says}
 use Rattle.spec_calls.specs.Codes.{refused_by}
 use Rattle.spec_calls.specs.Base.{members_of, words}
-use Rattle.spec_calls.specs.BaseLaws.{base-laws, word-sizes}
+use Rattle.spec_calls.proofs.BaseLaws.{base-laws, word-sizes}
 use Rattle.spec_calls.specs.Checking.{Settings, journal_limit, algebra_over, journal_fault, order_on, check_of, kept_by, journal_after}
-use Rattle.spec_calls.specs.Promising.{from-order}
+use Rattle.spec_calls.proofs.Promising.{from-order}
 use Rattle.spec_calls.specs.Replies.{Reply, refused, answered}
 use Rattle.spec_calls.specs.Rows.{row_of, blank, Journal}
-use Rattle.spec_calls.specs.VerdictTruth.{head_at}
+use Rattle.spec_calls.proofs.VerdictTruth.{head_at}
 use Rattle.spec_calls.specs.Writing.{row_fault, word_of, write_of, written_by, buffer_after}
 use Rattle.spec_calls.specs.declared.Options.{Options}
 use Rattle.spec_calls.specs.declared.Row.{Row as LentRow}

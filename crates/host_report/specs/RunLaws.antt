@@ -19,8 +19,8 @@ use Rattle.spec_calls.specs.Codes.{refused_by}
 use Rattle.spec_calls.specs.Base.{forms_on}
 use Rattle.spec_calls.specs.Checking.{Settings, journal_limit, check_of, shown}
 use Rattle.spec_calls.specs.Printing.{numbers_line, refused_line, line_three}
-use Rattle.spec_calls.specs.Promising.{size-journal, from-order, promises}
-use Rattle.spec_calls.specs.WritingTruth.{all_fit}
+use Rattle.spec_calls.proofs.Promising.{size-journal, from-order, promises}
+use Rattle.spec_calls.proofs.WritingTruth.{all_fit}
 use Rattle.spec_calls.specs.Replies.{Reply, answered, unless, refused}
 use Rattle.spec_calls.specs.Writing.{long_word, row_fault, room_fault, word_of, write_of, written_by, buffer_after}
 use Rattle.host_lines.specs.Lines.{run_by}

@@ -13,7 +13,7 @@ use Rattle.spec_order.specs.Order.{Answer, Verdict, holds, broken, full, spent, 
 use Rattle.spec_calls.specs.Base.{forms_on}
 use Rattle.spec_calls.specs.Checking.{Settings, journal_limit, journal_fault, check_of, kept_by, journal_after, shown}
 use Rattle.spec_calls.specs.Printing.{verdict_word, numbers_line, word_line, refused_line, line_one, line_two, line_three, broken_lines, lines_by, text_by, text_of}
-use Rattle.spec_calls.specs.Promising.{promises, broken-word, broken-writes}
+use Rattle.spec_calls.proofs.Promising.{promises, broken-word, broken-writes}
 use Rattle.spec_calls.specs.Replies.{Reply, refused, answered, unless}
 use Rattle.spec_calls.specs.Rows.{row_of, settings_of}
 use Rattle.spec_calls.specs.Writing.{word_of, write_of, buffer_after}

@@ -4,8 +4,8 @@ use Rattle.std.proofs.Common.{sym, ap, ◌∙◌, subst, append-nil, arith}
 use Rattle.spec_basics.specs.Elements.{In}
 use Rattle.spec_language.specs.Grammar.{Symbol, terminal, nonterminal, Production, symbols, Rule, production_of}
 use Rattle.spec_language.specs.Spelling.{SpellsSymbol, Spells, DerivesWithin, Derives}
-use Rattle.spec_language.specs.Agreement.{within-le, spell-mono}
-use Rattle.spec_language.specs.RuleLaws.{of-rule}
+use Rattle.spec_language.proofs.Agreement.{within-le, spell-mono}
+use Rattle.spec_language.proofs.RuleLaws.{of-rule}
 use Rattle.member_laws.specs.Sets.{DerivesBy}
 
 -- one height for all symbols

@@ -10,8 +10,8 @@ use Rattle.relation.specs.Digits.{bit}
 use Rattle.relation.specs.DigitLaws.{bit-zero, bit-power, some_at}
 use Rattle.spec_language.specs.Grammar.{Symbol, terminal, nonterminal, Body, empty, one, two, Rule, production_of}
 use Rattle.spec_language.specs.Spelling.{SpellsSymbol}
-use Rattle.spec_language.specs.Agreement.{language}
-use Rattle.spec_language.specs.RuleLaws.{by-rule}
+use Rattle.spec_language.proofs.Agreement.{language}
+use Rattle.spec_language.proofs.RuleLaws.{by-rule}
 use Rattle.spec_file.specs.Limits.{terminals, nonterminals}
 use Rattle.spec_file.specs.Views.{symbol_of, body_by, body_of}
 use Rattle.spec_file.specs.Entries.{entry_of}

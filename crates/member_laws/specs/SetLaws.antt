@@ -9,7 +9,7 @@ use Rattle.spec_basics.specs.Elements.{In}
 use Rattle.relation.specs.Digits.{bit}
 use Rattle.spec_language.specs.Grammar.{Symbol, terminal, nonterminal, Body, empty, one, two, symbols, Rule}
 use Rattle.spec_language.specs.Spelling.{SpellsSymbol, Spells}
-use Rattle.spec_language.specs.RuleLaws.{by-rule}
+use Rattle.spec_language.proofs.RuleLaws.{by-rule}
 use Rattle.member_laws.specs.Sets.{among, all_in, same, is_unit, WithinBy, DerivesBy, AllDerive, Nullable, Carries}
 use Rattle.member_laws.specs.SliceLaws.{slice_cut, slice-nil}
 use Rattle.member_laws.specs.Derivations.{by-body, spell_one, spell-two, one-spells, two-spells}

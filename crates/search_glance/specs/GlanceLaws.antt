@@ -12,7 +12,7 @@ use Rattle.spec_file.specs.Entries.{entry_of}
 use Rattle.spec_file.specs.Limits.{terminals}
 use Rattle.spec_file.specs.Views.{symbol_of}
 use Rattle.spec_order.specs.Candidates.{Candidate, bare, sole, paired}
-use Rattle.spec_order.specs.Coverage.{dropped-covered, covered-dropped}
+use Rattle.spec_order.proofs.Coverage.{dropped-covered, covered-dropped}
 use Rattle.spec_order.specs.Journal.{Row, live_of}
 use Rattle.spec_order.specs.Order.{dropped}
 use Rattle.search_rows.specs.Forming.{formed_in}

@@ -7,7 +7,7 @@ use Rattle.relation.specs.Digits.{bit}
 use Rattle.spec_file.specs.Limits.{nonterminals}
 use Rattle.spec_file.specs.Views.{cons_if}
 use Rattle.spec_calls.specs.Base.{members_below, members_of, is_one_of}
-use Rattle.spec_calls.specs.MemberLaws.{is_member}
+use Rattle.spec_calls.proofs.MemberLaws.{is_member}
 use Rattle.search_links.specs.Covers.{is_linked}
 use Rattle.search_laws.specs.States.{each_linked}
 

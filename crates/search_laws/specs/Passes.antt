@@ -9,7 +9,7 @@ use Rattle.spec_basics.specs.Lists.{drop-later-same}
 use Rattle.spec_order.specs.Algebra.{Laws}
 use Rattle.spec_order.specs.Order as order
 use Rattle.spec_order.specs.Order.{close, pass_limit, one_pass, passes, check}
-use Rattle.spec_order.specs.Repeating.{Repeats, repeated-dropped}
+use Rattle.spec_order.proofs.Repeating.{Repeats, repeated-dropped}
 use Rattle.spec_calls.specs.Checking.{journal_limit}
 use Rattle.search_links.specs.Rows.{KeptBeyond, rows_read}
 use Rattle.search_laws.specs.Meanings.{progress_of, counts_in, in_next_pass, totals_in}

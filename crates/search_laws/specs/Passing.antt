@@ -12,12 +12,12 @@ use Rattle.spec_basics.specs.Tests.{and-fst, and-snd}
 use Rattle.spec_language.specs.Grammar.{Symbol, terminal, nonterminal, Body, empty, one, two}
 use Rattle.spec_order.specs.Algebra.{Laws}
 use Rattle.spec_order.specs.Candidates.{Choice, Candidate, sole, paired, bare}
-use Rattle.spec_order.specs.Coverage.{dropped-added}
+use Rattle.spec_order.proofs.Coverage.{dropped-added}
 use Rattle.spec_order.specs.Journal.{Row, absent}
 use Rattle.spec_order.specs.Order as order
 use Rattle.spec_order.specs.Order.{Progress, Verdict, going, and_then, dropped, walk, retire, born, added}
-use Rattle.spec_order.specs.Repeating.{PointsBelow, Repeats, pass-points}
-use Rattle.spec_order.specs.Walking.{Post, step-post}
+use Rattle.spec_order.proofs.Repeating.{PointsBelow, Repeats, pass-points}
+use Rattle.spec_order.proofs.Walking.{Post, step-post}
 use Rattle.spec_calls.specs.Checking.{journal_limit}
 use Rattle.search_state.specs.Forming.{Part, none, some, left_part, right_part, entry_at, Composing, row_choice, symbol_choice, part_choice, joined, combined}
 use Rattle.search_state.specs.declared.Place.{Place}

@@ -11,11 +11,11 @@ use Rattle.relation.specs.Representation.{value}
 use Rattle.relation.specs.Stored.{relation_in}
 use Rattle.spec_file.specs.Limits.{letter_words}
 use Rattle.spec_order.specs.Algebra.{Algebra, Laws}
-use Rattle.spec_order.specs.Coverage.{Covered, covered-dropped, added-covered, dropped-added}
+use Rattle.spec_order.proofs.Coverage.{Covered, covered-dropped, added-covered, dropped-added}
 use Rattle.spec_order.specs.Journal.{Row}
 use Rattle.spec_order.specs.Order.{dropped, added}
 use Rattle.spec_calls.specs.Base.{members_of}
-use Rattle.spec_calls.specs.BaseLaws.{base-by-laws}
+use Rattle.spec_calls.proofs.BaseLaws.{base-by-laws}
 use Rattle.spec_calls.specs.Rows.{row_of, blank, Journal}
 use Rattle.search_rows.specs.Forming.{formed_in}
 use Rattle.search_rows.specs.Meanings.{candidate_of}

@@ -10,7 +10,7 @@ use Rattle.search_state.specs.declared.Place.{Place}
 use Rattle.search_state.specs.Layout.{row_cells, lists_in}
 use Rattle.spec_basics.specs.Lists.{each_same}
 use Rattle.spec_calls.specs.Base.{members_of}
-use Rattle.spec_calls.specs.MemberLaws.{member-bit}
+use Rattle.spec_calls.proofs.MemberLaws.{member-bit}
 use Rattle.search_order.specs.Lists.{live_numbers, Listed}
 use Rattle.search_order.specs.Places as places
 use Rattle.search_order.specs.PlacesLeft.{PassFrom}

@@ -5,7 +5,7 @@ use Rattle.spec_basics.specs.Elements.{In, each}
 use Rattle.spec_order.specs.Candidates.{Candidate, pass_candidates}
 use Rattle.spec_order.specs.Journal.{Row}
 use Rattle.spec_order.specs.Order.{Progress, Outcome, dropped, consider, walk, has_row}
-use Rattle.spec_order.specs.Repeating.{Repeats}
+use Rattle.spec_order.proofs.Repeating.{Repeats}
 use Rattle.search_state.specs.declared.Place.{Place}
 use Rattle.search_order.specs.Candidates.{candidate_at}
 use Rattle.search_state.specs.declared.Counts.{Counts}

@@ -5,13 +5,5 @@ pub mod Refusals
 pub mod Reading
 pub mod Views
 pub mod Answers
-pub mod RefusalLaws
-pub mod Valid
 pub mod Entries
 pub mod Walk
-pub mod WalkLaws
-pub mod Rising
-pub mod Sorted
-pub mod EntryLaws
-pub mod StretchLaws
-pub mod Ranges

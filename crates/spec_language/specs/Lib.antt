@@ -1,12 +1,6 @@
 pub mod Grammar
 pub mod Rewriting
-pub mod RewritingLaws
 pub mod Spelling
-pub mod Agreement
-pub mod RuleLaws
 pub mod Remarks
-pub mod RemarkLaws
 pub mod Automaton
 pub mod WordRelation
-pub mod Paths
-pub mod Striking

@@ -19,7 +19,7 @@ use Rattle.spec_file.specs.Limits.{terminals, nonterminals, symbol_bytes}
 use Rattle.spec_file.specs.Forms.{Form, eight, sixteen}
 use Rattle.spec_file.specs.Records.{byte, bytes_after, record_count_in, record_in, count_in, rule_kind, transition_kind, final_kind}
 use Rattle.spec_file.specs.Refusals.{Refusal, refuse, or_next, kind_known, high_symbol, stray_symbol, some_byte, rises_from, on_remark, over_limit, above_range_in, stray_byte_in, exceeds_in, fault_by_in, fault_at_in, length_fault_in, fault_from_in, fault_in}
-use Rattle.spec_file.specs.RefusalLaws.{test-next}
+use Rattle.spec_file.proofs.RefusalLaws.{test-next}
 use Rattle.spec_records.specs.Blocks.{blocks, records_of}
 use Rattle.spec_records.specs.OnRecords.{used_bytes, high_byte, unused_byte, precedes, follows, fault_of, fault_among, fault_on_records}
 

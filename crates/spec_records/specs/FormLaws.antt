@@ -13,7 +13,7 @@ use Rattle.spec_file.specs.Limits.{record_limit, rule_limit, transition_limit}
 use Rattle.spec_file.specs.Forms.{Form}
 use Rattle.spec_file.specs.Records.{byte, rule_kind, transition_kind}
 use Rattle.spec_file.specs.Refusals.{Refusal, refuse, kind_known, on_remark, over_limit, first_holding, length_tests_in, fault_in}
-use Rattle.spec_file.specs.RefusalLaws.{neither-refuses, none-holds}
+use Rattle.spec_file.proofs.RefusalLaws.{neither-refuses, none-holds}
 use Rattle.spec_records.specs.Blocks.{bytes_of, records_of}
 use Rattle.spec_records.specs.BlockLaws.{Wide, length-bytes, records-bytes}
 use Rattle.spec_records.specs.OnRecords.{high_byte, unused_byte, follows, tests_on, fault_of, of_kind, fault_among, fault_on_records}

@@ -8,8 +8,8 @@ use borrow.Author.Tests.{eq-eqb}
 use Rattle.spec_file.specs.Reading.{stretch}
 use Rattle.spec_file.specs.Records.{record_count}
 use Rattle.spec_file.specs.Refusals.{Refusal, fault}
-use Rattle.spec_file.specs.Sorted.{counts-le}
-use Rattle.spec_file.specs.StretchLaws.{stretch-refused}
+use Rattle.spec_file.proofs.Sorted.{counts-le}
+use Rattle.spec_file.proofs.StretchLaws.{stretch-refused}
 use Rattle.bolfrega.proofs.bolfrega_moves.Statement.{statement}
 use Rattle.bolfrega.proofs.bolfrega_moves.Tie as tie
 

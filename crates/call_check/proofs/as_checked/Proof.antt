@@ -1,7 +1,7 @@
 -- By the refusal's number. Assumes nothing.
 use mathlib.Core.Path.{sym, ap, ◌∙◌}
 use borrow.Author.Rules.{rules}
-use Rattle.spec_file.specs.RefusalLaws.{number-some, number-none}
+use Rattle.spec_file.proofs.RefusalLaws.{number-some, number-none}
 use Rattle.call_check.specs.declared.Checked.TheVariants.{Answered}
 use Rattle.call_check.proofs.as_checked.Statement.{statement}
 use Rattle.call_check.proofs.as_checked.Tie as tie

@@ -1,7 +1,7 @@
 -- The tables are right, so what is written by them is the list. Assumes nothing.
 use mathlib.Core.Path.{◌∙◌}
 use borrow.Author.Rules.{rules}
-use Rattle.spec_file.specs.Valid.{valid}
+use Rattle.spec_file.proofs.Valid.{valid}
 use Rattle.call_gaps.specs.SheetLaws.{sheet-bytes}
 use Rattle.call_gaps.specs.LineLaws.{list-into}
 use Rattle.call_gaps.proofs.fill.Statement.{statement}

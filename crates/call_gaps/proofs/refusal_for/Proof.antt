@@ -2,7 +2,7 @@
 use mathlib.Core.Path.{sym, ap, ◌∙◌}
 use borrow.Author.Rules.{rules}
 use Rattle.spec_file.specs.Answers.{refusal_of}
-use Rattle.spec_file.specs.RefusalLaws.{said_or, first-last}
+use Rattle.spec_file.proofs.RefusalLaws.{said_or, first-last}
 use Rattle.spec_calls.specs.Listing.{list_fault}
 use Rattle.call_gaps.proofs.refusal_for.Statement.{statement}
 use Rattle.call_gaps.proofs.refusal_for.Tie as tie

@@ -3,7 +3,7 @@ use mathlib.Core.Path.{sym, ap, ◌∙◌}
 use Prim.Native.Nat.{ℕ}
 use borrow.Author.Rules.{rules}
 use Rattle.spec_file.specs.Refusals.{refuse}
-use Rattle.spec_file.specs.RefusalLaws.{said_or, first-last}
+use Rattle.spec_file.proofs.RefusalLaws.{said_or, first-last}
 use Rattle.call_judge.proofs.refusal_for.Statement.{statement}
 use Rattle.call_judge.proofs.refusal_for.Tie as tie
 

@@ -4,7 +4,7 @@ use mathlib.Core.List.{[], ◌∷◌}
 use borrow.Author.Rules.{rules}
 use Rattle.spec_file.specs.Answers.{refusal_of}
 use Rattle.spec_file.specs.Refusals.{refuse}
-use Rattle.spec_file.specs.RefusalLaws.{said_or, first-last, first-append}
+use Rattle.spec_file.proofs.RefusalLaws.{said_or, first-last, first-append}
 use Rattle.spec_calls.specs.Judging.{judge_refusals}
 use Rattle.spec_calls.specs.Recognizing.{run_fault, table_fault}
 use Rattle.call_member.proofs.refusal_for.Statement.{statement}

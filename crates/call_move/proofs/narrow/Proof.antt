@@ -13,14 +13,14 @@ use Rattle.call_move.specs.ReplyLaws.{replied-refused, replied-done}
 use Rattle.call_move.proofs.narrow.Statement.{statement}
 use Rattle.call_move.proofs.narrow.Tie as tie
 
-returns : tie.Need-returns
+returns : tie.Need-returns-then-refusal-ne0
 returns c =
-    let found = c.before.before.narrow-refusal in
+    let found = c.before.before.narrow_refusal-refusal in
     let a = c.before.before.before.before.before.args in
-    narrows a.file.now a.out.now _ _ (replied-refused (narrow_refusals a.file.now (length a.out.now)) (narrowed a.file.now) a.out.now found.result found.ensures c.if1.true)
+    narrows a.file.now a.out.now _ _ (replied-refused (narrow_refusals a.file.now (length a.out.now)) (narrowed a.file.now) a.out.now found.result found.ensures c.if-refusal-ne0.true)
 
 -- where nothing refuses the call
-module _ (passes : tie.Else1) where
+module _ (passes : tie.Else-refusal-ne0) where
   abbrev file : List ℕ
   file = passes.before.before.before.before.before.args.file.now
 
@@ -28,18 +28,18 @@ module _ (passes : tie.Else1) where
   old = passes.before.before.before.before.before.args.out.now
 
   none : (first_of (narrow_refusals file (length old))).number ≡ 0
-  none = sym (ap (λ (x : Refusal). x.number) passes.before.before.narrow-refusal.ensures) ∙ passes.if1.left
+  none = sym (ap (λ (x : Refusal). x.number) passes.before.before.narrow_refusal-refusal.ensures) ∙ passes.if-refusal-ne0.false
 
-put-narrower-requires : tie.Need-put-narrower-requires
+put-narrower-requires : tie.Need-put_narrower-requires
 put-narrower-requires c κs = narrow-passed (file c.before) (length (old c.before)) (none c.before)
 
-returns-2 : tie.Need-returns-2
+returns-2 : tie.Need-returns
 returns-2 c =
     let p = c.before.before.before.before in
-    narrows (file p) (old p) _ _ (replied-done (narrow_refusals (file p) (length (old p))) (narrowed (file p)) (old p) _ _ (none p) (sym (narrowed-length (file p))) c.before.before.put-narrower.ensures)
+    narrows (file p) (old p) _ _ (replied-done (narrow_refusals (file p) (length (old p))) (narrowed (file p)) (old p) _ _ (none p) (sym (narrowed-length (file p))) c.before.before.put_narrower.ensures)
 
-pub narrow-spec : {M : Type 1} → statement M
-narrow-spec =
+pub narrow_spec : {M : Type 1} → statement M
+narrow_spec =
     tie.close
     (tie.spec
     (λ c κs. search rules)

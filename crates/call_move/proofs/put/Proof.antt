@@ -11,21 +11,21 @@ use borrow.Author.Rules.{rules}
 use Rattle.call_move.proofs.put.Statement.{statement}
 use Rattle.call_move.proofs.put.Tie as tie
 
-abbrev invariant-loop : tie.invariant-loop
-invariant-loop out₀ at part j₀ out j = (j ≤ length part) × ((length out ≡ length out₀) × (out ≡ paste out₀ at part j))
+abbrev invariant-loop-j : tie.invariant-loop-j
+invariant-loop-j out₀ at part j₀ out j = (j ≤ length part) × ((length out ≡ length out₀) × (out ≡ paste out₀ at part j))
 
-abbrev decreases-loop : tie.decreases-loop
-decreases-loop out₀ at part j₀ out j = length part - j
+abbrev decreases-loop-j : tie.decreases-loop-j
+decreases-loop-j out₀ at part j₀ out j = length part - j
 
-loop-holds : tie.Need-loop-init invariant-loop decreases-loop
+loop-holds : tie.Need-loop-j-init invariant-loop-j decreases-loop-j
 loop-holds c = (omega arith, (refl, paste-zero c.args.out.now c.args.at c.args.part.now))
 
-slice-write-out : tie.Need-slice-write-out invariant-loop decreases-loop
-slice-write-out c = omega (arith, c.before.before.loop.invariant.1.0)
+slice-write-out : tie.Need-bounds-out-at invariant-loop-j decreases-loop-j
+slice-write-out c = omega (arith, c.before.before.loop-j.invariant.1.0)
 
-loop-again : tie.Need-loop-preserved invariant-loop decreases-loop
+loop-again : tie.Need-loop-j-preserved invariant-loop-j decreases-loop-j
 loop-again c = let a = c.before.before.before.args in
-    let l = c.before.before.loop in (
+    let l = c.before.before.loop-j in (
       omega arith,
       (
         simp length-set l.invariant.1.0,
@@ -34,18 +34,18 @@ loop-again c = let a = c.before.before.before.args in
       ),
     )
 
-same_length : tie.Need-same-length invariant-loop decreases-loop
-same_length c = c.before.loop.invariant.1.0
+same_length : tie.Need-shape_of-out invariant-loop-j decreases-loop-j
+same_length c = c.before.loop-j.invariant.1.0
 
-returns : tie.Need-returns invariant-loop decreases-loop
-returns c = let e : c.before.loop.j ≡ length c.before.before.args.part.now = omega arith in rw e at c.before.loop.invariant.1.1
+returns : tie.Need-returns invariant-loop-j decreases-loop-j
+returns c = let e : c.before.loop-j.j ≡ length c.before.before.args.part.now = omega arith in rw e at c.before.loop-j.invariant.1.1
 
 pub put_spec : {M : Type 1} → statement M
 put_spec =
     tie.close
     (tie.spec
-    invariant-loop
-    decreases-loop
+    invariant-loop-j
+    decreases-loop-j
     loop-holds
     (λ c. search rules)
     (λ c. search rules)

@@ -12,35 +12,35 @@ use Rattle.call_move.specs.Fronts.{over}
 use Rattle.call_move.proofs.put_narrower.Statement.{statement}
 use Rattle.call_move.proofs.put_narrower.Tie as tie
 
-abbrev invariant-loop : tie.invariant-loop
-invariant-loop file out₀ n i₀ out i = (i ≤ length file / 16) × ((length out ≡ length out₀) × (out ≡ over (moved 16 8 narrower file i) out₀))
+abbrev invariant-loop-i : tie.invariant-loop-i
+invariant-loop-i file out₀ n i₀ out i = (i ≤ length file / 16) × ((length out ≡ length out₀) × (out ≡ over (moved 16 8 narrower file i) out₀))
 
-abbrev decreases-loop : tie.decreases-loop
-decreases-loop file out₀ n i₀ out i = length file / 16 - i
+abbrev decreases-loop-i : tie.decreases-loop-i
+decreases-loop-i file out₀ n i₀ out i = length file / 16 - i
 
-loop-holds : tie.Need-loop-init invariant-loop decreases-loop
+loop-holds : tie.Need-loop-i-init invariant-loop-i decreases-loop-i
 loop-holds c = (omega arith, (refl, sym (ap (λ (p : List ℕ). over p c.before.before.args.out.now) (moved_none 16 8 narrower c.before.before.args.file.now))))
 
-loop-again : tie.Need-loop-preserved invariant-loop decreases-loop
+loop-again : tie.Need-loop-i-preserved invariant-loop-i decreases-loop-i
 loop-again c = let a = c.before.before.before.before.before.before.before.before.before.args in
-    let l = c.before.before.before.before.before.before.loop in
+    let l = c.before.before.before.before.before.before.loop-i in
     let s = c.before.before.put.ensures ∙ narrower-step a.file.now a.out.now l.out l.i (omega arith) l.invariant.1.1 in
     (omega arith, (ap length s ∙ narrower_fits a.file.now a.out.now (l.i + 1) (omega arith) (omega arith), s))
 
-same_length : tie.Need-same-length invariant-loop decreases-loop
-same_length c = c.before.loop.invariant.1.0
+same_length : tie.Need-shape_of-out invariant-loop-i decreases-loop-i
+same_length c = c.before.loop-i.invariant.1.0
 
-returns : tie.Need-returns invariant-loop decreases-loop
+returns : tie.Need-returns invariant-loop-i decreases-loop-i
 unfolding narrowed
 returns c = let a = c.before.before.before.before.args in
-    c.before.loop.invariant.1.1 ∙ ap (λ (p : List ℕ). over p a.out.now) (moved_all 16 8 narrower a.file.now c.before.loop.i (omega arith))
+    c.before.loop-i.invariant.1.1 ∙ ap (λ (p : List ℕ). over p a.out.now) (moved_all 16 8 narrower a.file.now c.before.loop-i.i (omega arith))
 
-pub put-narrower-spec : {M : Type 1} → statement M
-put-narrower-spec =
+pub put_narrower_spec : {M : Type 1} → statement M
+put_narrower_spec =
     tie.close
     (tie.spec
-    invariant-loop
-    decreases-loop
+    invariant-loop-i
+    decreases-loop-i
     loop-holds
     (λ c. search rules)
     (λ c. search rules)

@@ -13,39 +13,39 @@ use Rattle.call_move.specs.Fronts.{over}
 use Rattle.call_move.proofs.put_wider.Statement.{statement}
 use Rattle.call_move.proofs.put_wider.Tie as tie
 
-abbrev invariant-loop : tie.invariant-loop
-invariant-loop file out₀ zeros n i₀ out i = (i ≤ length file / 8) × ((length out ≡ length out₀) × (out ≡ over (moved 8 16 wider file i) out₀))
+abbrev invariant-loop-i : tie.invariant-loop-i
+invariant-loop-i file out₀ zeros n i₀ out i = (i ≤ length file / 8) × ((length out ≡ length out₀) × (out ≡ over (moved 8 16 wider file i) out₀))
 
-abbrev decreases-loop : tie.decreases-loop
-decreases-loop file out₀ zeros n i₀ out i = length file / 8 - i
+abbrev decreases-loop-i : tie.decreases-loop-i
+decreases-loop-i file out₀ zeros n i₀ out i = length file / 8 - i
 
-loop-holds : tie.Need-loop-init invariant-loop decreases-loop
+loop-holds : tie.Need-loop-i-init invariant-loop-i decreases-loop-i
 loop-holds c = (omega arith, (refl, sym (ap (λ (p : List ℕ). over p c.before.before.args.out.now) (moved_none 8 16 wider c.before.before.args.file.now))))
 
 -- the zeros end where the record does, which is within the output
-put-requires-2 : tie.Need-put-requires-2 invariant-loop decreases-loop
+put-requires-2 : tie.Need-put-requires-in-loop-i invariant-loop-i decreases-loop-i
 put-requires-2 c κs = search rules
 
-loop-again : tie.Need-loop-preserved invariant-loop decreases-loop
+loop-again : tie.Need-loop-i-preserved invariant-loop-i decreases-loop-i
 loop-again c = let a = c.before.before.before.before.before.before.before.before.before.before.before.before.before.before.args in
-    let l = c.before.before.before.before.before.before.before.before.before.before.before.loop in
-    let s = c.before.before.put2.ensures ∙ ap (λ (d : List ℕ). paste d (l.i * 16 + 8) (replicate 8 0) 8) c.before.before.before.before.before.before.before.put.ensures ∙ wider-step a.file.now a.out.now l.out l.i (omega arith) l.invariant.1.1 in
+    let l = c.before.before.before.before.before.before.before.before.before.before.before.loop-i in
+    let s = c.before.before.put-in-loop-i.ensures ∙ ap (λ (d : List ℕ). paste d (l.i * 16 + 8) (replicate 8 0) 8) c.before.before.before.before.before.before.before.put.ensures ∙ wider-step a.file.now a.out.now l.out l.i (omega arith) l.invariant.1.1 in
     (omega arith, (ap length s ∙ wider-fits a.file.now a.out.now (l.i + 1) (omega arith) (omega arith), s))
 
-same_length : tie.Need-same-length invariant-loop decreases-loop
-same_length c = c.before.loop.invariant.1.0
+same_length : tie.Need-shape_of-out invariant-loop-i decreases-loop-i
+same_length c = c.before.loop-i.invariant.1.0
 
-returns : tie.Need-returns invariant-loop decreases-loop
+returns : tie.Need-returns invariant-loop-i decreases-loop-i
 unfolding widened
 returns c = let a = c.before.before.before.before.args in
-    c.before.loop.invariant.1.1 ∙ ap (λ (p : List ℕ). over p a.out.now) (moved_all 8 16 wider a.file.now c.before.loop.i (omega arith))
+    c.before.loop-i.invariant.1.1 ∙ ap (λ (p : List ℕ). over p a.out.now) (moved_all 8 16 wider a.file.now c.before.loop-i.i (omega arith))
 
-pub put-wider-spec : {M : Type 1} → statement M
-put-wider-spec =
+pub put_wider_spec : {M : Type 1} → statement M
+put_wider_spec =
     tie.close
     (tie.spec
-    invariant-loop
-    decreases-loop
+    invariant-loop-i
+    decreases-loop-i
     loop-holds
     (λ c. search rules)
     (λ c. search rules)

@@ -2,7 +2,7 @@
 use mathlib.Core.Path.{ap, ◌∙◌}
 use borrow.Author.Rules.{rules}
 use Rattle.spec_file.specs.Answers.{refusal_of}
-use Rattle.spec_file.specs.RefusalLaws.{said_or}
+use Rattle.spec_file.proofs.RefusalLaws.{said_or}
 use Rattle.spec_unfold.specs.Moving.{widened}
 use Rattle.call_move.specs.CallLaws.{room-test}
 use Rattle.call_move.specs.FrontLaws.{widened-length}
@@ -12,11 +12,11 @@ use Rattle.call_move.proofs.widen_refusal.Tie as tie
 returns : tie.Need-returns
 returns c =
     let a = c.before.before.before.before.args in
-    said_or _ _ _ c.or.ensures c.before.before.file-refusal.ensures
-    (ap refusal_of c.before.when.ensures ∙ room-test (widened a.file.now) a.room _ (widened-length a.file.now))
+    said_or _ _ _ c.or.ensures c.before.before.file_refusal-of_file.ensures
+    (ap refusal_of c.before.when-of_room.ensures ∙ room-test (widened a.file.now) a.room _ (widened-length a.file.now))
 
-pub widen-refusal-spec : {M : Type 1} → statement M
-widen-refusal-spec =
+pub widen_refusal_spec : {M : Type 1} → statement M
+widen_refusal_spec =
     tie.close
     (tie.spec
     (λ c κs. search rules)

@@ -13,34 +13,34 @@ use Rattle.unfold_order.specs.Keys.{digits_of}
 use Rattle.call_unfold.proofs.put_rules.Statement.{statement}
 use Rattle.call_unfold.proofs.put_rules.Tie as tie
 
-abbrev invariant-loop : tie.invariant-loop
-invariant-loop keys count out₀ i₀ out i = (i ≤ count) × ((length out ≡ length out₀) × (out ≡ over (bytes_of (map (digits_of 256 8) (take i keys))) out₀))
+abbrev invariant-loop-i : tie.invariant-loop-i
+invariant-loop-i keys count out₀ i₀ out i = (i ≤ count) × ((length out ≡ length out₀) × (out ≡ over (bytes_of (map (digits_of 256 8) (take i keys))) out₀))
 
-abbrev decreases-loop : tie.decreases-loop
-decreases-loop keys count out₀ i₀ out i = count - i
+abbrev decreases-loop-i : tie.decreases-loop-i
+decreases-loop-i keys count out₀ i₀ out i = count - i
 
-loop-holds : tie.Need-loop-init invariant-loop decreases-loop
+loop-holds : tie.Need-loop-i-init invariant-loop-i decreases-loop-i
 loop-holds c = (omega arith, (refl, refl))
 
-loop-again : tie.Need-loop-preserved invariant-loop decreases-loop
+loop-again : tie.Need-loop-i-preserved invariant-loop-i decreases-loop-i
 loop-again c = let s = c.before.before.before.before.before.before.before.before.before.before in
     let a = s.args in
-    let l = c.before.before.before.before.before.before.before.before.loop in
-    let e = c.before.before.put.ensures ∙ put-turn a.keys.now a.out.now l.out l.i (omega (arith, s.requires.0, s.requires.2)) _ c.before.before.before.before.before.record_of.ensures l.invariant.1.1 in
+    let l = c.before.before.before.before.before.before.before.before.loop-i in
+    let e = c.before.before.put.ensures ∙ put-turn a.keys.now a.out.now l.out l.i (omega (arith, s.requires.0, s.requires.2)) _ c.before.before.before.before.before.record_of-r.ensures l.invariant.1.1 in
     (omega arith, (ap length e ∙ put-fits a.keys.now a.out.now (l.i + 1) (omega (arith, s.requires.0, s.requires.2)) (omega (arith, s.requires.1)), e))
 
-same_length : tie.Need-same-length invariant-loop decreases-loop
-same_length c = c.before.loop.invariant.1.0
+same_length : tie.Need-shape_of-out invariant-loop-i decreases-loop-i
+same_length c = c.before.loop-i.invariant.1.0
 
-returns : tie.Need-returns invariant-loop decreases-loop
-returns c = let e : c.before.loop.i ≡ c.before.before.before.args.count = omega arith in rw e at c.before.loop.invariant.1.1
+returns : tie.Need-returns invariant-loop-i decreases-loop-i
+returns c = let e : c.before.loop-i.i ≡ c.before.before.before.args.count = omega arith in rw e at c.before.loop-i.invariant.1.1
 
-pub put-rules-spec : {M : Type 1} → statement M
-put-rules-spec =
+pub put_rules_spec : {M : Type 1} → statement M
+put_rules_spec =
     tie.close
     (tie.spec
-    invariant-loop
-    decreases-loop
+    invariant-loop-i
+    decreases-loop-i
     loop-holds
     (λ c. search rules)
     (λ c. search rules)

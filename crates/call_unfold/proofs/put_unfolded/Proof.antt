@@ -22,17 +22,17 @@ returns c =
     let file = s.args.file.now in
     let old = s.args.out.now in
     let first = s.args.first in
-    let k = to-keys.add-rules.ensures in
-    let at = to-keys.add-rules.result * 8 in
+    let k = to-keys.add_rules-count.ensures in
+    let at = to-keys.add_rules-count.result * 8 in
     let keys = keys_from first file in
-    let e = to-rules.put-rules.ensures ∙ ap (λ (l : List ℕ). over (written l) old) k.2 in
+    let e = to-rules.put_rules.ensures ∙ ap (λ (l : List ℕ). over (written l) old) k.2 in
     let n : length (written keys) ≡ at = digits-length keys ∙ ap (λ (m : ℕ). m * 8) (keys_length first (rules_in file) ∙ sym k.0) in
-    let out = to-rules.put-rules.new.1.1.0 in
+    let out = to-rules.put_rules.new.out in
     put_both (written keys) (narrowed (drop (s.args.rules * 16) file)) old out _ at n (omega (arith, s.requires.room-enough, s.requires.inside, s.requires.counted, k.0)) e
-    (c.before.before.put-narrower.ensures ∙ ap (λ (l : List ℕ). over (narrowed l) (take (length out - at) (drop at out))) (tail-part file (s.args.rules * 16)))
+    (c.before.before.put_narrower.ensures ∙ ap (λ (l : List ℕ). over (narrowed l) (take (length out - at) (drop at out))) (tail-part file (s.args.rules * 16)))
 
-pub put-unfolded-spec : {M : Type 1} → statement M
-put-unfolded-spec =
+pub put_unfolded_spec : {M : Type 1} → statement M
+put_unfolded_spec =
     tie.close
     (tie.spec
     (λ c κs. search rules)

@@ -6,7 +6,7 @@ use lib.Dec.{ltb}
 use borrow.Author.Rules.{rules}
 use Rattle.spec_file.specs.Answers.{refusal_of}
 use Rattle.spec_file.specs.Refusals.{refuse}
-use Rattle.spec_file.specs.RefusalLaws.{said_or, first-last}
+use Rattle.spec_file.proofs.RefusalLaws.{said_or, first-last}
 use Rattle.unfold_count.specs.declared.Needed.{Needed}
 use Rattle.call_unfold.specs.Results.{needs_more, needed_bytes}
 use Rattle.call_unfold.proofs.refusal_for.Statement.{statement}
@@ -14,7 +14,7 @@ use Rattle.call_unfold.proofs.refusal_for.Tie as tie
 
 -- the two refusals, at the end
 module _ (c : tie.After-or) where
-  abbrev to-size : tie.After-result-bytes
+  abbrev to-size : tie.After-result_bytes
   to-size = c.before.before
 
   abbrev t : Needed
@@ -26,17 +26,17 @@ module _ (c : tie.After-or) where
   abbrev short : ℕ
   short = cond (ltb to-size.before.before.before.before.args.room (needed_bytes t to-size.before.before.before.before.args.records)) 10 0
 
-  of-chains : refusal_of to-size.before.when.result ≡ refuse more 0
-  of-chains = ap refusal_of to-size.before.when.ensures
+  of-chains : refusal_of to-size.before.when-of_chains.result ≡ refuse more 0
+  of-chains = ap refusal_of to-size.before.when-of_chains.ensures
 
-  of_room : refusal_of c.before.when2.result ≡ refuse short 0
-  of_room = ap refusal_of c.before.when2.ensures ∙ ap (λ (n : ℕ). refuse (cond (ltb to-size.before.before.before.before.args.room n) 10 0) 0) to-size.result-bytes.ensures
+  of_room : refusal_of c.before.when-of_room.result ≡ refuse short 0
+  of_room = ap refusal_of c.before.when-of_room.ensures ∙ ap (λ (n : ℕ). refuse (cond (ltb to-size.before.before.before.before.args.room n) 10 0) 0) to-size.result_bytes.ensures
 
 returns : tie.Need-returns
 returns c = said_or _ _ _ c.or.ensures (of-chains c) (of_room c ∙ sym (first-last (short c)))
 
-pub refusal-for-spec : {M : Type 1} → statement M
-refusal-for-spec =
+pub refusal_for_spec : {M : Type 1} → statement M
+refusal_for_spec =
     tie.close
     (tie.spec
     (λ c. search rules)

@@ -5,7 +5,7 @@ use Rattle.call_unfold.proofs.unfold.Statement.{statement}
 use Rattle.call_unfold.proofs.unfold.Tie as tie
 
 returns : tie.Need-returns
-returns c = unfolds-at c.before.before.before.before.least-for.ensures.0 c.before.before.unfold-from.ensures
+returns c = unfolds-at c.before.before.before.before.least_for-least.ensures.0 c.before.before.unfold_from.ensures
 
-pub unfold-spec : {M : Type 1} → statement M
-unfold-spec = tie.close (tie.spec (λ c κs. search rules) (λ c κs. search rules) (λ c. search rules) returns)
+pub unfold_spec : {M : Type 1} → statement M
+unfold_spec = tie.close (tie.spec (λ c κs. search rules) (λ c κs. search rules) (λ c. search rules) returns)

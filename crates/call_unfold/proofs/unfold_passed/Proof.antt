@@ -17,7 +17,7 @@ use Rattle.call_unfold.proofs.unfold_passed.Statement.{statement}
 use Rattle.call_unfold.proofs.unfold_passed.Tie as tie
 
 -- where the records are counted
-module _ (at : tie.After-count-file) where
+module _ (at : tie.After-count_file-t) where
   abbrev file : List ℕ
   file = at.before.before.before.args.file.now
 
@@ -28,60 +28,60 @@ module _ (at : tie.After-count-file) where
   least = at.before.before.before.args.least
 
   abbrev t : Needed
-  t = at.count-file.result
+  t = at.count_file-t.result
 
   bounded : Bounded t (length file / 16)
   bounded =
-      let p = at.before.before.before.pre in
-      let e = at.count-file.ensures in
+      let p = at.before.before.before.requires in
+      let e = at.count_file-t.ensures in
       counts-bounded least file t e.0 p.0 p.1 e.1 e.2
 
-refusal-for-requires : tie.Need-refusal-for-requires
+refusal-for-requires : tie.Need-refusal_for-refusal-requires
 refusal-for-requires c κs = bounded c
 
 -- and the refusal by the counts is looked for
-module _ (at : tie.After-refusal-for) where
+module _ (at : tie.After-refusal_for-refusal) where
   abbrev refusals : List Refusal
   refusals = unfold_refusals (least at.before) (file at.before) (length (old at.before))
 
-  first : refusal_of at.refusal-for.result ≡ first_of refusals
+  first : refusal_of at.refusal_for-refusal.result ≡ first_of refusals
   first =
-      let p = at.before.before.before.before.pre in
-      at.refusal-for.ensures ∙ refusals-are (least at.before) (file at.before) (t at.before) at.before.count-file.ensures.0 p.0 (length (old at.before))
+      let p = at.before.before.before.before.requires in
+      at.refusal_for-refusal.ensures ∙ refusals-are (least at.before) (file at.before) (t at.before) at.before.count_file-t.ensures.0 p.0 (length (old at.before))
 
-returns : tie.Need-returns
+returns : tie.Need-returns-then-refusal-ne0
 returns c =
     let at = c.before.before in
     let file = file at.before in
     let old = old at.before in
     let least = least at.before in
-    unfolds least file old old _ (replied-refused (refusals at) (unfolded_file least file) old at.refusal-for.result (first at) c.if1.true)
+    unfolds least file old old _ (replied-refused (refusals at) (unfolded_file least file) old at.refusal_for-refusal.result (first at) c.if-refusal-ne0.true)
 
 -- where nothing refuses the call
-none : (passes : tie.Else1) → (first_of (refusals passes.before.before)).number ≡ 0
-none passes = sym (ap (λ (r : Refusal). r.number) (first passes.before.before)) ∙ passes.if1.false
+none : (passes : tie.Else-refusal-ne0) → (first_of (refusals passes.before.before)).number ≡ 0
+none passes = sym (ap (λ (r : Refusal). r.number) (first passes.before.before)) ∙ passes.if-refusal-ne0.false
 
-put-unfolded-requires : tie.Need-put-unfolded-requires
+put-unfolded-requires : tie.Need-put_unfolded-requires
 put-unfolded-requires c κs =
     let at = c.before.before.before.before in
-    result_fits (least at) (file at) (length (old at)) (none c.before) (t at) at.count-file.ensures.0
+    result_fits (least at) (file at) (length (old at)) (none c.before) (t at) at.count_file-t.ensures.0
 
-result-bytes-requires : tie.Need-result-bytes-requires
+result-bytes-requires : tie.Need-result_bytes-requires
 result-bytes-requires c κs = bounded c.before.before.before.before.before.before.before
 
-returns-2 : tie.Need-returns-2
+returns-2 : tie.Need-returns
 returns-2 c =
     let to-put = c.before.before.before in
     let passes = to-put.before.before in
     let at = passes.before.before.before in
-    let e = at.count-file.ensures.0 in
+    let e = at.count_file-t.ensures.0 in
     let result = unfolded_file (least at) (file at) in
     unfolds (least at) (file at) (old at) _ _
-    (replied-done (refusals passes.before.before) result (old at) _ _ (none passes) (c.result-bytes.ensures ∙ bytes-are (least at) (file at) (t at) e)
-    (to-put.put-unfolded.ensures ∙ ap (λ (x : List ℕ). over x (old at)) (result-is (least at) (file at) (length (old at)) (none passes) (t at) e)))
+    (replied-done (refusals passes.before.before) result (old at) _ _ (none passes) (c.result_bytes.ensures ∙ bytes-are (least at) (file at) (t at) e)
+    (to-put.put_unfolded.ensures ∙ ap (λ (x : List ℕ). over x (old at)) (result-is (least at) (file at) (length (old at)) (none passes) (t at) e)))
 
-pub unfold-passed-spec : {M : Type 1} → statement M
-unfold-passed-spec =
+pub unfold_passed_spec : {M : Type 1} → statement M
+unfold_passed_spec =
     tie.close
     (tie.spec
     (λ c κs. search rules)

@@ -1,6 +1,6 @@
 -- By the refusal's number. Assumes nothing.
 use mathlib.Core.Path.{sym}
-use Rattle.spec_file.specs.RefusalLaws.{number-some, number-none}
+use Rattle.spec_file.proofs.RefusalLaws.{number-some, number-none}
 use Rattle.call_write.proofs.as_writing.Statement.{statement}
 use Rattle.call_write.proofs.as_writing.Tie as tie
 

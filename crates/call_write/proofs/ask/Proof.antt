@@ -4,7 +4,7 @@ use native.Mathlib.Omega.{arith}
 use borrow.Author.Rules.{rules}
 use Rattle.spec_file.specs.Answers.{refusal_of}
 use Rattle.spec_file.specs.Refusals.{refuse, or_next, first_of}
-use Rattle.spec_file.specs.RefusalLaws.{said_or}
+use Rattle.spec_file.proofs.RefusalLaws.{said_or}
 use Rattle.spec_calls.specs.Checking.{check_refusals}
 use Rattle.call_write.specs.Asking.{count_fault}
 use Rattle.call_write.proofs.Taken.{refuses, row-used, taken}

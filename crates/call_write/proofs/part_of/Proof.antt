@@ -1,7 +1,7 @@
 -- By the refusal's number. Assumes nothing.
 use mathlib.Core.Path.{sym, ◌∙◌}
 use borrow.Author.Rules.{rules}
-use Rattle.spec_file.specs.RefusalLaws.{number-some, number-none}
+use Rattle.spec_file.proofs.RefusalLaws.{number-some, number-none}
 use Rattle.call_write.proofs.part_of.Statement.{statement}
 use Rattle.call_write.proofs.part_of.Tie as tie
 

@@ -4,7 +4,7 @@ use mathlib.Core.Bool.{Bool, cond}
 use borrow.Author.Rules.{rules}
 use Rattle.spec_file.specs.Answers.{refusal_of}
 use Rattle.spec_file.specs.Refusals.{refuse}
-use Rattle.spec_file.specs.RefusalLaws.{said_or}
+use Rattle.spec_file.proofs.RefusalLaws.{said_or}
 use Rattle.call_write.proofs.refusal_of.Statement.{statement}
 use Rattle.call_write.proofs.refusal_of.Tie as tie
 

@@ -6,7 +6,7 @@ use native.Mathlib.Omega.{arith}
 use borrow.Author.Rules.{rules}
 use borrow.Author.Tests.{eq-eqb, ne_eqb}
 use Rattle.spec_file.specs.Refusals.{rises, exceeds_in}
-use Rattle.spec_file.specs.EntryLaws.{whole}
+use Rattle.spec_file.proofs.EntryLaws.{whole}
 use Rattle.file_reader.proofs.exceeds.Statement.{statement}
 use Rattle.file_reader.proofs.exceeds.Tie as tie
 

@@ -6,8 +6,8 @@ use Prim.Native.Nat.{ℕ}
 use native.Mathlib.Omega.{arith}
 use borrow.Author.Rules.{rules}
 use Rattle.spec_file.specs.Refusals.{kind_known, above_range, stray_byte, on_remark, over_limit, fault_by_in}
-use Rattle.spec_file.specs.EntryLaws.{whole}
-use Rattle.spec_file.specs.RefusalLaws.{test-next}
+use Rattle.spec_file.proofs.EntryLaws.{whole}
+use Rattle.spec_file.proofs.RefusalLaws.{test-next}
 use Rattle.file_reader.proofs.fault_by.Statement.{statement}
 use Rattle.file_reader.proofs.fault_by.Tie as tie
 

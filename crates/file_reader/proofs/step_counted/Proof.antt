@@ -6,7 +6,7 @@ use lib.ListN.{length-take}
 use borrow.Author.Rules.{rules}
 use Rattle.spec_file.specs.Records.{rule_kind, transition_kind, count_of}
 use Rattle.spec_file.specs.Reading.{step_from, step_at}
-use Rattle.spec_file.specs.WalkLaws.{past, count-before}
+use Rattle.spec_file.proofs.WalkLaws.{past, count-before}
 use Rattle.file_reader.proofs.step_counted.Statement.{statement}
 use Rattle.file_reader.proofs.step_counted.Tie as tie
 

@@ -7,8 +7,8 @@ use borrow.Author.Tests.{lt-ltb, le-ltb, le-leb, lt-leb, eq-eqb, ne_eqb}
 use Rattle.spec_file.specs.Records.{Record, record_of}
 use Rattle.spec_file.specs.Refusals.{length_fault_in}
 use Rattle.spec_file.specs.Reading.{gives, step_from}
-use Rattle.spec_file.specs.EntryLaws.{whole}
-use Rattle.spec_file.specs.WalkLaws.{refuse-by}
+use Rattle.spec_file.proofs.EntryLaws.{whole}
+use Rattle.spec_file.proofs.WalkLaws.{refuse-by}
 use Rattle.file_reader.proofs.step_from.Statement.{statement}
 use Rattle.file_reader.proofs.step_from.Tie as tie
 

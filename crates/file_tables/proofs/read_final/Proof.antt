@@ -3,7 +3,7 @@ use mathlib.Core.Path.{sym, ap, ◌∙◌}
 use borrow.Author.Rules.{rules}
 use Rattle.relation.specs.Relation.{states}
 use Rattle.spec_file.specs.Views.{final_of}
-use Rattle.spec_file.specs.EntryLaws.{whole}
+use Rattle.spec_file.proofs.EntryLaws.{whole}
 use Rattle.file_tables.specs.Tables.{with_state}
 use Rattle.file_tables.proofs.read_final.Statement.{statement}
 use Rattle.file_tables.proofs.read_final.Tie as tie

@@ -7,7 +7,7 @@ use Rattle.relation.specs.Representation.{value}
 use Rattle.relation.specs.Stored.{with_relation}
 use Rattle.spec_file.specs.declared.Transition.{Transition}
 use Rattle.spec_file.specs.Entries.{transition_in, automaton_transition}
-use Rattle.spec_file.specs.EntryLaws.{whole}
+use Rattle.spec_file.proofs.EntryLaws.{whole}
 use Rattle.file_tables.specs.Tables.{with_transition}
 use Rattle.file_tables.specs.LetterLaws.{with-left-out, with-inserted}
 use Rattle.file_tables.proofs.read_transition.Statement.{statement}

@@ -4,7 +4,7 @@ use mathlib.Core.List.{[], ◌∷◌}
 use borrow.Author.Rules.{rules}
 use Rattle.spec_file.specs.declared.Rule.{Rule}
 use Rattle.spec_file.specs.Entries.{rule_in}
-use Rattle.spec_file.specs.EntryLaws.{whole}
+use Rattle.spec_file.proofs.EntryLaws.{whole}
 use Rattle.file_tables.proofs.row_at.Statement.{statement}
 use Rattle.file_tables.proofs.row_at.Tie as tie
 

@@ -4,7 +4,7 @@ use mathlib.Core.Path.{◌≡◌, refl, ap, ◌∙◌}
 use Prim.Native.Nat.{ℕ, ◌+◌, ◌-◌, ◌≤◌}
 use native.Mathlib.Omega.{arith}
 use Rattle.spec_file.specs.Records.{count_of, count_in}
-use Rattle.spec_file.specs.WalkLaws.{count_yes, count_no}
+use Rattle.spec_file.proofs.WalkLaws.{count_yes, count_no}
 use Rattle.file_views.proofs.count_of.Statement.{statement}
 use Rattle.file_views.proofs.count_of.Tie as tie
 use Rattle.file_views.proofs.count_of.Lts.{then-file-i, else-file-i}

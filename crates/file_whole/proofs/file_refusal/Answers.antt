@@ -1,7 +1,7 @@
 -- Where the walk begins, and one turn of it: the facts are those of proofs/Turn, at the step that the reader took.
 use Rattle.std.proofs.Common.{◌≡◌, ◌∙◌, ap, ℕ, List, true, rules}
 use Rattle.spec_file.specs.Reading.{step_from}
-use Rattle.spec_file.specs.WalkLaws.{At, at-start}
+use Rattle.spec_file.proofs.WalkLaws.{At, at-start}
 use Rattle.file_reader.specs.Answers.{step_of}
 use Rattle.file_whole.proofs.Turn.{stands_on, fewer}
 use Rattle.file_whole.proofs.file_refusal.Goals as goal

@@ -9,7 +9,7 @@ use borrow.Author.Tests.{eq-eqb, ne_eqb}
 use Rattle.spec_file.specs.Records.{record_count}
 use Rattle.spec_file.specs.Refusals.{Refusal, fault}
 use Rattle.spec_file.specs.Reading.{stretch}
-use Rattle.spec_file.specs.Sorted.{counts-le}
+use Rattle.spec_file.proofs.Sorted.{counts-le}
 use Rattle.file_whole.proofs.transition_stretch.Statement.{statement}
 use Rattle.file_whole.proofs.transition_stretch.Tie as tie
 

@@ -6,7 +6,7 @@ use Prim.Native.Nat.{ℕ}
 use borrow.Author.Rules.{rules}
 use Rattle.spec_file.specs.Forms.{sixteen}
 use Rattle.spec_file.specs.Refusals.{kind_known, above_range_in, stray_byte_in, on_remark, over_limit, fault_by_in}
-use Rattle.spec_file.specs.RefusalLaws.{test-next}
+use Rattle.spec_file.proofs.RefusalLaws.{test-next}
 use Rattle.file_wide_checks.specs.Front.{front_of}
 use Rattle.file_wide.proofs.fault_by.Statement.{statement}
 use Rattle.file_wide.proofs.fault_by.Tie as tie

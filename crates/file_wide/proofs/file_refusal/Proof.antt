@@ -2,7 +2,7 @@
 use mathlib.Core.Path.{sym, ap, ◌∙◌}
 use borrow.Author.Rules.{rules}
 use Rattle.spec_file.specs.Refusals.{Refusal, fault_in}
-use Rattle.spec_file.specs.RefusalLaws.{number-some, number-none}
+use Rattle.spec_file.proofs.RefusalLaws.{number-some, number-none}
 use Rattle.file_wide.proofs.file_refusal.Statement.{statement}
 use Rattle.file_wide.proofs.file_refusal.Tie as tie
 

@@ -4,7 +4,7 @@ use native.Mathlib.Omega.{arith}
 use borrow.Author.Rules.{rules}
 use Rattle.spec_file.specs.Answers.{refusal_of}
 use Rattle.spec_file.specs.Forms.{sixteen}
-use Rattle.spec_file.specs.RefusalLaws.{said_or}
+use Rattle.spec_file.proofs.RefusalLaws.{said_or}
 use Rattle.file_wide.specs.WalkLaws.{length-tests}
 use Rattle.file_wide.proofs.length_refusal.Statement.{statement}
 use Rattle.file_wide.proofs.length_refusal.Tie as tie

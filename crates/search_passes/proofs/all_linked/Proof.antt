@@ -7,7 +7,7 @@ use native.Mathlib.Omega.{arith}
 use borrow.Author.Rules.{rules}
 use Rattle.spec_file.specs.Limits.{nonterminals}
 use Rattle.spec_calls.specs.Base.{members_below}
-use Rattle.spec_calls.specs.MemberLaws.{members-done}
+use Rattle.spec_calls.proofs.MemberLaws.{members-done}
 use Rattle.search_laws.specs.LinkedLaws.{linked-none, linked-next}
 use Rattle.search_laws.specs.States.{each_linked}
 use Rattle.search_passes.proofs.all_linked.Statement.{statement}

@@ -1,7 +1,7 @@
 -- `spec_calls::is_member` meets its contract: a byte that is no nonterminal is in no set, and a nonterminal is where its digit is set.
 -- Assumes nothing.
 use borrow.Author.Rules.{rules}
-use Rattle.spec_calls.specs.MemberLaws.{member-beyond, member-digit}
+use Rattle.spec_calls.proofs.MemberLaws.{member-beyond, member-digit}
 use Rattle.spec_calls.proofs.is_member.Statement.{statement}
 use Rattle.spec_calls.proofs.is_member.Tie as tie
 

@@ -255,7 +255,7 @@ module _ (bs : List ℕ) (g : Settings) (d old new : List ℕ) (r : ℕ) (h : Ch
   -- where nothing refused to write it, the first bytes of the buffer, as many as the detail `length` says, are a run of a member that the
   -- sheet turns away
   pub run-means : r ≡ broken_code → told_refused d ≡ 0 → (p : ℕ) × Counterexample bs g p (take (told_length d) new)
-  run-means e z = let s = check-tells.shows e in (s.0, subst (Counterexample bs g s.0) (sym (s.2.in_Buffer.first-bytes z)) s.2.counterexample)
+  run-means e z = let s = check-tells.shows e in (s.0, subst (Counterexample bs g s.0) (sym (s.2.in_buffer.first-bytes z)) s.2.counterexample)
 
 -- the only member where a call has no set is procedure 0: bolfrega_check speaks of its runs
 pub initial-only : (J B p : ℕ) → Member (of_initial J B) p ↔ (p ≡ initial)

@@ -14,7 +14,7 @@ use Rattle.search_laws.specs.declared.Answer.TheVariants as answer
 use Rattle.call_check.specs.declared.Checked.{Checked}
 use Rattle.call_check.specs.declared.Checked.TheVariants as checked
 use Rattle.call_check.specs.Answers.{checked_of}
-use Rattle.call_check.specs.Clauses.{settings_over, Checks}
+use Rattle.call_check.specs.Clauses.{Checks}
 use Rattle.call_write.specs.Answers.{writing_of}
 use Rattle.call_write.specs.Clauses.{Writes}
 use Rattle.call_write.specs.declared.Writing.{Writing}

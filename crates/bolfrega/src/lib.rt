@@ -402,7 +402,7 @@ fn tell_rows(checked: Checked, row: Row, details: &mut [u64; 9]) -> u64
 
 // As `bolfrega_check_from`, over the rows of `journal`, which the host lends, in a `table` and in words (`near`) that it lends too. All three
 // may have any contents: nothing is cleared but what is read. The rows that the check uses are those of `journal` then; the others keep their
-// contents, and a refused call leaves all of them as they were. No run is written, so the detail of that is 0. Proved by hand.
+// contents, and a refused call leaves all of them as they were. No run is written, so the detail of that is 0.
 #[unsafe(no_mangle)]
 pub extern "C" fn bolfrega_check_rows(
     file: &[u8],
@@ -442,7 +442,7 @@ fn tell_written(writing: Writing, place: &mut u64, length: &mut u64) -> u64
 
 // Writes the run behind row `row` of `journal`, of which `used` rows are used, to the front of `buffer`: returns WRITTEN, or the number that
 // refuses the call, with `place` as above. Stores the run's length in `length`, 0 for a refused call. The other bytes of `buffer` keep their
-// values, and a refused call leaves all of them as they were. Proved by hand.
+// values, and a refused call leaves all of them as they were.
 #[unsafe(no_mangle)]
 pub extern "C" fn bolfrega_write(
     file: &[u8],

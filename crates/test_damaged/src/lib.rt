@@ -1,5 +1,5 @@
 // For tests only (test_writing): a check, one row of its journal replaced, and the run behind a row written. The parameters and the answer
-// are plain values and lent bytes, so a caller needs no walk.
+// are plain values and lent bytes.
 #![tactic(auto)]
 
 ghost use Rattle.test_damaged.specs.Clauses.{WritesDamaged};
@@ -8,7 +8,7 @@ use call_write::Writing;
 use spec_calls::{JOURNAL_LIMIT, Options, Row};
 
 // Checks `file` over a journal of `rows` rows, each initialised to `row`, with these `options`; stores `row` as journal row `place`;
-// and writes the run behind row `named` to `buffer`, with `used` rows used. The proof is a walk (proofs/write_damaged).
+// and writes the run behind row `named` to `buffer`, with `used` rows used.
 pub fn write_damaged(
     file: &[u8],
     rows: usize,

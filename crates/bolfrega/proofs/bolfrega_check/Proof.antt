@@ -7,9 +7,9 @@ use Rattle.bolfrega.proofs.bolfrega_check.Tie as tie
 
 returns : tie.Need-returns
 returns c =
-    let a = c.before.before.before.before.before.before.before.args in
-    let told = c.before.before.before.check-zeros in
-    over_zeros a.file.now a.rows (record { budget = a.budget; starts = initial_alone }) a.buffer.now _ told.result told.ensures c.details-of.result c.details-of.ensures
+    let a = c.args in
+    let told = c.check_zeros-told in
+    over_zeros a.file.now a.rows (record { budget = a.budget; starts = initial_alone }) a.buffer.now _ told.result told.ensures c.details_of.result c.details_of.ensures
 
-pub bolfrega-check-spec : {M : Type 1} → statement M
-bolfrega-check-spec = tie.close (tie.spec (λ c κs. search rules) (λ c κs. search rules) (λ c. search rules) returns)
+pub bolfrega_check_spec : {M : Type 1} → statement M
+bolfrega_check_spec = tie.close (tie.spec (λ c κs. search rules) (λ c κs. search rules) (λ c. search rules) returns)

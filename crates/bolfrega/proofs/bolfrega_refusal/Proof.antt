@@ -5,7 +5,7 @@ use Rattle.bolfrega.proofs.bolfrega_refusal.Statement.{statement}
 use Rattle.bolfrega.proofs.bolfrega_refusal.Tie as tie
 
 returns : tie.Need-returns
-returns c = refuses c.before.before.args.file.now c.file-refusal.result c.file-refusal.ensures
+returns c = refuses c.before.before.args.file.now c.file_refusal-refusal.result c.file_refusal-refusal.ensures
 
-pub bolfrega-refusal-spec : {M : Type 1} → statement M
-bolfrega-refusal-spec = tie.close (tie.spec (λ c κs. search rules) returns)
+pub bolfrega_refusal_spec : {M : Type 1} → statement M
+bolfrega_refusal_spec = tie.close (tie.spec (λ c κs. search rules) returns)

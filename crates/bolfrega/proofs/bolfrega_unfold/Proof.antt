@@ -7,9 +7,9 @@ use Rattle.bolfrega.proofs.bolfrega_unfold.Tie as tie
 
 returns : tie.Need-returns
 returns c =
-    let a = c.before.before.before.before.before.before.before.before.before.args in
-    let r = c.before.before.before.before.before.unfold in
-    unfolds-file a.file.now a.out.now r.new.1.1.0 r.result _ _ _ c.tell-moved.ensures initial_alone r.ensures
+    let a = c.args in
+    let r = c.unfold-moved in
+    unfolds-file a.file.now a.out.now r.new.out r.result _ _ _ c.tell_moved.ensures initial_alone r.ensures
 
-pub bolfrega-unfold-spec : {M : Type 1} → statement M
-bolfrega-unfold-spec = tie.close (tie.spec (λ c κs. search rules) (λ c κs. search rules) (λ c. search rules) returns)
+pub bolfrega_unfold_spec : {M : Type 1} → statement M
+bolfrega_unfold_spec = tie.close (tie.spec (λ c κs. search rules) (λ c κs. search rules) (λ c. search rules) returns)

@@ -6,9 +6,9 @@ use Rattle.bolfrega.proofs.bolfrega_widen.Tie as tie
 
 returns : tie.Need-returns
 returns c =
-    let a = c.before.before.before.before.before.before.before.before.before.args in
-    let r = c.before.before.before.before.before.widen in
-    widens-file a.file.now a.out.now r.new.1.0 r.result _ _ _ c.tell-moved.ensures r.ensures
+    let a = c.args in
+    let r = c.widen-moved in
+    widens-file a.file.now a.out.now r.new.out r.result _ _ _ c.tell_moved.ensures r.ensures
 
-pub bolfrega-widen-spec : {M : Type 1} → statement M
-bolfrega-widen-spec = tie.close (tie.spec (λ c κs. search rules) (λ c κs. search rules) (λ c. search rules) returns)
+pub bolfrega_widen_spec : {M : Type 1} → statement M
+bolfrega_widen_spec = tie.close (tie.spec (λ c κs. search rules) (λ c κs. search rules) (λ c. search rules) returns)

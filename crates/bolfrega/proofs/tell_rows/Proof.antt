@@ -9,8 +9,8 @@ use Rattle.bolfrega.proofs.tell_rows.Tie as tie
 
 returns : tie.Need-returns
 returns c =
-    let e = c.before.to-unwritten.ensures in
-    record { code = ap (λ (t : CheckResult). t.code) e; details = c.nine-of.ensures ∙ ap (λ (t : CheckResult). numbers_in t ++ (t.head ∷ [])) e }
+    let e = c.before.to_unwritten-told.ensures in
+    record { code = ap (λ (t : CheckResult). t.code) e; details = c.nine_of.ensures ∙ ap (λ (t : CheckResult). numbers_in t ++ (t.head ∷ [])) e }
 
-pub tell-rows-spec : {M : Type 1} → statement M
-tell-rows-spec = tie.close (tie.spec (λ c κs. search rules) (λ c κs. search rules) returns)
+pub tell_rows_spec : {M : Type 1} → statement M
+tell_rows_spec = tie.close (tie.spec (λ c κs. search rules) (λ c κs. search rules) returns)

@@ -1,13 +1,13 @@
 -- A row that may be written hands over to parts that may be written, with a lower rank; the second is written into what the first left.
 -- Assumes nothing.
-use Rattle.std.proofs.Common.{rules, ◌∙◌, sym, ap, subst, map, ℕ, ◌<◌, le_refl}
-use Rattle.std.proofs.Math.ListN.{get_or-map}
+use Rattle.std.proofs.Common.{rules, arith, ◌≡◌, ◌∙◌, sym, ap, subst, map, ℕ, ◌-◌, ◌<◌, le_refl, length}
+use Rattle.std.proofs.Math.ListN.{get_or-map, take, drop, length-take, length-drop}
 use Rattle.relation.specs.Representation.{none}
 use Rattle.spec_file.specs.Entries.{entry_of}
 use Rattle.spec_calls.specs.Rows.{row_of, blank}
-use Rattle.call_write_word.specs.Parts.{parts_of, Ready}
+use Rattle.call_write_word.specs.Parts.{parts_of}
 use Rattle.call_write_word.proofs.Handing.{rank, handed}
-use Rattle.call_write_word.proofs.Buffers.{wrote-same, wrote-rest, length-rest}
+use Rattle.call_write_word.proofs.Buffers.{wrote-same, wrote-rest}
 use Rattle.call_write_word.proofs.Views.{inside-at}
 use Rattle.call_write_word.proofs.+write_row_write_symbol.Goals as goal
 
@@ -25,9 +25,14 @@ pub write_row-write_symbol-m-requires : goal.write_row-write_symbol-m-requires
 unfolding none
 write_row-write_symbol-m-requires t c =
     let h = handed c.requires (c.row_parts-parts.ensures ∙ sym (ap (parts_of (map entry_of c.args.rules.now)) (get_or-map row_of c.args.journal.now c.args.row blank))) in
-    let rest = length-rest c.write_symbol-n.result c.write_symbol-n.new.buffer c.args.buffer.now (search rules) in (
-      subst (λ (n : ℕ). rank c.row_parts-parts.result.second < n) c.decreases h.then-falls,
-      subst (Ready (map entry_of c.args.rules.now) (map row_of c.args.journal.now) c.row_parts-parts.result.second) rest (h.then_ready c.write_symbol-n.result c.write_symbol-n.ensures.count),
+    -- where the rest begins
+    let at = c.write_symbol-n.result in
+    let then = h.then_ready c.write_symbol-n.result c.write_symbol-n.ensures.count in
+    let kept : length c.write_symbol-n.new.buffer ≡ length c.args.buffer.now = search rules in
+    let dropped = length-drop at c.write_symbol-n.new.buffer in
+    let rest = length-take (length c.write_symbol-n.new.buffer - at) (drop at c.write_symbol-n.new.buffer) in (
+      subst (λ (k : ℕ). rank c.row_parts-parts.result.second < k) c.decreases h.then-falls,
+      record { fits = then.fits; room = omega (arith, then.room, kept, dropped, rest) },
     )
 
 pub write_row-returns : goal.write_row-returns

@@ -1,7 +1,7 @@
 /*
  * Bolfrega: checks measurement plans against order sheets.
  *
- * The functions of libbolfrega.a, which `rt staticlib bolfrega` proves and writes to target/staticlib. Each is proved to give the answer
+ * The functions of libbolfrega.a, which `tools/build archive` proves and writes to target/staticlib. Each is proved to give the answer
  * that documents 01 and 02 settle, for every input. They keep no state, allocate nothing and call nothing but memset.
  * The archive is for x86-64 Linux; link it alone: cc program.c -Iinclude target/staticlib/libbolfrega.a
  *

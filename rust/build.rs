@@ -1,5 +1,5 @@
 //! Finds the proved static library: in `BOLFREGA_LIB_DIR`, in the crate's own folder `lib`, where a release has it, or where
-//! `rt staticlib bolfrega` leaves it. Where it is in none of these, the documentation can be made all the same, and nothing else.
+//! `tools/build archive` leaves it. Where it is in none of these, the documentation can be made all the same, and nothing else.
 
 use std::env;
 use std::path::{Path, PathBuf};

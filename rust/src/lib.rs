@@ -57,7 +57,7 @@
 //! # Linking
 //!
 //! The build links `libbolfrega.a` from the folder in `BOLFREGA_LIB_DIR`; or from the crate's own folder `lib`, where a release has it; or from
-//! `../target/staticlib`, where `rt staticlib bolfrega` leaves it. The archive is for x86-64 Linux. Without it `cargo doc` works, and nothing
+//! `../target/staticlib`, where `tools/build archive` leaves it. The archive is for x86-64 Linux. Without it `cargo doc` works, and nothing
 //! else does.
 //!
 //! The crate is `no_std`. With the feature `alloc`, which is on by default, there are also [`FileBuilder`], [`Journal`] and the calls whose result
@@ -86,7 +86,7 @@ extern crate alloc;
 #[cfg(all(without_archive, not(doc)))]
 compile_error!(concat!(
     env!("BOLFREGA_MISSING"),
-    " is not there: run `rt staticlib bolfrega` first, or set BOLFREGA_LIB_DIR to the folder that has libbolfrega.a"
+    " is not there: run `tools/build archive` first, or set BOLFREGA_LIB_DIR to the folder that has libbolfrega.a"
 ));
 
 mod answers;

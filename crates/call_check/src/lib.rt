@@ -32,7 +32,7 @@ fn as_checked(told: Refusal, last: State) -> Checked
 
 // Decides whether every word of the plan in `file` is accepted, by the working order over the lent `journal`, in which it stores the rows that it
 // uses; `options` has the budget of joins. It works in the lent `table` and `near`, which may have any contents: nothing is cleared but what is
-// read. Proved by hand.
+// read.
 pub fn check_in(
     file: &[u8],
     journal: &mut [Row],
@@ -58,7 +58,7 @@ pub fn check_in(
     as_checked(start.refusal, last)
 }
 
-// The same with a table and words of its own. Proved by hand.
+// The same with a table and words of its own.
 pub fn check(file: &[u8], journal: &mut [Row], options: Options) -> Checked
     ensures { Checks file.now options journal.old journal.new result }
 {

@@ -81,7 +81,7 @@ module _ (bs : List ℕ) (g : Settings) where
     opened j l =
         let k = journal-size J quiet.1 in
         subst (λ (y : State). Onward P B j (record { used = 0; joins = 0; added = 0 }) y j t') (sym (es ∙ ap (opening w w.terms x) em ∙ ap (λ (y : State). opening y y.terms x (all_linked y.terms.starts t')) ew))
-        (subst (λ (y : State). OpensPass rules t n y.terms y.counts t' x) ew o P (problem-laws g.starts finals letters (take n rules)) B j j 1 0 (waiting g n finals) refl (record { some = omega (arith, l, k.0); limit = omega (arith, l, k.1) }) (sym l) (pass-first P B j) refl (λ q. absurd (omega (arith, q)))
+        (subst (λ (y : State). OpensPass rules t n y.terms y.counts t' x) ew o P (problem-laws g.starts finals letters (take n rules)) B j j 1 _ (waiting g n finals) refl (record { some = omega (arith, l, k.0); limit = omega (arith, l, k.1) }) (sym l) (pass-first P B j) refl (λ q. absurd (omega (arith, q)))
         (subst (λ (rows : List Row). Covering rows t) (sym (rows_none row_of j)) (covering-none t et)))
 
     fit : n ≤ length rules

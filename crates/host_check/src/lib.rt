@@ -11,8 +11,7 @@ use host_result::CheckResult;
 use spec_calls::{JOURNAL_LIMIT, Options, Row};
 
 // Runs a check of `file` on a fresh journal of `rows` rows, each initialised to `old`, with these `options`. If the verdict is broken, writes
-// its run to `buffer`. The result also contains the row at `sample_row` of the journal after the check, for tests. The proof is a walk
-// (proofs/check_and_write).
+// its run to `buffer`. The result also contains the row at `sample_row` of the journal after the check, for tests.
 pub fn check_and_write(
     file: &[u8],
     rows: usize,
@@ -36,7 +35,7 @@ pub fn check_and_write(
     host_result::to_result(checked, row, sample, writing)
 }
 
-// Returns row `at` of `journal`, or a row of zeros where it has none. Proved by hand.
+// Returns row `at` of `journal`, or a row of zeros where it has none.
 pub fn row_at(journal: &[Row], at: usize) -> Row
     ensures { result ≡ get_or journal.now at blank }
 {

@@ -8,18 +8,18 @@ use Rattle.spec_calls.specs.Checking.{Settings, check_of}
 use Rattle.spec_calls.specs.Printing.{refused_line, text_of, program_settings, program_room, program_text}
 use Rattle.host_input.specs.Held.{most, held_of, Handed}
 
-held-short : (n : ℕ) → n < most → held_of n ≡ n
+pub held-short : (n : ℕ) → n < most → held_of n ≡ n
 unfolding held_of
 held-short n h = rw (lt-ltb n most h)
 
-held-long : (n : ℕ) → most ≤ n → held_of n ≡ most + (n - most) % 8
+pub held-long : (n : ℕ) → most ≤ n → held_of n ≡ most + (n - most) % 8
 unfolding held_of
 held-long n h = rw (le-ltb n most h)
 
 -- ---- more bytes
 
 -- where the place is below the most, it is the count of the whole input
-count-is : (n : ℕ) → held_of n < most → n ≡ held_of n
+pub count-is : (n : ℕ) → held_of n < most → n ≡ held_of n
 count-is n h = by (ltb n most) refl
   where
     by : (b : Bool) → ltb n most ≡ b → n ≡ held_of n

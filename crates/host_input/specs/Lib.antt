@@ -1,3 +1,3 @@
 pub mod Held
-pub mod SaidLaws
 pub mod HeldLaws
+pub mod SaidLaws

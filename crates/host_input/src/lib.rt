@@ -2,10 +2,11 @@
 // gives none. Of an input that is longer than any file, only the front is held; what is handed over is refused as the whole input would be.
 #![tactic(auto)]
 
-ghost use Rattle.std.specs.Prelude.{◌≡◌, ℕ, ◌+◌, ◌≤◌, length};
-ghost use Rattle.host_input.specs.Held.{held_by, held_of, FitsIn};
+ghost use Rattle.std.specs.Prelude.{◌≡◌, ℕ, ◌+◌, ◌<◌, ◌≤◌, length, List};
+ghost use Rattle.host_input.specs.Held.{held_by, held_of, FitsIn, Came, CameAt, HandsOver};
 
-use libc::STDIN_FILENO;
+use std::io;
+use std::io::Read;
 
 // The bytes of one record more than a file may have: number 2 refuses that many, unless 1 does.
 const HELD: usize = 10376;
@@ -43,51 +44,57 @@ fn held(at: usize, got: usize) -> usize
     HELD + (at % 8 + got % 8) % 8
 }
 
-// Reads the result `got` of a read into `buffer`: above 0 it is the number of bytes that came, 0 is the end of the input, and below 0 the
-// read failed.
-fn said(got: isize, buffer: &[u8]) -> Chunk
+// What the answer `got` of a read into `buffer` says: that the input has ended, where no bytes came; how many came, at most `buffer`'s length;
+// or that the read failed.
+fn said(got: io::Result<usize>, buffer: &[u8]) -> Chunk
     ensures { result ≡ held_by got (length buffer.now) }
 {
-    if got < 0 {
+    let Ok(got) = got else {
         return Chunk::Failed;
-    }
+    };
     if got == 0 {
         return Chunk::Ended;
     }
-    Chunk::Bytes(io::count(got, buffer))
+    Chunk::Bytes(got.min(buffer.len()))
 }
 
-// Reads once from standard input into `buffer`.
-fn read_into(buffer: &mut [u8]) -> Chunk {
-    let got = libc::read(STDIN_FILENO, buffer);
+// Reads once from `input` into `buffer`.
+fn read_into<R: Read>(input: &mut R, buffer: &mut [u8]) -> Chunk
+    ensures { Came (R.remaining input.old) (R.remaining input.new) result buffer.new }
+{
+    let got = input.read(buffer);
     said(got, buffer)
 }
 
 // Reads once, and throws away what came: the input is longer than any file.
-fn read_past() -> Chunk {
+fn read_past<R: Read>(input: &mut R) -> Chunk
+    ensures { (room : List ℕ) × (0 < length room) × Came (R.remaining input.old) (R.remaining input.new) result room }
+{
     let mut scratch = [0u8; 4096];
-    read_into(&mut scratch)
+    read_into(input, &mut scratch)
 }
 
 // Reads once, into `buffer` from place `at` on while there is room for a file, and else past it.
-fn read_at(buffer: &mut [u8], at: usize) -> Chunk
+fn read_at<R: Read>(input: &mut R, buffer: &mut [u8], at: usize) -> Chunk
     requires { 10376 ≤ length buffer.old }
+    ensures { CameAt (R.remaining input.old) (R.remaining input.new) result at buffer.old buffer.new }
 {
     if at < HELD {
-        return read_into(&mut buffer[at..HELD]);
+        return read_into(input, &mut buffer[at..HELD]);
     }
-    read_past()
+    read_past(input)
 }
 
-// Reads standard input into `buffer` until a read says that it has ended, or fails. A proved loop must end, so this one counts its turns down
+// Reads `input` into `buffer` until a read says that it has ended, or fails. A proved loop must end, so this one counts its turns down
 // from a number that no input uses up.
-pub fn read(buffer: &mut [u8; ROOM]) -> Input
-    ensures { FitsIn result }
+pub fn read<R: Read>(input: &mut R, buffer: &mut [u8; ROOM]) -> Input
+    ensures fits { FitsIn result }
+    ensures bytes { HandsOver (R.remaining input.old) result buffer.new }
 {
     let mut at: usize = 0;
     let mut turns = u64::MAX;
     while turns > 0 {
-        match read_at(buffer, at) {
+        match read_at(input, buffer, at) {
             Chunk::Bytes(got) => {
                 at = held(at, got);
             }

@@ -2,8 +2,8 @@
 // printed.
 #![tactic(auto)]
 
-use libc::STDOUT_FILENO;
 use spec_file::{FIRST_REMARK, Refusal, Rule, Transition};
+use std::io;
 
 // The bytes, and the number, of two records more than a file may have.
 pub const HELD: usize = 10384;
@@ -20,58 +20,62 @@ pub const SHEET: usize = 32;
 
 // ---- printing
 
-pub fn print(text: &[u8]) {
-    io::write_all(STDOUT_FILENO, text);
+// Each of these writes all of its text to standard output, or answers with the error of the write that failed; then the part of the text
+// before it may have been written.
+
+pub fn print(rt: &impl Print, text: &[u8]) -> io::Result<()> {
+    rt.write_all(text)
 }
 
-pub fn print_number(x: u64) {
-    io::print_decimal(STDOUT_FILENO, x);
+pub fn print_number(rt: &impl Print, x: u64) -> io::Result<()> {
+    rt.print(x)
 }
 
-pub fn print_byte(x: u8) {
-    print(b" ");
-    print_number(x as u64);
+pub fn print_byte(rt: &impl Print, x: u8) -> io::Result<()> {
+    print(rt, b" ")?;
+    print_number(rt, x as u64)
 }
 
 // Prints each of `bytes` as `print_byte` does.
-pub fn print_bytes(bytes: &[u8]) {
+pub fn print_bytes(rt: &impl Print, bytes: &[u8]) -> io::Result<()> {
     let mut i: usize = 0;
     while i < bytes.len() {
-        print_byte(bytes[i]);
+        print_byte(rt, bytes[i])?;
         i += 1;
     }
+    Ok(())
 }
 
-pub fn print_label(label: &[u8]) {
-    print(label);
-    print(b": ");
+pub fn print_label(rt: &impl Print, label: &[u8]) -> io::Result<()> {
+    print(rt, label)?;
+    print(rt, b": ")
 }
 
-pub fn print_refused(r: Refusal) {
-    print(b"refused ");
-    print_number(r.number);
-    print(b" at ");
-    print_number(r.place as u64);
+pub fn print_refused(rt: &impl Print, r: Refusal) -> io::Result<()> {
+    print(rt, b"refused ")?;
+    print_number(rt, r.number)?;
+    print(rt, b" at ")?;
+    print_number(rt, r.place as u64)
 }
 
-pub fn print_rule(r: Rule) {
-    print(b"rule");
-    print_byte(r.head);
-    print_byte(r.size);
-    print_byte(r.first);
-    print_byte(r.second);
+pub fn print_rule(rt: &impl Print, r: Rule) -> io::Result<()> {
+    print(rt, b"rule")?;
+    print_byte(rt, r.head)?;
+    print_byte(rt, r.size)?;
+    print_byte(rt, r.first)?;
+    print_byte(rt, r.second)
 }
 
-pub fn print_move(t: Transition) {
-    print(b"move");
-    print_byte(t.source);
-    print_byte(t.letter);
-    print_byte(t.target);
+pub fn print_move(rt: &impl Print, t: Transition) -> io::Result<()> {
+    print(rt, b"move")?;
+    print_byte(rt, t.source)?;
+    print_byte(rt, t.letter)?;
+    print_byte(rt, t.target)
 }
 
-pub fn print_finishing(stage: u8) {
-    print(b"finishing");
-    print_byte(stage);
+pub fn print_finishing(rt: &impl Print, stage: u8) -> io::Result<()> {
+    print(rt, b"finishing")?;
+    print_byte(rt, stage)
 }
 
 // ---- making files

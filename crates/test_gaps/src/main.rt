@@ -3,6 +3,7 @@
 #![tactic(auto)]
 
 use call_gaps::{LIST_BYTES, Listed};
+use std::io;
 use test_files::{
     HELD, LARGEST, SAMPLE, fill, front, print, print_byte, print_label, print_number,
     print_refused, put, sample,
@@ -15,21 +16,23 @@ const OLD: u8 = 255;
 
 // ---- printing
 
-fn print_changed(byte: u8) {
+fn print_changed(rt: &impl Print, byte: u8) -> io::Result<()> {
     if byte != OLD {
-        print_byte(byte);
+        print_byte(rt, byte)?;
     }
+    Ok(())
 }
 
-fn print_entries(list: &[u8]) {
+fn print_entries(rt: &impl Print, list: &[u8]) -> io::Result<()> {
     let mut i: usize = 0;
     while i < list.len() {
-        print_changed(list[i]);
+        print_changed(rt, list[i])?;
         i += 1;
     }
+    Ok(())
 }
 
-fn print_kept(list: &[u8]) {
+fn print_kept(rt: &impl Print, list: &[u8]) -> io::Result<()> {
     let mut kept: usize = 0;
     let mut i: usize = 0;
     while i < list.len() {
@@ -38,107 +41,114 @@ fn print_kept(list: &[u8]) {
         }
         i += 1;
     }
-    print(b", kept ");
-    print_number(kept as u64);
-    print(b"\n");
+    print(rt, b", kept ")?;
+    print_number(rt, kept as u64)?;
+    print(rt, b"\n")
 }
 
 // Prints the entries too, where they are few.
-fn print_listed(answer: Listed, list: &[u8]) {
+fn print_listed(rt: &impl Print, answer: Listed, list: &[u8]) -> io::Result<()> {
     match answer {
         Listed::Entries(n) => {
-            print_number(n as u64);
-            print(b" entries");
+            print_number(rt, n as u64)?;
+            print(rt, b" entries")?;
             if n < 10 {
-                print_entries(list);
+                print_entries(rt, list)?;
             }
         }
         Listed::Refused(refusal) => {
-            print_refused(refusal);
+            print_refused(rt, refusal)?;
         }
     }
-    print_kept(list);
+    print_kept(rt, list)
 }
 
 // ---- cases
 
-fn listed(label: &[u8], file: &[u8], list: &mut [u8]) {
-    print_label(label);
+fn listed(rt: &impl Print, label: &[u8], file: &[u8], list: &mut [u8]) -> io::Result<()> {
+    print_label(rt, label)?;
     let answer = call_gaps::list(file, list);
-    print_listed(answer, list);
+    print_listed(rt, answer, list)
 }
 
-fn list(label: &[u8], file: &[u8; HELD], n: usize) {
+fn list(rt: &impl Print, label: &[u8], file: &[u8; HELD], n: usize) -> io::Result<()> {
     let mut buffer = [OLD; LIST_BYTES];
-    listed(label, front(file, n), &mut buffer);
+    listed(rt, label, front(file, n), &mut buffer)
 }
 
-fn list_by(label: &[u8], file: &[u8; HELD], n: usize, room: usize) {
+fn list_by(
+    rt: &impl Print,
+    label: &[u8],
+    file: &[u8; HELD],
+    n: usize,
+    room: usize,
+) -> io::Result<()> {
     let mut buffer = [OLD; LARGER];
     if room <= LARGER {
-        listed(label, front(file, n), &mut buffer[..room]);
+        listed(rt, label, front(file, n), &mut buffer[..room])?;
     }
+    Ok(())
 }
 
-fn sheet_of_plan_b() {
+fn sheet_of_plan_b(rt: &impl Print) -> io::Result<()> {
     let mut file = [0u8; HELD];
     sample(&mut file);
-    list(b"sheet S", &file, SAMPLE);
-    list(b"the empty file", &file, 0);
+    list(rt, b"sheet S", &file, SAMPLE)?;
+    list(rt, b"the empty file", &file, 0)
 }
 
 // Two stages and two codes. From stage 0 a move on code 1 stands twice, from stage 1 the one on code 2 is not there.
-fn forgotten_and_doubled() {
+fn forgotten_and_doubled(rt: &impl Print) -> io::Result<()> {
     let mut file = [0u8; HELD];
     put(&mut file, 0, [2, 0, 1, 0, 0, 0, 0, 0]);
     put(&mut file, 1, [2, 0, 1, 1, 0, 0, 0, 0]);
     put(&mut file, 2, [2, 0, 2, 1, 0, 0, 0, 0]);
     put(&mut file, 3, [2, 1, 1, 0, 0, 0, 0, 0]);
     put(&mut file, 4, [3, 1, 0, 0, 0, 0, 0, 0]);
-    list(b"a doubled move and a forgotten one", &file, 40);
+    list(rt, b"a doubled move and a forgotten one", &file, 40)?;
     put(&mut file, 0, [2, 0, 1, 1, 0, 0, 0, 0]);
     put(&mut file, 1, [2, 0, 2, 1, 0, 0, 0, 0]);
     put(&mut file, 2, [2, 1, 1, 0, 0, 0, 0, 0]);
     put(&mut file, 3, [2, 1, 2, 0, 0, 0, 0, 0]);
-    list(b"both mended", &file, 40);
+    list(rt, b"both mended", &file, 40)
 }
 
-fn stages_taken() {
+fn stages_taken(rt: &impl Print) -> io::Result<()> {
     let mut file = [0u8; HELD];
     put(&mut file, 0, [2, 15, 119, 15, 0, 0, 0, 0]);
     put(&mut file, 1, [3, 9, 0, 0, 0, 0, 0, 0]);
-    list(b"stage 0, in no record", &file, 8);
-    list(b"a finishing stage in no move", &file, 16);
+    list(rt, b"stage 0, in no record", &file, 8)?;
+    list(rt, b"a finishing stage in no move", &file, 16)?;
     put(&mut file, 0, [2, 0, 7, 4, 0, 0, 0, 0]);
-    list(b"a stage that a move leads to", &file, 8);
+    list(rt, b"a stage that a move leads to", &file, 8)?;
     put(&mut file, 0, [3, 3, 0, 0, 0, 0, 0, 0]);
-    list(b"no moves", &file, 8);
+    list(rt, b"no moves", &file, 8)
 }
 
 // Two moves from stage 0 on each code, and all stages are finishing; then the largest file, in which no pair has one move.
-fn every_pair() {
+fn every_pair(rt: &impl Print) -> io::Result<()> {
     let mut file = [0u8; HELD];
     fill(&mut file, 0, 240);
-    list(b"every pair", &file, 2048);
+    list(rt, b"every pair", &file, 2048)?;
     fill(&mut file, 256, 1024);
-    list(b"every pair of the largest file", &file, LARGEST);
+    list(rt, b"every pair of the largest file", &file, LARGEST)
 }
 
-fn other_buffers() {
+fn other_buffers(rt: &impl Print) -> io::Result<()> {
     let mut file = [0u8; HELD];
     sample(&mut file);
-    list_by(b"5,759 bytes", &file, SAMPLE, 5759);
-    list_by(b"5,761 bytes", &file, SAMPLE, 5761);
-    list_by(b"5,759 bytes and no entry", &file, 0, 5759);
-    list_by(b"no byte on 71 bytes", &file, 71, 0);
+    list_by(rt, b"5,759 bytes", &file, SAMPLE, 5759)?;
+    list_by(rt, b"5,761 bytes", &file, SAMPLE, 5761)?;
+    list_by(rt, b"5,759 bytes and no entry", &file, 0, 5759)?;
+    list_by(rt, b"no byte on 71 bytes", &file, 71, 0)?;
     put(&mut file, 1, [2, 0, 120, 0, 0, 0, 0, 0]);
-    list_by(b"no byte and a move on a remark", &file, SAMPLE, 0);
+    list_by(rt, b"no byte and a move on a remark", &file, SAMPLE, 0)
 }
 
-fn main() {
-    sheet_of_plan_b();
-    forgotten_and_doubled();
-    stages_taken();
-    every_pair();
-    other_buffers();
+fn main(rt: HostRuntime) -> io::Result<()> {
+    sheet_of_plan_b(&rt)?;
+    forgotten_and_doubled(&rt)?;
+    stages_taken(&rt)?;
+    every_pair(&rt)?;
+    other_buffers(&rt)
 }

@@ -23,6 +23,7 @@
 mod comparison;
 
 use comparison::Outcome;
+use std::io;
 use test_random::Trial;
 use test_unpruned::Verdict;
 
@@ -66,10 +67,9 @@ fn count_one(tally: &mut Tally, i: usize) {
     }
 }
 
-fn line(name: &[u8], n: u64) {
-    io::write_all(1, name);
-    io::print_decimal(1, n);
-    io::write_all(1, b"\n");
+fn line(rt: &impl Print, name: &[u8], n: u64) -> io::Result<()> {
+    rt.write_all(name)?;
+    rt.println(n)
 }
 
 // Counts the verdict with ample rows and joins.
@@ -110,87 +110,96 @@ fn count_from_set(tally: &mut Tally, verdict: u64) {
     }
 }
 
-fn count_mismatch(tally: &mut Tally, number: u64, failing: u64) {
+fn count_mismatch(rt: &impl Print, tally: &mut Tally, number: u64, failing: u64) -> io::Result<()> {
     if failing != 0 {
         count_one(tally, MISMATCHES);
-        line(b"file ", number);
-        line(b"fails ", failing);
+        line(rt, b"file ", number)?;
+        line(rt, b"fails ", failing)?;
     }
+    Ok(())
 }
 
 // Searches the file that is the first `size` bytes of `buffer`, and compares.
-fn try_file(number: u64, buffer: &[u8; 192], size: usize, trial: Trial, tally: &mut Tally) {
+fn try_file(
+    rt: &impl Print,
+    number: u64,
+    buffer: &[u8; 192],
+    size: usize,
+    trial: Trial,
+    tally: &mut Tally,
+) -> io::Result<()> {
     let whole: &[u8] = buffer;
     if whole.len() < size {
-        return;
+        return Ok(());
     }
     let file = &whole[0..size];
     let remark = test_unpruned::remark_transition(file);
     if remark < test_unpruned::RECORDS {
         count_one(tally, REFUSED);
-        count_mismatch(tally, number, comparison::refusal(file, remark));
-        return;
+        count_mismatch(rt, tally, number, comparison::refusal(file, remark))?;
+        return Ok(());
     }
     let mut found = [[0u64; test_unpruned::PAIR]; test_unpruned::LIMIT];
     let count = test_unpruned::search(file, &mut found);
     if count == test_unpruned::LIMIT {
         count_one(tally, SKIPPED);
-        return;
+        return Ok(());
     }
     let verdict = test_unpruned::decide(file, &found, count);
     let outcome = comparison::compare(file, &found, count, verdict, trial);
     count_verdict(tally, outcome, verdict);
     count_small(tally, outcome.small);
     count_from_set(tally, outcome.from_set);
-    count_mismatch(tally, number, outcome.failing);
+    count_mismatch(rt, tally, number, outcome.failing)
 }
 
 // Draws the next file and what is tried on it, and tries it.
-fn try_next(number: u64, seed: &mut u64, tally: &mut Tally) {
+fn try_next(rt: &impl Print, number: u64, seed: &mut u64, tally: &mut Tally) -> io::Result<()> {
     let mut buffer = [0u8; 192];
     let size = test_random::next(seed, &mut buffer);
     let trial = test_random::draw_trial(seed);
-    try_file(number, &buffer, size, trial, tally);
+    try_file(rt, number, &buffer, size, trial, tally)
 }
 
-fn try_all(tally: &mut Tally) {
+fn try_all(rt: &impl Print, tally: &mut Tally) -> io::Result<()> {
     let mut seed: u64 = 1;
     for number in 0..FILES {
-        try_next(number, &mut seed, tally);
+        try_next(rt, number, &mut seed, tally)?;
     }
+    Ok(())
 }
 
-fn report_checks(tally: Tally) {
-    line(b"files ", FILES);
-    line(b"holds ", tally[HOLDS]);
-    line(b"empty ", tally[EMPTY]);
-    line(b"pruned ", tally[PRUNED]);
-    line(b"broken ", tally[BROKEN]);
+fn report_checks(rt: &impl Print, tally: Tally) -> io::Result<()> {
+    line(rt, b"files ", FILES)?;
+    line(rt, b"holds ", tally[HOLDS])?;
+    line(rt, b"empty ", tally[EMPTY])?;
+    line(rt, b"pruned ", tally[PRUNED])?;
+    line(rt, b"broken ", tally[BROKEN])
 }
 
-fn report_trials(tally: Tally) {
-    line(b"full ", tally[FULL]);
-    line(b"spent ", tally[SPENT]);
-    line(b"neither ", tally[NEITHER]);
+fn report_trials(rt: &impl Print, tally: Tally) -> io::Result<()> {
+    line(rt, b"full ", tally[FULL])?;
+    line(rt, b"spent ", tally[SPENT])?;
+    line(rt, b"neither ", tally[NEITHER])
 }
 
-fn report_sets(tally: Tally) {
-    line(b"from a set holds ", tally[FROM_HOLDS]);
-    line(b"from a set empty ", tally[FROM_EMPTY]);
-    line(b"from a set broken ", tally[FROM_BROKEN]);
+fn report_sets(rt: &impl Print, tally: Tally) -> io::Result<()> {
+    line(rt, b"from a set holds ", tally[FROM_HOLDS])?;
+    line(rt, b"from a set empty ", tally[FROM_EMPTY])?;
+    line(rt, b"from a set broken ", tally[FROM_BROKEN])
 }
 
-fn report_rest(tally: Tally) {
-    line(b"refused ", tally[REFUSED]);
-    line(b"skipped ", tally[SKIPPED]);
-    line(b"mismatches ", tally[MISMATCHES]);
+fn report_rest(rt: &impl Print, tally: Tally) -> io::Result<()> {
+    line(rt, b"refused ", tally[REFUSED])?;
+    line(rt, b"skipped ", tally[SKIPPED])?;
+    line(rt, b"mismatches ", tally[MISMATCHES])
 }
 
-fn main() {
+fn main(rt: HostRuntime) -> io::Result<()> {
     let mut tally = [0u64; COUNTS];
-    try_all(&mut tally);
-    report_checks(tally);
-    report_trials(tally);
-    report_sets(tally);
-    report_rest(tally);
+    try_all(&rt, &mut tally)?;
+    report_checks(&rt, tally)?;
+    report_trials(&rt, tally)?;
+    report_sets(&rt, tally)?;
+    report_rest(&rt, tally)
 }

@@ -4,6 +4,7 @@
 
 use call_member::Recognized;
 use member_table::STRETCH_CELLS;
+use std::io;
 use test_files::{
     HELD, SAMPLE, front, print, print_label, print_number, print_refused, put, sample,
 };
@@ -15,24 +16,26 @@ const OLD: u64 = 9;
 
 // ---- printing
 
-fn print_cell(i: usize, set: u64) {
+fn print_cell(rt: &impl Print, i: usize, set: u64) -> io::Result<()> {
     if set != 0 {
-        print(b" ");
-        print_number(i as u64);
-        print(b"=");
-        print_number(set);
+        print(rt, b" ")?;
+        print_number(rt, i as u64)?;
+        print(rt, b"=")?;
+        print_number(rt, set)?;
     }
+    Ok(())
 }
 
-fn print_cells(table: &[u64]) {
+fn print_cells(rt: &impl Print, table: &[u64]) -> io::Result<()> {
     let mut i: usize = 0;
     while i < table.len() {
-        print_cell(i, table[i]);
+        print_cell(rt, i, table[i])?;
         i += 1;
     }
+    Ok(())
 }
 
-fn print_kept(table: &[u64]) {
+fn print_kept(rt: &impl Print, table: &[u64]) -> io::Result<()> {
     let mut kept: usize = 0;
     let mut i: usize = 0;
     while i < table.len() {
@@ -41,58 +44,78 @@ fn print_kept(table: &[u64]) {
         }
         i += 1;
     }
-    print(b", kept ");
-    print_number(kept as u64);
+    print(rt, b", kept ")?;
+    print_number(rt, kept as u64)
 }
 
-fn print_recognized(answer: Recognized, table: &[u64]) {
+fn print_recognized(rt: &impl Print, answer: Recognized, table: &[u64]) -> io::Result<()> {
     match answer {
         Recognized::Derived => {
-            print(b"derived");
-            print_cells(table);
+            print(rt, b"derived")?;
+            print_cells(rt, table)?;
         }
         Recognized::NotDerived => {
-            print(b"not derived");
-            print_cells(table);
+            print(rt, b"not derived")?;
+            print_cells(rt, table)?;
         }
         Recognized::Refused(refusal) => {
-            print_refused(refusal);
-            print_kept(table);
+            print_refused(rt, refusal)?;
+            print_kept(rt, table)?;
         }
     }
-    print(b"\n");
+    print(rt, b"\n")
 }
 
 // ---- cases
 
-fn recognized(label: &[u8], file: &[u8], word: &[u8], table: &mut [u64]) {
-    print_label(label);
+fn recognized(
+    rt: &impl Print,
+    label: &[u8],
+    file: &[u8],
+    word: &[u8],
+    table: &mut [u64],
+) -> io::Result<()> {
+    print_label(rt, label)?;
     let answer = call_member::recognize(file, word, table);
-    print_recognized(answer, table);
+    print_recognized(rt, answer, table)
 }
 
-fn recognize(label: &[u8], file: &[u8; HELD], n: usize, word: &[u8]) {
+fn recognize(
+    rt: &impl Print,
+    label: &[u8],
+    file: &[u8; HELD],
+    n: usize,
+    word: &[u8],
+) -> io::Result<()> {
     let mut table = [OLD; STRETCH_CELLS];
-    recognized(label, front(file, n), word, &mut table);
+    recognized(rt, label, front(file, n), word, &mut table)
 }
 
-fn recognize_by(label: &[u8], file: &[u8; HELD], n: usize, word: &[u8], cells: usize) {
+fn recognize_by(
+    rt: &impl Print,
+    label: &[u8],
+    file: &[u8; HELD],
+    n: usize,
+    word: &[u8],
+    cells: usize,
+) -> io::Result<()> {
     let mut table = [OLD; LARGER];
     if cells <= LARGER {
-        recognized(label, front(file, n), word, &mut table[..cells]);
+        recognized(rt, label, front(file, n), word, &mut table[..cells])?;
     }
+    Ok(())
 }
 
-fn runs_of_plan_b() {
+fn runs_of_plan_b(rt: &impl Print) -> io::Result<()> {
     let mut file = [0u8; HELD];
     sample(&mut file);
-    recognize(b"run 1 2 3", &file, SAMPLE, &[1, 2, 3]);
-    recognize(b"run 2 1 3", &file, SAMPLE, &[2, 1, 3]);
-    recognize(b"the empty run on the empty file", &file, 0, b"");
+    recognize(rt, b"run 1 2 3", &file, SAMPLE, &[1, 2, 3])?;
+    recognize(rt, b"run 2 1 3", &file, SAMPLE, &[2, 1, 3])?;
+    recognize(rt, b"the empty run on the empty file", &file, 0, b"")
 }
 
 // Procedure 0 gives itself twice, the step 1 or nothing; procedure 1 gives only itself, and procedure 2 gives 1 or 0.
-fn empty_bodies_and_cycles() {
+fn empty_bodies_and_cycles(rt: &impl Print) -> io::Result<()> {
     let mut file = [0u8; HELD];
     put(&mut file, 0, [1, 0, 0, 0, 0, 0, 0, 0]);
     put(&mut file, 1, [1, 0, 1, 1, 0, 0, 0, 0]);
@@ -101,41 +124,41 @@ fn empty_bodies_and_cycles() {
     put(&mut file, 4, [1, 1, 2, 128, 129, 0, 0, 0]);
     put(&mut file, 5, [1, 2, 1, 128, 0, 0, 0, 0]);
     put(&mut file, 6, [1, 2, 1, 129, 0, 0, 0, 0]);
-    recognize(b"run 1 2 1", &file, 56, &[1, 2, 1]);
+    recognize(rt, b"run 1 2 1", &file, 56, &[1, 2, 1])
 }
 
 // Only the highest procedure has a run. The code 127 is a remark, and a step like any other here.
-fn highest_procedure() {
+fn highest_procedure(rt: &impl Print) -> io::Result<()> {
     let mut file = [0u8; HELD];
     put(&mut file, 0, [1, 0, 2, 191, 127, 0, 0, 0]);
     put(&mut file, 1, [1, 63, 1, 127, 0, 0, 0, 0]);
-    recognize(b"run 127 127", &file, 16, &[127, 127]);
+    recognize(rt, b"run 127 127", &file, 16, &[127, 127])
 }
 
-fn long_runs() {
+fn long_runs(rt: &impl Print) -> io::Result<()> {
     let mut file = [0u8; HELD];
     sample(&mut file);
     let mut long = [1u8; 65];
-    recognize(b"64 steps", &file, 0, &long[..64]);
-    recognize(b"65 steps", &file, SAMPLE, &long);
+    recognize(rt, b"64 steps", &file, 0, &long[..64])?;
+    recognize(rt, b"65 steps", &file, SAMPLE, &long)?;
     long[64] = 128;
-    recognize(b"65 steps, the last 128", &file, SAMPLE, &long);
+    recognize(rt, b"65 steps, the last 128", &file, SAMPLE, &long)
 }
 
-fn other_tables() {
+fn other_tables(rt: &impl Print) -> io::Result<()> {
     let mut file = [0u8; HELD];
     sample(&mut file);
     let long = [1u8; 65];
-    recognize_by(b"2,144 cells", &file, SAMPLE, &[3], 2144);
-    recognize_by(b"2,146 cells", &file, SAMPLE, &[3], 2146);
-    recognize_by(b"65 steps and 2,144 cells", &file, SAMPLE, &long, 2144);
-    recognize_by(b"65 steps and no cell on 71 bytes", &file, 71, &long, 0);
+    recognize_by(rt, b"2,144 cells", &file, SAMPLE, &[3], 2144)?;
+    recognize_by(rt, b"2,146 cells", &file, SAMPLE, &[3], 2146)?;
+    recognize_by(rt, b"65 steps and 2,144 cells", &file, SAMPLE, &long, 2144)?;
+    recognize_by(rt, b"65 steps and no cell on 71 bytes", &file, 71, &long, 0)
 }
 
-fn main() {
-    runs_of_plan_b();
-    empty_bodies_and_cycles();
-    highest_procedure();
-    long_runs();
-    other_tables();
+fn main(rt: HostRuntime) -> io::Result<()> {
+    runs_of_plan_b(&rt)?;
+    empty_bodies_and_cycles(&rt)?;
+    highest_procedure(&rt)?;
+    long_runs(&rt)?;
+    other_tables(&rt)
 }

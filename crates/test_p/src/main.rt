@@ -2,9 +2,9 @@
 // The stored output is what document 01 asks for, and for plans without runs what C-15 of document 02 does; test_judging compares the judged runs.
 #![tactic(auto)]
 
-use libc::STDOUT_FILENO;
 use relation::Relation;
 use spec_calls::{INITIAL_ALONE, Options, Row};
+use std::io;
 
 // Plan A with sheet S.
 const PLAN_A: [u8; 64] = [
@@ -36,7 +36,7 @@ const SYMBOL_192: [u8; 8] = [1, 0, 1, 192, 0, 0, 0, 0];
 const EQUAL: [u8; 16] = [1, 0, 0, 0, 0, 0, 0, 0, 1, 0, 0, 0, 0, 0, 0, 0];
 
 // Prints the text of a check of `file` over `rows` rows, each initialised to `old`, with a budget of `budget` joins.
-fn print(file: &[u8], rows: usize, old: Row, budget: u64) {
+fn print(rt: &impl Print, file: &[u8], rows: usize, old: Row, budget: u64) -> io::Result<()> {
     let mut text = [0u8; host_report::TEXT];
     let size = host_report::render(
         file,
@@ -48,16 +48,16 @@ fn print(file: &[u8], rows: usize, old: Row, budget: u64) {
         },
         &mut text,
     );
-    io::write_all(STDOUT_FILENO, &text[..size]);
+    rt.write_all(&text[..size])
 }
 
-fn with_1024(file: &[u8], budget: u64) {
-    print(file, 1024, Row::blank(), budget);
+fn with_1024(rt: &impl Print, file: &[u8], budget: u64) -> io::Result<()> {
+    print(rt, file, 1024, Row::blank(), budget)
 }
 
 // Prints the text of a check of `file` over `rows` rows of zeros, with the check program's budget.
-fn with_rows(file: &[u8], rows: usize) {
-    print(file, rows, Row::blank(), 1000000);
+fn with_rows(rt: &impl Print, file: &[u8], rows: usize) -> io::Result<()> {
+    print(rt, file, rows, Row::blank(), 1000000)
 }
 
 // A row that holds 7s.
@@ -76,63 +76,63 @@ fn sevens() -> Row {
 }
 
 // Checks over a journal of other old contents, which do not matter.
-fn with_old_rows(file: &[u8]) {
-    print(file, 1024, sevens(), 1000000);
+fn with_old_rows(rt: &impl Print, file: &[u8]) -> io::Result<()> {
+    print(rt, file, 1024, sevens(), 1000000)
 }
 
-fn plan_a() {
+fn plan_a(rt: &impl Print) -> io::Result<()> {
     let file = PLAN_A;
-    with_1024(&file, 1000000);
-    with_1024(&file, 11);
-    with_1024(&file, 12);
-    with_rows(&file, 3);
-    with_rows(&file, 4);
-    with_old_rows(&file);
-    with_rows(&file, 0);
+    with_1024(rt, &file, 1000000)?;
+    with_1024(rt, &file, 11)?;
+    with_1024(rt, &file, 12)?;
+    with_rows(rt, &file, 3)?;
+    with_rows(rt, &file, 4)?;
+    with_old_rows(rt, &file)?;
+    with_rows(rt, &file, 0)
 }
 
-fn plan_b() {
+fn plan_b(rt: &impl Print) -> io::Result<()> {
     let file = PLAN_B;
-    with_1024(&file, 1000000);
-    with_old_rows(&file);
+    with_1024(rt, &file, 1000000)?;
+    with_old_rows(rt, &file)
 }
 
-fn small_files() {
+fn small_files(rt: &impl Print) -> io::Result<()> {
     let none = [0u8; 0];
-    with_1024(&none, 0);
+    with_1024(rt, &none, 0)?;
     let lone = LONE;
-    with_1024(&lone, 1000000);
+    with_1024(rt, &lone, 1000000)?;
     let last = LONE_FINAL;
-    with_1024(&last, 1000000);
+    with_1024(rt, &last, 1000000)
 }
 
 // Plans without runs: the answer is empty, unless the rows or the joins run out first.
-fn without_runs() {
+fn without_runs(rt: &impl Print) -> io::Result<()> {
     let endless = ENDLESS;
-    with_1024(&endless, 1000000);
-    print(&endless, 1, sevens(), 2);
-    with_1024(&endless, 1);
+    with_1024(rt, &endless, 1000000)?;
+    print(rt, &endless, 1, sevens(), 2)?;
+    with_1024(rt, &endless, 1)?;
     let plan = PLAN_A;
     let headless = &plan[8..];
-    with_1024(headless, 1000000);
-    with_rows(headless, 3);
-    with_rows(headless, 2);
-    with_1024(headless, 8);
+    with_1024(rt, headless, 1000000)?;
+    with_rows(rt, headless, 3)?;
+    with_rows(rt, headless, 2)?;
+    with_1024(rt, headless, 8)
 }
 
-fn symbols() {
+fn symbols(rt: &impl Print) -> io::Result<()> {
     let high = SYMBOL_191;
-    with_1024(&high, 1000000);
+    with_1024(rt, &high, 1000000)?;
     let above = SYMBOL_192;
-    with_1024(&above, 1000000);
+    with_1024(rt, &above, 1000000)?;
     let equal = EQUAL;
-    with_1024(&equal, 1000000);
+    with_1024(rt, &equal, 1000000)
 }
 
-fn main() {
-    plan_a();
-    plan_b();
-    small_files();
-    without_runs();
-    symbols();
+fn main(rt: HostRuntime) -> io::Result<()> {
+    plan_a(&rt)?;
+    plan_b(&rt)?;
+    small_files(&rt)?;
+    without_runs(&rt)?;
+    symbols(&rt)
 }

@@ -5,6 +5,7 @@
 use call_move::Moved;
 use file_wide_checks::WideRecord;
 use spec_calls::INITIAL_ALONE;
+use std::io;
 use test_files::{
     HELD, LARGEST, SAMPLE, fill, front, print, print_bytes, print_label, print_number,
     print_refused, sample,
@@ -23,7 +24,7 @@ const OLD: u8 = 255;
 
 // ---- printing
 
-fn print_kept(out: &[u8]) {
+fn print_kept(rt: &impl Print, out: &[u8]) -> io::Result<()> {
     let mut kept: usize = 0;
     let mut i: usize = 0;
     while i < out.len() {
@@ -32,32 +33,32 @@ fn print_kept(out: &[u8]) {
         }
         i += 1;
     }
-    print(b", kept ");
-    print_number(kept as u64);
-    print(b"\n");
+    print(rt, b", kept ")?;
+    print_number(rt, kept as u64)?;
+    print(rt, b"\n")
 }
 
 // Prints the result too, where it is short.
-fn print_moved(answer: Moved, out: &[u8]) {
+fn print_moved(rt: &impl Print, answer: Moved, out: &[u8]) -> io::Result<()> {
     match answer {
         Moved::Length(n) => {
-            print_number(n as u64);
-            print(b" bytes");
+            print_number(rt, n as u64)?;
+            print(rt, b" bytes")?;
             if n < 65 {
-                print_bytes(front(out, n));
+                print_bytes(rt, front(out, n))?;
             }
         }
         Moved::Refused(refusal) => {
-            print_refused(refusal);
+            print_refused(rt, refusal)?;
         }
     }
-    print_kept(out);
+    print_kept(rt, out)
 }
 
 // Prints how many bytes of `a` differ from those at the front of `b`, which is not shorter.
-fn print_differing(a: &[u8], b: &[u8]) {
+fn print_differing(rt: &impl Print, a: &[u8], b: &[u8]) -> io::Result<()> {
     if b.len() < a.len() {
-        return;
+        return Ok(());
     }
     let mut differing: usize = 0;
     let mut i: usize = 0;
@@ -67,62 +68,83 @@ fn print_differing(a: &[u8], b: &[u8]) {
         }
         i += 1;
     }
-    print(b"  bytes that differ: ");
-    print_number(differing as u64);
-    print(b"\n");
+    print(rt, b"  bytes that differ: ")?;
+    print_number(rt, differing as u64)?;
+    print(rt, b"\n")
 }
 
 // ---- calls
 
-fn widen(label: &[u8], file: &[u8], out: &mut [u8]) {
-    print_label(label);
+fn widen(rt: &impl Print, label: &[u8], file: &[u8], out: &mut [u8]) -> io::Result<()> {
+    print_label(rt, label)?;
     let answer = call_move::widen(file, out);
-    print_moved(answer, out);
+    print_moved(rt, answer, out)
 }
 
-fn narrow(label: &[u8], file: &[u8], out: &mut [u8]) {
-    print_label(label);
+fn narrow(rt: &impl Print, label: &[u8], file: &[u8], out: &mut [u8]) -> io::Result<()> {
+    print_label(rt, label)?;
     let answer = call_move::narrow(file, out);
-    print_moved(answer, out);
+    print_moved(rt, answer, out)
 }
 
-fn unfold(label: &[u8], file: &[u8], out: &mut [u8]) {
-    print_label(label);
+fn unfold(rt: &impl Print, label: &[u8], file: &[u8], out: &mut [u8]) -> io::Result<()> {
+    print_label(rt, label)?;
     let answer = call_unfold::unfold(file, INITIAL_ALONE, out);
-    print_moved(answer, out);
+    print_moved(rt, answer, out)
 }
 
-fn narrow_all(label: &[u8], file: &[u8; WIDE], n: usize) {
+fn narrow_all(rt: &impl Print, label: &[u8], file: &[u8; WIDE], n: usize) -> io::Result<()> {
     let mut out = [OLD; ROOM];
-    narrow(label, front(file, n), &mut out);
+    narrow(rt, label, front(file, n), &mut out)
 }
 
-fn unfold_all(label: &[u8], file: &[u8; WIDE], n: usize) {
+fn unfold_all(rt: &impl Print, label: &[u8], file: &[u8; WIDE], n: usize) -> io::Result<()> {
     let mut out = [OLD; ROOM];
-    unfold(label, front(file, n), &mut out);
+    unfold(rt, label, front(file, n), &mut out)
 }
 
 // The same with an output of `room` bytes.
 
-fn widen_by(label: &[u8], file: &[u8; HELD], n: usize, room: usize) {
+fn widen_by(
+    rt: &impl Print,
+    label: &[u8],
+    file: &[u8; HELD],
+    n: usize,
+    room: usize,
+) -> io::Result<()> {
     let mut out = [OLD; ROOM];
     if room <= ROOM {
-        widen(label, front(file, n), &mut out[..room]);
+        widen(rt, label, front(file, n), &mut out[..room])?;
     }
+    Ok(())
 }
 
-fn narrow_by(label: &[u8], file: &[u8; WIDE], n: usize, room: usize) {
+fn narrow_by(
+    rt: &impl Print,
+    label: &[u8],
+    file: &[u8; WIDE],
+    n: usize,
+    room: usize,
+) -> io::Result<()> {
     let mut out = [OLD; ROOM];
     if room <= ROOM {
-        narrow(label, front(file, n), &mut out[..room]);
+        narrow(rt, label, front(file, n), &mut out[..room])?;
     }
+    Ok(())
 }
 
-fn unfold_by(label: &[u8], file: &[u8; WIDE], n: usize, room: usize) {
+fn unfold_by(
+    rt: &impl Print,
+    label: &[u8],
+    file: &[u8; WIDE],
+    n: usize,
+    room: usize,
+) -> io::Result<()> {
     let mut out = [OLD; ROOM];
     if room <= ROOM {
-        unfold(label, front(file, n), &mut out[..room]);
+        unfold(rt, label, front(file, n), &mut out[..room])?;
     }
+    Ok(())
 }
 
 // ---- making files of sixteen-byte records
@@ -134,30 +156,30 @@ fn put(file: &mut [u8; WIDE], i: usize, r: WideRecord) {
     }
 }
 
-fn narrow_one(label: &[u8], r: WideRecord) {
+fn narrow_one(rt: &impl Print, label: &[u8], r: WideRecord) -> io::Result<()> {
     let mut file = [0u8; WIDE];
     put(&mut file, 0, r);
-    narrow_all(label, &file, 16);
+    narrow_all(rt, label, &file, 16)
 }
 
-fn unfold_one(label: &[u8], r: WideRecord) {
+fn unfold_one(rt: &impl Print, label: &[u8], r: WideRecord) -> io::Result<()> {
     let mut file = [0u8; WIDE];
     put(&mut file, 0, r);
-    unfold_all(label, &file, 16);
+    unfold_all(rt, label, &file, 16)
 }
 
-fn narrow_two(label: &[u8], r: WideRecord, s: WideRecord) {
+fn narrow_two(rt: &impl Print, label: &[u8], r: WideRecord, s: WideRecord) -> io::Result<()> {
     let mut file = [0u8; WIDE];
     put(&mut file, 0, r);
     put(&mut file, 1, s);
-    narrow_all(label, &file, 32);
+    narrow_all(rt, label, &file, 32)
 }
 
-fn unfold_two(label: &[u8], r: WideRecord, s: WideRecord) {
+fn unfold_two(rt: &impl Print, label: &[u8], r: WideRecord, s: WideRecord) -> io::Result<()> {
     let mut file = [0u8; WIDE];
     put(&mut file, 0, r);
     put(&mut file, 1, s);
-    unfold_all(label, &file, 32);
+    unfold_all(rt, label, &file, 32)
 }
 
 // Stores a rule with an empty body for each of the first `n` procedures.
@@ -191,98 +213,126 @@ fn put_rules(file: &mut [u8; WIDE], n: usize) {
 // ---- cases
 
 // Moves the first `n` bytes of `file` over, which gives `m` bytes, and these back, and unfolds them.
-fn over_and_back(label: &[u8], file: &[u8; HELD], n: usize, m: usize) {
+fn over_and_back(
+    rt: &impl Print,
+    label: &[u8],
+    file: &[u8; HELD],
+    n: usize,
+    m: usize,
+) -> io::Result<()> {
     let mut wide = [OLD; WIDE];
-    widen(label, front(file, n), &mut wide);
+    widen(rt, label, front(file, n), &mut wide)?;
     let mut back = [OLD; HELD];
-    narrow(b"and back", front(&wide, m), &mut back);
-    print_differing(front(file, n), &back);
+    narrow(rt, b"and back", front(&wide, m), &mut back)?;
+    print_differing(rt, front(file, n), &back)?;
     let mut unfolded = [OLD; HELD];
-    unfold(b"and unfolded", front(&wide, m), &mut unfolded);
-    print_differing(front(file, n), &unfolded);
+    unfold(rt, b"and unfolded", front(&wide, m), &mut unfolded)?;
+    print_differing(rt, front(file, n), &unfolded)
 }
 
-fn old_files() {
+fn old_files(rt: &impl Print) -> io::Result<()> {
     let mut file = [0u8; HELD];
     sample(&mut file);
-    over_and_back(b"plan B moved over", &file, SAMPLE, SAMPLE * 2);
+    over_and_back(rt, b"plan B moved over", &file, SAMPLE, SAMPLE * 2)?;
     fill(&mut file, 256, 1024);
-    over_and_back(b"1,296 records moved over", &file, LARGEST, LARGEST * 2);
+    over_and_back(rt, b"1,296 records moved over", &file, LARGEST, LARGEST * 2)
 }
 
-fn small_files() {
+fn small_files(rt: &impl Print) -> io::Result<()> {
     let record = [1u8, 0, 2, 129, 3, 0, 0, 0];
     let mut wide = [OLD; 20];
-    widen(b"one record moved over", &record, &mut wide);
+    widen(rt, b"one record moved over", &record, &mut wide)?;
     let mut back = [OLD; 20];
-    narrow(b"and back", front(&wide, 16), &mut back);
-    widen(b"the empty file moved over", front(&record, 0), &mut back);
-    narrow(b"the empty file moved back", front(&record, 0), &mut back);
-    unfold(b"the empty file unfolded", front(&record, 0), &mut back);
+    narrow(rt, b"and back", front(&wide, 16), &mut back)?;
+    widen(
+        rt,
+        b"the empty file moved over",
+        front(&record, 0),
+        &mut back,
+    )?;
+    narrow(
+        rt,
+        b"the empty file moved back",
+        front(&record, 0),
+        &mut back,
+    )?;
+    unfold(rt, b"the empty file unfolded", front(&record, 0), &mut back)
 }
 
-fn bodies() {
+fn bodies(rt: &impl Print) -> io::Result<()> {
     unfold_one(
+        rt,
         b"a body of 5",
         [1, 0, 5, 1, 2, 3, 4, 5, 0, 0, 0, 0, 0, 0, 0, 0],
-    );
+    )?;
     narrow_one(
+        rt,
         b"a body of 5 moved back",
         [1, 0, 5, 1, 2, 3, 4, 5, 0, 0, 0, 0, 0, 0, 0, 0],
-    );
+    )?;
     unfold_one(
+        rt,
         b"a body of 3",
         [1, 0, 3, 1, 130, 3, 0, 0, 0, 0, 0, 0, 0, 0, 0, 0],
-    );
+    )?;
     narrow_one(
+        rt,
         b"a body of 3 moved back",
         [1, 0, 3, 1, 130, 3, 0, 0, 0, 0, 0, 0, 0, 0, 0, 0],
-    );
+    )?;
     unfold_one(
+        rt,
         b"a body of 2",
         [1, 0, 2, 1, 130, 0, 0, 0, 0, 0, 0, 0, 0, 0, 0, 0],
-    );
+    )?;
     narrow_one(
+        rt,
         b"a body of 2 moved back",
         [1, 0, 2, 1, 130, 0, 0, 0, 0, 0, 0, 0, 0, 0, 0, 0],
-    );
+    )?;
     unfold_one(
+        rt,
         b"an empty body",
         [1, 0, 0, 0, 0, 0, 0, 0, 0, 0, 0, 0, 0, 0, 0, 0],
-    );
+    )
 }
 
-fn long_bodies() {
+fn long_bodies(rt: &impl Print) -> io::Result<()> {
     unfold_one(
+        rt,
         b"a body of 12",
         [1, 0, 12, 1, 2, 3, 4, 5, 6, 7, 8, 9, 10, 11, 12, 0],
-    );
+    )?;
     unfold_one(
+        rt,
         b"a body of 13",
         [1, 0, 13, 1, 2, 3, 4, 5, 6, 7, 8, 9, 10, 11, 12, 0],
-    );
+    )?;
     unfold_one(
+        rt,
         b"symbol 192 at the end of a body of 12",
         [1, 0, 12, 1, 2, 3, 4, 5, 6, 7, 8, 9, 10, 11, 192, 0],
-    );
+    )
 }
 
 // Two rules with a long body each: the second chain is numbered behind the first, and the rules are put in file order.
-fn two_chains() {
+fn two_chains(rt: &impl Print) -> io::Result<()> {
     let first = [1u8, 0, 4, 1, 2, 3, 4, 0, 0, 0, 0, 0, 0, 0, 0, 0];
     unfold_two(
+        rt,
         b"two chains",
         first,
         [1, 1, 3, 5, 128, 7, 0, 0, 0, 0, 0, 0, 0, 0, 0, 0],
-    );
+    )?;
     unfold_two(
+        rt,
         b"procedure 8 is in use as a symbol",
         first,
         [1, 1, 3, 5, 136, 7, 0, 0, 0, 0, 0, 0, 0, 0, 0, 0],
-    );
+    )
 }
 
-fn with_a_sheet() {
+fn with_a_sheet(rt: &impl Print) -> io::Result<()> {
     let mut file = [0u8; WIDE];
     put(
         &mut file,
@@ -299,147 +349,161 @@ fn with_a_sheet() {
         2,
         [3, 1, 0, 0, 0, 0, 0, 0, 0, 0, 0, 0, 0, 0, 0, 0],
     );
-    unfold_all(b"a chain, a move and a finishing stage", &file, 48);
+    unfold_all(rt, b"a chain, a move and a finishing stage", &file, 48)
 }
 
-fn bytes_that_are_not_used() {
+fn bytes_that_are_not_used(rt: &impl Print) -> io::Result<()> {
     unfold_one(
+        rt,
         b"byte 15 of a rule",
         [1, 0, 12, 1, 2, 3, 4, 5, 6, 7, 8, 9, 10, 11, 12, 1],
-    );
+    )?;
     narrow_one(
+        rt,
         b"byte 14 of a body of 2",
         [1, 0, 2, 1, 2, 0, 0, 0, 0, 0, 0, 0, 0, 0, 1, 0],
-    );
+    )?;
     narrow_one(
+        rt,
         b"byte 15 of a move",
         [2, 0, 1, 1, 0, 0, 0, 0, 0, 0, 0, 0, 0, 0, 0, 1],
-    );
+    )?;
     narrow_one(
+        rt,
         b"byte 8 of a finishing stage",
         [3, 0, 0, 0, 0, 0, 0, 0, 1, 0, 0, 0, 0, 0, 0, 0],
-    );
+    )
 }
 
-fn records_refused() {
+fn records_refused(rt: &impl Print) -> io::Result<()> {
     let long = [1u8, 0, 12, 1, 2, 3, 4, 5, 6, 7, 8, 9, 10, 11, 12, 0];
-    unfold_two(b"two equal records", long, long);
+    unfold_two(rt, b"two equal records", long, long)?;
     unfold_two(
+        rt,
         b"byte 14 falls",
         long,
         [1, 0, 12, 1, 2, 3, 4, 5, 6, 7, 8, 9, 10, 11, 11, 0],
-    );
+    )?;
     narrow_two(
+        rt,
         b"a move on a remark behind a long body",
         long,
         [2, 0, 120, 1, 0, 0, 0, 0, 0, 0, 0, 0, 0, 0, 0, 0],
-    );
+    )?;
     unfold_two(
+        rt,
         b"kind 4",
         long,
         [4, 0, 0, 0, 0, 0, 0, 0, 0, 0, 0, 0, 0, 0, 0, 0],
-    );
+    )?;
     unfold_two(
+        rt,
         b"stage 16",
         long,
         [2, 16, 1, 1, 0, 0, 0, 0, 0, 0, 0, 0, 0, 0, 0, 0],
-    );
+    )
 }
 
-fn lengths() {
+fn lengths(rt: &impl Print) -> io::Result<()> {
     let mut file = [0u8; WIDE];
     put_rules(&mut file, RECORDS);
-    unfold_all(b"8 bytes", &file, 8);
-    narrow_all(b"17 bytes", &file, 17);
-    narrow_all(b"20,751 bytes", &file, 20751);
-    narrow_all(b"1,297 records", &file, 20752);
-    narrow_all(b"1,296 records, all rules", &file, 20736);
+    unfold_all(rt, b"8 bytes", &file, 8)?;
+    narrow_all(rt, b"17 bytes", &file, 17)?;
+    narrow_all(rt, b"20,751 bytes", &file, 20751)?;
+    narrow_all(rt, b"1,297 records", &file, 20752)?;
+    narrow_all(rt, b"1,296 records, all rules", &file, 20736)?;
     let old = [0u8; HELD];
-    widen_by(b"17 bytes moved over", &old, 17, ROOM);
+    widen_by(rt, b"17 bytes moved over", &old, 17, ROOM)
 }
 
 // 63 procedures with an empty body each, and then the rule `r`.
-fn behind_procedures(label: &[u8], r: WideRecord) {
+fn behind_procedures(rt: &impl Print, label: &[u8], r: WideRecord) -> io::Result<()> {
     let mut file = [0u8; WIDE];
     put_procedures(&mut file, 63);
     put(&mut file, 63, r);
-    unfold_all(label, &file, 1024);
+    unfold_all(rt, label, &file, 1024)
 }
 
-fn procedures() {
+fn procedures(rt: &impl Print) -> io::Result<()> {
     behind_procedures(
+        rt,
         b"63 procedures and a body of 3",
         [1, 62, 3, 1, 2, 3, 0, 0, 0, 0, 0, 0, 0, 0, 0, 0],
-    );
+    )?;
     behind_procedures(
+        rt,
         b"63 procedures and a body of 4",
         [1, 62, 4, 1, 2, 3, 4, 0, 0, 0, 0, 0, 0, 0, 0, 0],
-    );
+    )?;
     behind_procedures(
+        rt,
         b"procedure 63 in use as a symbol, and a body of 3",
         [1, 62, 3, 1, 2, 191, 0, 0, 0, 0, 0, 0, 0, 0, 0, 0],
-    );
+    )?;
     behind_procedures(
+        rt,
         b"64 procedures and a body of 2",
         [1, 63, 2, 1, 191, 0, 0, 0, 0, 0, 0, 0, 0, 0, 0, 0],
-    );
+    )
 }
 
 // 250 rules, and then the rule `r`.
-fn behind_rules(label: &[u8], r: WideRecord) {
+fn behind_rules(rt: &impl Print, label: &[u8], r: WideRecord) -> io::Result<()> {
     let mut file = [0u8; WIDE];
     put_rules(&mut file, 250);
     put(&mut file, 250, r);
-    unfold_all(label, &file, 4016);
+    unfold_all(rt, label, &file, 4016)
 }
 
-fn rules() {
+fn rules(rt: &impl Print) -> io::Result<()> {
     behind_rules(
+        rt,
         b"256 rules after unfolding",
         [1, 2, 7, 1, 2, 3, 4, 5, 6, 7, 0, 0, 0, 0, 0, 0],
-    );
+    )?;
     behind_rules(
+        rt,
         b"257 rules after unfolding",
         [1, 2, 8, 1, 2, 3, 4, 5, 6, 7, 8, 0, 0, 0, 0, 0],
-    );
+    )
 }
 
-fn rooms() {
+fn rooms(rt: &impl Print) -> io::Result<()> {
     let mut file = [0u8; HELD];
     sample(&mut file);
-    widen_by(b"143 bytes of room for plan B", &file, SAMPLE, 143);
-    widen_by(b"144 bytes of room", &file, SAMPLE, 144);
+    widen_by(rt, b"143 bytes of room for plan B", &file, SAMPLE, 143)?;
+    widen_by(rt, b"144 bytes of room", &file, SAMPLE, 144)
 }
 
-fn rooms_for(r: WideRecord) {
+fn rooms_for(rt: &impl Print, r: WideRecord) -> io::Result<()> {
     let mut file = [0u8; WIDE];
     put(&mut file, 0, r);
-    narrow_by(b"7 bytes of room to move a record back", &file, 16, 7);
-    narrow_by(b"8 bytes of room", &file, 16, 8);
-    unfold_by(b"7 bytes of room to unfold it", &file, 16, 7);
-    unfold_by(b"15 bytes of room", &file, 16, 15);
-    unfold_by(b"16 bytes of room", &file, 16, 16);
-    unfold_by(b"no room and a torn record", &file, 15, 0);
+    narrow_by(rt, b"7 bytes of room to move a record back", &file, 16, 7)?;
+    narrow_by(rt, b"8 bytes of room", &file, 16, 8)?;
+    unfold_by(rt, b"7 bytes of room to unfold it", &file, 16, 7)?;
+    unfold_by(rt, b"15 bytes of room", &file, 16, 15)?;
+    unfold_by(rt, b"16 bytes of room", &file, 16, 16)?;
+    unfold_by(rt, b"no room and a torn record", &file, 15, 0)
 }
 
-fn other_rooms() {
-    rooms_for([1, 0, 2, 1, 2, 0, 0, 0, 0, 0, 0, 0, 0, 0, 0, 0]);
-    rooms_for([1, 0, 3, 1, 2, 3, 0, 0, 0, 0, 0, 0, 0, 0, 0, 0]);
-    rooms_for([1, 63, 3, 1, 2, 3, 0, 0, 0, 0, 0, 0, 0, 0, 0, 0]);
+fn other_rooms(rt: &impl Print) -> io::Result<()> {
+    rooms_for(rt, [1, 0, 2, 1, 2, 0, 0, 0, 0, 0, 0, 0, 0, 0, 0, 0])?;
+    rooms_for(rt, [1, 0, 3, 1, 2, 3, 0, 0, 0, 0, 0, 0, 0, 0, 0, 0])?;
+    rooms_for(rt, [1, 63, 3, 1, 2, 3, 0, 0, 0, 0, 0, 0, 0, 0, 0, 0])
 }
 
-fn main() {
-    old_files();
-    small_files();
-    bodies();
-    long_bodies();
-    two_chains();
-    with_a_sheet();
-    bytes_that_are_not_used();
-    records_refused();
-    lengths();
-    procedures();
-    rules();
-    rooms();
-    other_rooms();
+fn main(rt: HostRuntime) -> io::Result<()> {
+    old_files(&rt)?;
+    small_files(&rt)?;
+    bodies(&rt)?;
+    long_bodies(&rt)?;
+    two_chains(&rt)?;
+    with_a_sheet(&rt)?;
+    bytes_that_are_not_used(&rt)?;
+    records_refused(&rt)?;
+    lengths(&rt)?;
+    procedures(&rt)?;
+    rules(&rt)?;
+    rooms(&rt)?;
+    other_rooms(&rt)
 }

@@ -5,6 +5,7 @@
 use call_write::Writing;
 use relation::Relation;
 use spec_calls::{ABSENT, INITIAL_ALONE, Options, Row};
+use std::io;
 use test_damaged::write_damaged;
 use test_files::{
     HELD, SAMPLE, front, print, print_byte, print_number, print_refused, put, sample,
@@ -71,24 +72,25 @@ const BIRTH: u64 = 6;
 
 const RETIRED: u64 = 7;
 
-fn print_field(field: u64) {
+fn print_field(rt: &impl Print, field: u64) -> io::Result<()> {
     if field == PROCEDURE {
-        print(b"procedure ");
+        print(rt, b"procedure ")?;
     } else if field == RULE {
-        print(b"rule ");
+        print(rt, b"rule ")?;
     } else if field == EFFECT {
-        print(b"effect ");
+        print(rt, b"effect ")?;
     } else if field == LEFT {
-        print(b"left ");
+        print(rt, b"left ")?;
     } else if field == RIGHT {
-        print(b"right ");
+        print(rt, b"right ")?;
     } else if field == LENGTH {
-        print(b"length ");
+        print(rt, b"length ")?;
     } else if field == BIRTH {
-        print(b"birth ");
+        print(rt, b"birth ")?;
     } else {
-        print(b"retired ");
+        print(rt, b"retired ")?;
     }
+    Ok(())
 }
 
 // Returns `x` if the two fields are the same, else `old`.
@@ -178,71 +180,75 @@ fn changed(buffer: &[u8]) -> u64 {
 }
 
 // Prints the byte `x`, if it has been written.
-fn print_written(x: u8) {
+fn print_written(rt: &impl Print, x: u8) -> io::Result<()> {
     if x != MARK {
-        print_byte(x);
+        print_byte(rt, x)?;
     }
+    Ok(())
 }
 
 // Prints the steps at the front of `buffer`, up to eight.
-fn print_front(buffer: &[u8; BUFFER]) {
+fn print_front(rt: &impl Print, buffer: &[u8; BUFFER]) -> io::Result<()> {
     let mut i: usize = 0;
     while i < 8 {
-        print_written(buffer[i]);
+        print_written(rt, buffer[i])?;
         i += 1;
     }
+    Ok(())
 }
 
 // Prints the length `n` of a run, and its steps if they are at most eight.
-fn print_run(buffer: &[u8; BUFFER], n: usize) {
-    print_number(n as u64);
-    print(b" steps");
+fn print_run(rt: &impl Print, buffer: &[u8; BUFFER], n: usize) -> io::Result<()> {
+    print_number(rt, n as u64)?;
+    print(rt, b" steps")?;
     if n <= 8 {
-        print(b":");
-        print_front(buffer);
+        print(rt, b":")?;
+        print_front(rt, buffer)?;
     }
+    Ok(())
 }
 
-fn print_outcome(writing: Writing, buffer: &[u8; BUFFER]) {
+fn print_outcome(rt: &impl Print, writing: Writing, buffer: &[u8; BUFFER]) -> io::Result<()> {
     match writing {
-        Writing::Refused(refusal) => print_refused(refusal),
-        Writing::Length(n) => print_run(buffer, n),
+        Writing::Refused(refusal) => print_refused(rt, refusal)?,
+        Writing::Length(n) => print_run(rt, buffer, n)?,
     }
-    print(b"; ");
-    print_number(changed(buffer));
-    print(b" bytes changed\n");
+    print(rt, b"; ")?;
+    print_number(rt, changed(buffer))?;
+    print(rt, b" bytes changed\n")
 }
 
 // Prints what is asked, and then the result.
-fn ask(file: &[u8], place: usize, row: Row, asked: Asked) {
-    print(b"row ");
-    print_number(asked.named as u64);
-    print(b" of ");
-    print_number(asked.used as u64);
-    print(b" used, ");
-    print_number(asked.lent as u64);
-    print(b" lent, into ");
-    print_number(asked.room as u64);
-    print(b" bytes: ");
+fn ask(rt: &impl Print, file: &[u8], place: usize, row: Row, asked: Asked) -> io::Result<()> {
+    print(rt, b"row ")?;
+    print_number(rt, asked.named as u64)?;
+    print(rt, b" of ")?;
+    print_number(rt, asked.used as u64)?;
+    print(rt, b" used, ")?;
+    print_number(rt, asked.lent as u64)?;
+    print(rt, b" lent, into ")?;
+    print_number(rt, asked.room as u64)?;
+    print(rt, b" bytes: ")?;
     let mut buffer = [MARK; BUFFER];
     let writing = written(file, place, row, asked, &mut buffer);
-    print_outcome(writing, &buffer);
+    print_outcome(rt, writing, &buffer)
 }
 
 // ---- tables of cases
 
 // Asks of the journal as the check left it: row 0 is stored in its own place.
-fn sound(file: &[u8], asked: Asked) {
-    ask(file, 0, row_at(file, asked.lent, 0), asked);
+fn sound(rt: &impl Print, file: &[u8], asked: Asked) -> io::Result<()> {
+    ask(rt, file, 0, row_at(file, asked.lent, 0), asked)
 }
 
 // Asks each case: rows lent, rows used, the row that is named, bytes of the buffer.
-fn sounds(file: &[u8], cases: &[[usize; 4]]) {
+fn sounds(rt: &impl Print, file: &[u8], cases: &[[usize; 4]]) -> io::Result<()> {
     let mut i: usize = 0;
     while i < cases.len() {
-        sound(file, asked_in(cases[i]));
+        sound(rt, file, asked_in(cases[i]))?;
         i += 1;
     }
+    Ok(())
 }
 
 fn asked_in(case: [usize; 4]) -> Asked {
@@ -255,65 +261,82 @@ fn asked_in(case: [usize; 4]) -> Asked {
 }
 
 // Asks of the journal with one field of one row replaced.
-fn damage(file: &[u8], case: [u64; 4], lent: usize, used: usize, room: usize) {
+fn damage(
+    rt: &impl Print,
+    file: &[u8],
+    case: [u64; 4],
+    lent: usize,
+    used: usize,
+    room: usize,
+) -> io::Result<()> {
     let place = case[0] as usize;
     let field = case[1];
     let x = case[2];
     let asked = asked_in([lent, used, case[3] as usize, room]);
-    print(b"row ");
-    print_number(place as u64);
-    print(b" with ");
-    print_field(field);
-    print_number(x);
-    print(b", ");
+    print(rt, b"row ")?;
+    print_number(rt, place as u64)?;
+    print(rt, b" with ")?;
+    print_field(rt, field)?;
+    print_number(rt, x)?;
+    print(rt, b", ")?;
     ask(
+        rt,
         file,
         place,
         with(row_at(file, lent, place), field, x),
         asked,
-    );
+    )
 }
 
 // Each case: the place, the field, what is stored there, and the row that is named.
-fn damages(file: &[u8], cases: &[[u64; 4]], lent: usize, used: usize, room: usize) {
+fn damages(
+    rt: &impl Print,
+    file: &[u8],
+    cases: &[[u64; 4]],
+    lent: usize,
+    used: usize,
+    room: usize,
+) -> io::Result<()> {
     let mut i: usize = 0;
     while i < cases.len() {
-        damage(file, cases[i], lent, used, room);
+        damage(rt, file, cases[i], lent, used, room)?;
         i += 1;
     }
+    Ok(())
 }
 
 // Another row at place 2: procedure, rule, left, right, length, and the row that is named.
-fn replace(file: &[u8], case: [u64; 6]) {
-    print(b"row 2 as");
-    print_next(case[0]);
-    print_next(case[1]);
-    print_next(case[2]);
-    print_next(case[3]);
-    print_next(case[4]);
-    print(b", ");
+fn replace(rt: &impl Print, file: &[u8], case: [u64; 6]) -> io::Result<()> {
+    print(rt, b"row 2 as")?;
+    print_next(rt, case[0])?;
+    print_next(rt, case[1])?;
+    print_next(rt, case[2])?;
+    print_next(rt, case[3])?;
+    print_next(rt, case[4])?;
+    print(rt, b", ")?;
     let row = entered(case[0], case[1], case[2], case[3], case[4]);
-    ask(file, 2, row, asked_in([16, 8, case[5] as usize, 8]));
+    ask(rt, file, 2, row, asked_in([16, 8, case[5] as usize, 8]))
 }
 
-fn print_next(x: u64) {
-    print(b" ");
-    print_number(x);
+fn print_next(rt: &impl Print, x: u64) -> io::Result<()> {
+    print(rt, b" ")?;
+    print_number(rt, x)
 }
 
-fn replaces(file: &[u8], cases: &[[u64; 6]]) {
+fn replaces(rt: &impl Print, file: &[u8], cases: &[[u64; 6]]) -> io::Result<()> {
     let mut i: usize = 0;
     while i < cases.len() {
-        replace(file, cases[i]);
+        replace(rt, file, cases[i])?;
         i += 1;
     }
+    Ok(())
 }
 
 // ---- plan B with sheet S: 7 rows
 
 // Each row, from the journal as the check left it.
-fn plan_b_rows(file: &[u8]) {
-    print(b"plan B, rows\n");
+fn plan_b_rows(rt: &impl Print, file: &[u8]) -> io::Result<()> {
+    print(rt, b"plan B, rows\n")?;
     let cases = [
         [16, 7, 0, 8],
         [16, 7, 1, 8],
@@ -323,12 +346,12 @@ fn plan_b_rows(file: &[u8]) {
         [16, 7, 5, 8],
         [16, 7, 6, 8],
     ];
-    sounds(file, &cases);
+    sounds(rt, file, &cases)
 }
 
 // 8; 9 by the counts; rows past those that the check used, which all are as row 0.
-fn plan_b_counts(file: &[u8]) {
-    print(b"plan B, counts\n");
+fn plan_b_counts(rt: &impl Print, file: &[u8]) -> io::Result<()> {
+    print(rt, b"plan B, counts\n")?;
     let cases = [
         [0, 0, 0, 8],
         [4097, 7, 6, 8],
@@ -345,12 +368,12 @@ fn plan_b_counts(file: &[u8]) {
         [16, usize::MAX, 6, 8],
         [16, usize::MAX, usize::MAX, 8],
     ];
-    sounds(file, &cases);
+    sounds(rt, file, &cases)
 }
 
 // 10: buffers that the run just fills, and shorter ones.
-fn plan_b_rooms(file: &[u8]) {
-    print(b"plan B, buffers\n");
+fn plan_b_rooms(rt: &impl Print, file: &[u8]) -> io::Result<()> {
+    print(rt, b"plan B, buffers\n")?;
     let cases = [
         [16, 7, 6, 2],
         [16, 7, 6, 1],
@@ -359,12 +382,12 @@ fn plan_b_rooms(file: &[u8]) {
         [16, 7, 4, 0],
         [16, 7, 0, 0],
     ];
-    sounds(file, &cases);
+    sounds(rt, file, &cases)
 }
 
 // Row 6: 0 gives (procedure 1) 3, by row 4.
-fn plan_b_last(file: &[u8]) {
-    print(b"plan B, row 6 damaged\n");
+fn plan_b_last(rt: &impl Print, file: &[u8]) -> io::Result<()> {
+    print(rt, b"plan B, row 6 damaged\n")?;
     let cases = [
         [6, PROCEDURE, 1, 6],
         [6, PROCEDURE, 256, 6],
@@ -385,12 +408,12 @@ fn plan_b_last(file: &[u8]) {
         [6, LENGTH, 3, 6],
         [6, LENGTH, ABSENT, 6],
     ];
-    damages(file, &cases, 16, 7, 8);
+    damages(rt, file, &cases, 16, 7, 8)
 }
 
 // The other bodies. Row 0: 1 gives nothing. Row 2: 2 gives (procedure 1), by row 0. Row 4: 1 gives 1 (procedure 2), by row 2.
-fn plan_b_bodies(file: &[u8]) {
-    print(b"plan B, other bodies damaged\n");
+fn plan_b_bodies(rt: &impl Print, file: &[u8]) -> io::Result<()> {
+    print(rt, b"plan B, other bodies damaged\n")?;
     let cases = [
         [0, LEFT, 0, 0],
         [0, RIGHT, 0, 0],
@@ -408,12 +431,12 @@ fn plan_b_bodies(file: &[u8]) {
         [4, RIGHT, ABSENT, 4],
         [4, LENGTH, 0, 4],
     ];
-    damages(file, &cases, 16, 7, 8);
+    damages(rt, file, &cases, 16, 7, 8)
 }
 
 // Older rows count, also those to which none points; younger ones, effects and passes do not. 8 comes before 9, and 9 before 10.
-fn plan_b_others(file: &[u8]) {
-    print(b"plan B, other rows, fields and numbers\n");
+fn plan_b_others(rt: &impl Print, file: &[u8]) -> io::Result<()> {
+    print(rt, b"plan B, other rows, fields and numbers\n")?;
     let cases = [
         [0, LENGTH, 1, 6],
         [3, PROCEDURE, 1, 6],
@@ -428,42 +451,42 @@ fn plan_b_others(file: &[u8]) {
         [6, RETIRED, 1, 6],
         [4, RETIRED, 1, 6],
     ];
-    damages(file, &cases, 16, 7, 8);
-    damage(file, [6, RIGHT, 0, 6], 16, 7, 0);
-    damage(file, [6, LENGTH, 3, 6], 16, 7, 2);
-    damage(file, [6, RIGHT, 0, 6], 0, 7, 0);
+    damages(rt, file, &cases, 16, 7, 8)?;
+    damage(rt, file, [6, RIGHT, 0, 6], 16, 7, 0)?;
+    damage(rt, file, [6, LENGTH, 3, 6], 16, 7, 2)?;
+    damage(rt, file, [6, RIGHT, 0, 6], 0, 7, 0)
 }
 
-fn over_plan_b(file: &[u8; HELD]) {
+fn over_plan_b(rt: &impl Print, file: &[u8; HELD]) -> io::Result<()> {
     let whole = front(file, SAMPLE);
-    plan_b_rows(whole);
-    plan_b_counts(whole);
-    plan_b_rooms(whole);
-    plan_b_last(whole);
-    plan_b_bodies(whole);
-    plan_b_others(whole);
+    plan_b_rows(rt, whole)?;
+    plan_b_counts(rt, whole)?;
+    plan_b_rooms(rt, whole)?;
+    plan_b_last(rt, whole)?;
+    plan_b_bodies(rt, whole)?;
+    plan_b_others(rt, whole)
 }
 
-fn plan_b() {
+fn plan_b(rt: &impl Print) -> io::Result<()> {
     let mut file = [0u8; HELD];
     sample(&mut file);
-    over_plan_b(&file);
+    over_plan_b(rt, &file)
 }
 
 // The first n bytes.
-fn sound_front(file: &[u8; HELD], n: usize, case: [usize; 4]) {
-    sound(front(file, n), asked_in(case));
+fn sound_front(rt: &impl Print, file: &[u8; HELD], n: usize, case: [usize; 4]) -> io::Result<()> {
+    sound(rt, front(file, n), asked_in(case))
 }
 
 // Refused files: their own number comes first.
-fn refused_files() {
+fn refused_files(rt: &impl Print) -> io::Result<()> {
     let mut file = [0u8; HELD];
     sample(&mut file);
-    print(b"plan B, refused\n");
-    sound_front(&file, 71, [0, 7, 6, 0]);
+    print(rt, b"plan B, refused\n")?;
+    sound_front(rt, &file, 71, [0, 7, 6, 0])?;
     put(&mut file, 4, [4, 0, 0, 0, 0, 0, 0, 0]);
-    sound_front(&file, SAMPLE, [16, 7, 6, 8]);
-    sound_front(&file, SAMPLE, [0, 7, 7, 0]);
+    sound_front(rt, &file, SAMPLE, [16, 7, 6, 8])?;
+    sound_front(rt, &file, SAMPLE, [0, 7, 7, 0])
 }
 
 // ---- rotations: 0 gives nothing, 5, (procedure 0), or (procedure 0) (procedure 0); 5 turns eight stages. The run of row i is i times 5
@@ -490,12 +513,12 @@ fn put_rotations(file: &mut [u8; HELD]) {
 }
 
 // The last row; and rows that fit, or would but for one pointer: to the row itself, to a younger row, to one that is not used.
-fn over_rotations(file: &[u8; HELD]) {
+fn over_rotations(rt: &impl Print, file: &[u8; HELD]) -> io::Result<()> {
     let whole = front(file, 160);
-    print(b"rotations, rows\n");
+    print(rt, b"rotations, rows\n")?;
     let rows = [[16, 8, 7, 8], [16, 8, 7, 7], [16, 8, 7, 6]];
-    sounds(whole, &rows);
-    print(b"rotations, row 2 replaced\n");
+    sounds(rt, whole, &rows)?;
+    print(rt, b"rotations, row 2 replaced\n")?;
     let cases = [
         [0, 2, 1, ABSENT, 1, 2],
         [0, 2, 2, ABSENT, 1, 2],
@@ -515,13 +538,13 @@ fn over_rotations(file: &[u8; HELD]) {
         [0, 1, ABSENT, 1, 1, 2],
         [0, 1, ABSENT, ABSENT, 2, 2],
     ];
-    replaces(whole, &cases);
+    replaces(rt, whole, &cases)
 }
 
-fn rotations() {
+fn rotations(rt: &impl Print) -> io::Result<()> {
     let mut file = [0u8; HELD];
     put_rotations(&mut file);
-    over_rotations(&file);
+    over_rotations(rt, &file)
 }
 
 // ---- long runs: row i is of procedure 31 - i. An odd row has twice the steps of the one before it, an even one one step more than that:
@@ -548,9 +571,9 @@ fn put_doublings(file: &mut [u8; HELD]) {
     }
 }
 
-fn over_doublings(file: &[u8; HELD]) {
+fn over_doublings(rt: &impl Print, file: &[u8; HELD]) -> io::Result<()> {
     let whole = front(file, 256);
-    print(b"long runs\n");
+    print(rt, b"long runs\n")?;
     let rows = [
         [64, 32, 4, 8],
         [64, 32, 29, 65534],
@@ -559,7 +582,7 @@ fn over_doublings(file: &[u8; HELD]) {
         [64, 32, 30, 65536],
         [64, 32, 31, 65536],
     ];
-    sounds(whole, &rows);
+    sounds(rt, whole, &rows)?;
     let cases = [
         [29, LENGTH, 65533, 29],
         [30, LENGTH, 65534, 30],
@@ -567,18 +590,18 @@ fn over_doublings(file: &[u8; HELD]) {
         [31, LENGTH, 65534, 31],
         [31, LENGTH, 131070, 31],
     ];
-    damages(whole, &cases, 64, 32, BUFFER);
+    damages(rt, whole, &cases, 64, 32, BUFFER)
 }
 
-fn doublings() {
+fn doublings(rt: &impl Print) -> io::Result<()> {
     let mut file = [0u8; HELD];
     put_doublings(&mut file);
-    over_doublings(&file);
+    over_doublings(rt, &file)
 }
 
-fn main() {
-    plan_b();
-    refused_files();
-    rotations();
-    doublings();
+fn main(rt: HostRuntime) -> io::Result<()> {
+    plan_b(&rt)?;
+    refused_files(&rt)?;
+    rotations(&rt)?;
+    doublings(&rt)
 }

@@ -5,7 +5,7 @@
 use mathlib.Core.Path.{refl}
 use mathlib.Core.List.{List, [], ◌∷◌}
 use seplogic.Ra.Ura.{Ura}
-use seplogic.Ra.TreeShare.{full_share}
+use base.Fraction.{full_share}
 use mir.Syntax.{named}
 use mir.Val.{Val}
 use base.Stored.{Gv}
@@ -22,7 +22,7 @@ use denote.Struct.Steps.{spelt}
 
 module _ {M : Type 1} {𝓤 : Ura M} {𝓛 : Logic 𝓤} {K : Type 0} {Γ : List (Item 𝓤)} {G : Goal 𝓤 𝓛.H} (R : RattleType) (val : R.Denot → Val) (x : MutBor R.Denot) (κ : Lft) (q : Share) where
   pub borrows : K → Soaks G → Tells R (Is R) (λ h. val h ∷ []) → (Is R x.now (val x.now ∷ [])
-      → Seq K 𝓛 (‵ (cell_at full_share R.mir (val x.now ∷ []) x.ref_ptr.0 x.ref_ptr.1) ∷ ‵ (R.own x.now (val x.now ∷ [])) ∷ ‵ (fobor κ q (Body (mem R) x.ref_ptr.0 x.ref_ptr.1 x.ghost_name)) ∷ ‵ (fobs x.ghost_name (R.coded.code x.now)) ∷ ‵ (fauth x.ghost_name (R.coded.code x.now)) ∷ Γ) G)
+      → Seq K 𝓛 (‵ (cell_at full_share R.mir (val x.now ∷ []) x.ref_ptr.0 x.ref_ptr.1) ∷ ‵ (R.own_val x.now (val x.now ∷ [])) ∷ ‵ (fobor κ q (Body (mem R) x.ref_ptr.0 x.ref_ptr.1 x.ghost_name)) ∷ ‵ (fobs x.ghost_name (R.coded.code x.now)) ∷ ‵ (fauth x.ghost_name (R.coded.code x.now)) ∷ Γ) G)
       → Seq K 𝓛 (‵ (flft κ q) ∷ ‵ ((MutRef (named 0) κ R).own_val x (mut_vals x)) ∷ Γ) G
   borrows t z tells k =
       move t (1 ∷ []) $ fsplit3 t $ drop t $ opens t z R {h = x.now} x.ref_ptr.0 x.ref_ptr.1 (λ vs. spelt t R (Is R) (shows 𝓛 R) (λ h. val h ∷ []) tells full_share x.now vs x.ref_ptr.0 x.ref_ptr.1 $
@@ -30,5 +30,5 @@ module _ {M : Type 1} {𝓤 : Ura M} {𝓛 : Logic 𝓤} {K : Type 0} {Γ : List
 
   pub hands-back : K → Soaks G → (h : R.Denot) {u v : Gv}
       → Step K 𝓛 (‵ ((MutRef (named 0) κ R).own_val (at_last x h) (mut_vals x)) ∷ ‵ (flft κ q) ∷ Γ) G
-      (‵ (cell_at full_share R.mir (val h ∷ []) x.ptr.0 x.ptr.1) ∷ ‵ (R.own h (val h ∷ [])) ∷ ‵ (fobor κ q (Body (mem R) x.ptr.0 x.ptr.1 x.name)) ∷ ‵ (fobs x.name u) ∷ ‵ (fauth x.name v) ∷ Γ) G
-  hands-back t z h = step (λ s. closes t z R h (val h ∷ []) x.ptr.0 x.ptr.1 $ feq_i t (List Val) (mut_vals x) (mut_vals x) refl $ fjoin3 t $ s)
+      (‵ (cell_at full_share R.mir (val h ∷ []) x.ref_ptr.0 x.ref_ptr.1) ∷ ‵ (R.own_val h (val h ∷ [])) ∷ ‵ (fobor κ q (Body (mem R) x.ref_ptr.0 x.ref_ptr.1 x.ghost_name)) ∷ ‵ (fobs x.ghost_name u) ∷ ‵ (fauth x.ghost_name v) ∷ Γ) G
+  hands-back t z h = step (λ s. closes t z R h (val h ∷ []) x.ref_ptr.0 x.ref_ptr.1 $ feq_i t (List Val) (mut_vals x) (mut_vals x) refl $ fjoin3 t $ s)

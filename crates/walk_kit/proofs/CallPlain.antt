@@ -6,7 +6,7 @@
 -- Assumes `Logic`.
 use mathlib.Core.List.{List, [], ◌∷◌}
 use seplogic.Ra.Ura.{Ura}
-use mir.Syntax.{Name, Place, Opd as Operand, Body, seq, call}
+use mir.Syntax.{Callee, Place, Opd as Operand, Body, seq, call}
 use mir.Val.{Val}
 use base.Logic.{SProp, ent, sep, wand, emp, via, comm∗, mono_l, mono∗, emp∗, wand_i, apply∗}
 use prog.Wp.{Env, Calls, Loops, eval_opds}
@@ -51,7 +51,7 @@ module _ {M : Type 1} {𝓤 : Ura M} {𝓛 : Logic 𝓤} {K : Type 0} {Γ : List
     (asked : ent 𝓤 (emp 𝓤) ((Called 𝓛 T c).pre (x, g)))
     (φ : (Result 𝓛 T x).Denot → Type 0) (says : (r : (Result 𝓛 T x).Denot) (ws : Lasts T x.0 x.3) → ent 𝓤 ((c x.0 x.3).ensures g r (at_exit T x.0 x.3 ws)) (fact 𝓤 (φ r)))
     (val : (Result 𝓛 T x).Denot → Val) (tells : Tells (Result 𝓛 T x) (Is (Result 𝓛 T x)) (λ r. val r ∷ []))
-    {E : Env 𝓤 𝓛.H} {C : Calls 𝓤 𝓛.H} {Λ : Loops 𝓤 𝓛.H} {z : Post 𝓤 𝓛.H} {k : Name} {xs : List Operand} {d : Place} (t : K) (fm : FmC 𝓤 𝓛.H 𝓛.laws C) (known : Triple 𝓤 (C k) (Called 𝓛 T c)) where
+    {E : Env 𝓤 𝓛.H} {C : Calls 𝓤 𝓛.H} {Λ : Loops 𝓤 𝓛.H} {z : Post 𝓤 𝓛.H} {k : Callee} {xs : List Operand} {d : Place} (t : K) (fm : FmC 𝓤 𝓛.H 𝓛.laws C) (known : Triple 𝓤 (C k) (Called 𝓛 T c)) where
   pub calls-plain : {rest : Body} → Opds K 𝓛 Γ E xs ((Called 𝓛 T c).args (x, g)) → ((r : (Result 𝓛 T x).Denot) → φ r → Is (Result 𝓛 T x) r (val r ∷ []) → Seq K 𝓛 Γ (lands C Λ E d (val r) rest z))
       → Seq K 𝓛 Γ (runs C Λ E (seq (call k xs d) rest) z)
   calls-plain os go = use0 𝓛 (raw ((Called 𝓛 T c).pre (x, g))) asked $ calls-for T c x g φ says val tells t fm known (past_head t os) (λ r e is. drop t $ drop t $ go r e is)

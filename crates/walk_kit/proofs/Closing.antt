@@ -15,7 +15,7 @@ use seplogic.Ra.Ura.{Ura}
 use mir.Syntax.{Ty, return}
 use mir.Val.{Val}
 use base.Logic.{SProp, ent, sep, wand, emp, id⊢, via, comm∗, assoc∗, assoc', emp∗, mono_l, mono_r, fst∗, wand_i, apply∗}
-use base.Fml.{Fml, ftrue, ffalse, feq, flt, fsep, fand, for, fwand, fex, fall, fupd, fat, froom, fdies, flft, fdead, fobs, fauth, fres, fbor, fobor, flent, fshr_bor}
+use base.Fml.{Fml, ftrue, ffalse, feq, flt, fsep, fand, for, fwand, fex, fall, fupd, fat, froom, fdies, flft, fdead, fobs, fauth, fres, fbor, fobor, flent, fshr_bor, fhide, fleft, fown, finv, fnamed, ftok, fkid, fme, fsent}
 use prog.Wp.{Env, Calls, Loops, release, read, returns as returnsᴼ, at_return}
 use types.Logic.{Logic}
 use sound.WpLaws.{read_fm}
@@ -95,6 +95,15 @@ value_in (fbor κ P) = none
 value_in (fobor κ q P) = none
 value_in (flent κ P) = none
 value_in (fshr_bor κ P) = none
+value_in (fhide P) = none
+value_in (fleft q ω τs b o) = none
+value_in (fown R γ x) = none
+value_in (finv P) = none
+value_in (fnamed n P) = none
+value_in (ftok m) = none
+value_in (fkid h a) = none
+value_in (fme h) = none
+value_in (fsent h) = none
 
 abbrev holds : {M : Type 1} {𝓤 : Ura M} → Item 𝓤 → Option Val
 holds (‵ P) = value_in P
@@ -182,11 +191,11 @@ module _ {M : Type 1} {𝓤 : Ura M} {𝓛 : Logic 𝓤} {K : Type 0} where
   beside-local t σ l none r = beside t _ (beside t _ r)
   beside-local t σ l (some u) r = beside t _ (beside t _ r)
 
-  beside-rooms : K → {Γ : List (Item 𝓤)} (E : List (Ty × ℕ)) {τ : Ty} {b o : ℕ} {v : Val} → Reads K 𝓛 Γ τ b o v → Reads K 𝓛 (rooms E Γ) τ b o v
+  beside-rooms : K → (E : List (Ty × ℕ)) {Γ : List (Item 𝓤)} {τ : Ty} {b o : ℕ} {v : Val} → Reads K 𝓛 Γ τ b o v → Reads K 𝓛 (rooms E Γ) τ b o v
   beside-rooms t [] r = r
   beside-rooms t (e ∷ E) r = beside-rooms t E (beside t _ (beside t _ r))
 
-  beside-locals : K → {Γ : List (Item 𝓤)} (E : List (Ty × ℕ)) (os : List (Option Val)) {τ : Ty} {b o : ℕ} {v : Val} → Reads K 𝓛 Γ τ b o v → Reads K 𝓛 (locals_of E os Γ) τ b o v
+  beside-locals : K → (E : List (Ty × ℕ)) (os : List (Option Val)) {Γ : List (Item 𝓤)} {τ : Ty} {b o : ℕ} {v : Val} → Reads K 𝓛 Γ τ b o v → Reads K 𝓛 (locals_of E os Γ) τ b o v
   beside-locals t E [] r = beside-rooms t E r
   beside-locals t [] (s ∷ os) r = r
   beside-locals t (e ∷ E) (s ∷ os) r = beside-locals t E os (beside-local t e.0 e.1 s r)

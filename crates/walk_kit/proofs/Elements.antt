@@ -12,26 +12,27 @@ use Prim.Native.Nat.{ℕ, zero, suc, ◌+◌, ◌*◌, ◌<◌, ◌^◌}
 use lib.Dec.{T, ltb}
 use lib.ListN.{length, get_or, set, length-set}
 use seplogic.Ra.Ura.{Ura}
-use seplogic.Ra.TreeShare.{full_share}
+use base.Fraction.{full_share}
 use mir.Syntax.{Place, place, Opd as Operand, copy, int, w64, Body, seq, assign, rv_opd, op2, mul, unsigned, offset}
 use mir.Val.{Val, vint, vptr}
-use base.Fml.{Share, Fml, fsep, fobs, fauth, fres, fobor, fshr_bor}
+use base.Fml.{Share, Fml, fsep, fobs, fauth, fobor, fhide}
 use prog.Wp.{Env, Calls, Loops, Spot, spot_of}
 use types.Logic.{Logic}
-use types.Kit.{Goal, Soaks, Item, Post, Seq, Step, step, ‵, runs, ◌$◌, move, drop, rewrite, fsplit, fjoin}
+use types.Kit.{Goal, Soaks, Item, Post, Seq, Step, step, ‵, ◌⊛◌, runs, ◌$◌, move, drop, rewrite, split, join, fsplit, fjoin}
 use types.Run.{Opd, Finds, Writes, of_opd, bin, lit, assigns}
-use types.Share.{arr_parts}
 use denote.RattleType.{RattleType}
 use denote.Shadow.{pure_l, pure_i}
-use denote.Laws.{Is, Tells, Makes, Copy, shows}
+use denote.Copied.{Copied}
+use denote.Laws.{Is, Tells, Makes, shows}
 use denote.Memory.{cell_at, mem, shares}
-use denote.Slice.{Room, room, heres, coded_holeys, mut_slice_at, mut_slice_vals}
+use denote.Opens.{Shut as TokenBack}
+use denote.Slice.{Room, room, heres, coded_holeys, mut_slice_at, mut_slice_vals, shr_slice_at, shr_slice_vals, elements_shared}
 use denote.Lend.{Held}
-use denote.Index.{place_is, others, elem_out, elem_back, elem_put, opens_slice, closes_slice, looks_slice, shuts_slice}
+use denote.Index.{place_is, row, others, elem_out, elem_back, elem_put, opens_slice, closes_slice, looks_slice, shuts_slice}
 use denote.Steps.{owned}
 use Rattle.walk_kit.proofs.Locals.{sets}
 use Rattle.walk_kit.proofs.Loans.{Loan, Lent, ref}
-use Rattle.walk_kit.proofs.Sharing.{Shared}
+use Rattle.walk_kit.proofs.Sharing.{Shared, shown}
 
 set_same : {X : Type 0} (ys : List X) (i : ℕ) (d : X) → set ys i (get_or ys i d) ≡ ys
 set_same [] i d = refl
@@ -46,17 +47,16 @@ module _ (R : RattleType) (L : Loan) where
   Shut ys i = fsep (room R (length ys)) (fsep (others (shares R) full_share ys i L.block L.start) (fsep (fobor L.lifetime L.share (Held R (length ys) L.block L.start L.label))
       (fsep (fobs L.label ((coded_holeys R).code (heres R ys))) (fauth L.label ((coded_holeys R).code (heres R ys))))))
 
-  -- of a `&[T]`: the walk has some share of the elements
-  abbrev pub ShutSeen : Share → List R.Denot → ℕ → Fml
-  ShutSeen q ys i = fsep (others (shares R) q ys i L.block L.start) (fsep (fobor L.lifetime L.share ((arr_parts (shares R) (length ys)).part q ys L.block L.start))
-      (fsep (fshr_bor L.lifetime (λ q'. (arr_parts (shares R) (length ys)).part q' ys L.block L.start)) (fres L.label ((coded_holeys R).code (heres R ys)))))
+  -- of a `&[T]`: the walk has some share of the elements, and the token's way back
+  abbrev pub ShutSeen : {M : Type 1} {𝓤 : Ura M} (𝓛 : Logic 𝓤) → Share → List R.Denot → ℕ → Item 𝓤
+  ShutSeen 𝓛 q ys i = ‵ (others (shares R) q ys i L.block L.start) ⊛ (TokenBack 𝓛 L.lifetime L.share (row R q ys L.block L.start) ⊛ ‵ (fhide (elements_shared R ys L.block L.start L.lifetime)))
 
-  abbrev pub OpenSeen : {M : Type 1} {𝓤 : Ura M} → (R.Denot → Val) → Share → List R.Denot → ℕ → R.Denot → List (Item 𝓤) → List (Item 𝓤)
-  OpenSeen val q ys i y Γ = ‵ (Cell q (val y) i) ∷ ‵ (fsep (R.own y (val y ∷ [])) (ShutSeen q ys i)) ∷ Γ
+  abbrev pub OpenSeen : {M : Type 1} {𝓤 : Ura M} (𝓛 : Logic 𝓤) → (R.Denot → Val) → Share → List R.Denot → ℕ → R.Denot → List (Item 𝓤) → List (Item 𝓤)
+  OpenSeen 𝓛 val q ys i y Γ = ‵ (Cell q (val y) i) ∷ (‵ (R.own_val y (val y ∷ [])) ⊛ ShutSeen 𝓛 q ys i) ∷ Γ
 
   -- the context while a `&mut [T]` is open: the cell holds v, and y is owned
   abbrev pub Open : {M : Type 1} {𝓤 : Ura M} → (R.Denot → Val) → List R.Denot → ℕ → Val → R.Denot → List (Item 𝓤) → List (Item 𝓤)
-  Open val ys i v y Γ = ‵ (Cell full_share v i) ∷ ‵ (fsep (R.own y (val y ∷ [])) (Shut ys i)) ∷ Γ
+  Open val ys i v y Γ = ‵ (Cell full_share v i) ∷ ‵ (fsep (R.own_val y (val y ∷ [])) (Shut ys i)) ∷ Γ
 
 module _ {M : Type 1} {𝓤 : Ura M} {𝓛 : Logic 𝓤} {K : Type 0} {Γ : List (Item 𝓤)} {G : Goal 𝓤 𝓛.H} (R : RattleType) (L : Loan) (val : R.Denot → Val) (ys : List R.Denot) (i : ℕ) (l : i < length ys) where
   opens : K → Soaks G → Tells R (Is R) (λ y. val y ∷ []) → (d : R.Denot)
@@ -95,23 +95,23 @@ module _ {M : Type 1} {𝓤 : Ura M} {𝓛 : Logic 𝓤} {K : Type 0} {Γ : List
       opens R L val ys i l t tt tells d (λ _. assigns t (of_opd t o) f w $ move t (1 ∷ []) $ fsplit t $ drop t $ owned t R (Is R) makes y (val y ∷ []) is $ fjoin t $ move t (1 ∷ 0 ∷ []) $
       shuts R L val ys i l t tt y $ k)
 
-  pub seen_read : K → Copy 𝓛 R → {to : ℕ} {x : Operand} {rest : Body} {Γ' : List (Item 𝓤)}
-      → let y = get_or ys i d in ((q : Share) → Opd K 𝓛 (OpenSeen R L val q ys i y Γ) E x (val y))
-      → ((q : Share) → Is R y (val y ∷ []) → Writes K 𝓛 (OpenSeen R L val q ys i y Γ) (spot_of 𝓤 H E to).0 (spot_of 𝓤 H E to).1 0 (val y) (OpenSeen R L val q ys i y Γ'))
+  pub seen_read : K → Copied 𝓛 R → {to : ℕ} {x : Operand} {rest : Body} {Γ' : List (Item 𝓤)}
+      → let y = get_or ys i d in ((q : Share) → Opd K 𝓛 (OpenSeen R L 𝓛 val q ys i y Γ) E x (val y))
+      → ((q : Share) → Is R y (val y ∷ []) → Writes K 𝓛 (OpenSeen R L 𝓛 val q ys i y Γ) (spot_of 𝓤 H E to).0 (spot_of 𝓤 H E to).1 0 (val y) (OpenSeen R L 𝓛 val q ys i y Γ'))
       → (Is R y (val y ∷ []) → Seq K 𝓛 (‵ (Shared R L ys) ∷ Γ') (runs C Λ E rest z)) → Seq K 𝓛 (‵ (Shared R L ys) ∷ Γ) (runs C Λ E (seq (assign (place to []) (rv_opd x)) rest) z)
-  seen_read t twice o w k =
+  seen_read t copied o w k =
       let b = L.block in
       let s = L.start in
       let v = val (get_or ys i d) in
-      fsplit t $ fsplit t $ pure_l t (mut_slice_at R (ref R L ys) (mut_slice_vals (ref R L ys))) (λ p. fsplit t $ move t (1 ∷ 2 ∷ []) $ looks_slice t tt R (Is R) (shows 𝓛 R) (λ y. val y ∷ []) tells twice ys b s (λ q.
+      fsplit t $ fsplit t $ pure_l t (shr_slice_at R (shown R L ys) (shr_slice_vals (shown R L ys))) (λ p. move t (0 ∷ 1 ∷ []) $ looks_slice t tt R copied ys b s (λ q.
       elem_out t R (Is R) (shows 𝓛 R) (λ y. val y ∷ []) tells q ys i d b s l (λ is.
       rewrite t 0 (λ (m : ℕ). ‵ (cell_at q R.mir (v ∷ []) b m)) (place_is (mem R).size s i) refl $
-      -- [the cell; what it owns; the others; the open borrow; the borrow; the name]
-      move t (4 ∷ 5 ∷ []) $ fjoin t $ move t (4 ∷ 0 ∷ []) $ fjoin t $ move t (3 ∷ 0 ∷ []) $ fjoin t $ move t (2 ∷ 0 ∷ []) $ fjoin t $ move t (1 ∷ 0 ∷ []) $
+      -- [the cell; what it owns; the others; the token's way back; what is shared]
+      move t (3 ∷ 4 ∷ []) $ join t $ move t (3 ∷ 0 ∷ []) $ join t $ move t (2 ∷ 0 ∷ []) $ join t $ move t (1 ∷ 0 ∷ []) $
       sets t (of_opd t (o q)) (w q is) $
-      rewrite t 0 (λ (m : ℕ). ‵ (cell_at q R.mir (v ∷ []) b m)) (sym (place_is (mem R).size s i)) refl $ move t (1 ∷ []) $ fsplit t $ move t (1 ∷ []) $ fsplit t $ move t (3 ∷ 2 ∷ 0 ∷ []) $ elem_back t R q ys i d (v ∷ []) b s l $
-      move t (1 ∷ []) $ fsplit t $ move t (2 ∷ 0 ∷ []) $ shuts_slice t tt R q ys b s $ move t (1 ∷ []) $ fsplit t $ move t (1 ∷ 0 ∷ []) $ fjoin t $
-      pure_i t (mut_slice_at R (ref R L ys) (mut_slice_vals (ref R L ys))) (tt, (tt, tt)) p $ fjoin t $ fjoin t $ k is)))
+      rewrite t 0 (λ (m : ℕ). ‵ (cell_at q R.mir (v ∷ []) b m)) (sym (place_is (mem R).size s i)) refl $ move t (1 ∷ []) $ split t $ move t (1 ∷ []) $ split t $ move t (3 ∷ 2 ∷ 0 ∷ []) $ elem_back t R q ys i d (v ∷ []) b s l $
+      move t (1 ∷ []) $ split t $ move t (2 ∷ 0 ∷ []) $ shuts_slice t tt R q ys b s $ move t (1 ∷ []) $
+      pure_i t (shr_slice_at R (shown R L ys) (shr_slice_vals (shown R L ys))) (tt, (tt, tt)) p $ fjoin t $ fjoin t $ k is)))
 
 -- `m = i * size; p = &s[i]`, s being a slice at (b, o)
 module _ {M : Type 1} {𝓤 : Ura M} {𝓛 : Logic 𝓤} {K : Type 0} {Γ : List (Item 𝓤)} {E : Env 𝓤 𝓛.H} {C : Calls 𝓤 𝓛.H} {Λ : Loops 𝓤 𝓛.H} {z : Post 𝓤 𝓛.H} where

@@ -7,7 +7,6 @@
 --     walked           the theorem about a function with no `requires`
 --     walked-asking    and about one that has one
 -- `walked` is for every model; the rest assumes nothing.
-use mathlib.Core.Path.{◌≡◌}
 use mathlib.Core.List.{List, [], ◌∷◌}
 use Prim.Native.Nat.{ℕ}
 use seplogic.Ra.Ura.{Ura}
@@ -16,7 +15,8 @@ use base.Logic.{SProp, ent, sep, via, fst∗}
 use prog.Memory.{Memory}
 use prog.Wp.{Heap, Tables, Closed, WpFn}
 use prog.Model.{Model}
-use prog.Routine.{Name, Env, Routine}
+use prog.Routine.{Callee as Name, Env, Routine}
+use prog.Wired.{Code, Wired}
 use types.Logic.{Logic}
 use contract.Lifetimes.{Lfts, Shares, AllOutlive, Outlives}
 use contract.Monad.{Fun}
@@ -29,7 +29,7 @@ use denote.Triple.Clauses.{Clauses, Ended, closing}
 use denote.Triple.Entry.{Args, on_entry}
 use denote.Triple.Spec.{Meets}
 use denote.Triple.Statement.{Triple}
-use denote.Triple.Table.{entered, cited}
+use denote.Triple.Table.{entered}
 use denote.Triple.Walked.{Stays, AllGo, walk_of, walked as as-walk, walk_Meets}
 use Rattle.walk_kit.proofs.CallStep.{Called}
 use Rattle.walk_kit.proofs.Parameters.{Param, slots, kepts, stays, all_go, spells, all_tell}
@@ -53,32 +53,32 @@ pub record Callee : Type 3 where
   pub ended : Ended
   pub clauses : {M : Type 1} {𝓤 : Ura M} (𝓛 : Logic 𝓤) → (Memory → SProp 𝓤) → (Routine → Fun 𝓤) → Clauses 𝓤 ended
   pub name : Name
-  pub routine : Routine
-  pub met : {M : Type 1} {𝓤 : Ura M} (𝓛 : Logic 𝓤) (𝓜 : Model 𝓤 𝓛.H) (𝓡 : Running 𝓤 𝓛.H 𝓜) → Triple 𝓤 (𝓡.run routine) (Called 𝓛 ended (clauses 𝓛 𝓜.mem 𝓡.run))
+  pub code : Code
+  pub met : {M : Type 1} {𝓤 : Ura M} (𝓛 : Logic 𝓤) (𝓜 : Model 𝓤 𝓛.H) (𝓡 : Running 𝓤 𝓛.H 𝓜) → Wired 𝓡.env code → Triple 𝓤 (𝓡.run (𝓡.env name)) (Called 𝓛 ended (clauses 𝓛 𝓜.mem 𝓡.returns))
 
-abbrev pub callee : (T : Ended) (c : (M : Type 1) (𝓤 : Ura M) (𝓛 : Logic 𝓤) → (Memory → SProp 𝓤) → (Routine → Fun 𝓤) → Clauses 𝓤 T) → Name → (r : Routine)
-    → ((M : Type 1) (𝓤 : Ura M) (𝓛 : Logic 𝓤) (𝓜 : Model 𝓤 𝓛.H) (𝓡 : Running 𝓤 𝓛.H 𝓜) → Triple 𝓤 (𝓡.run r) (Called 𝓛 T (c M 𝓤 𝓛 𝓜.mem 𝓡.run))) → Callee
-callee T c k r met = record { ended = T; clauses = λ {M}. c M; name = k; routine = r; met = λ {M}. met M }
+-- with `name` and `code` of the callee's `Symbol`, and `met` of its `Met`
+abbrev pub callee : (T : Ended) (c : (M : Type 1) (𝓤 : Ura M) (𝓛 : Logic 𝓤) → (Memory → SProp 𝓤) → (Routine → Fun 𝓤) → Clauses 𝓤 T) (k : Name) (w : Code)
+    → ((M : Type 1) (𝓤 : Ura M) (𝓛 : Logic 𝓤) (𝓜 : Model 𝓤 𝓛.H) (𝓡 : Running 𝓤 𝓛.H 𝓜) → Wired 𝓡.env w → Triple 𝓤 (𝓡.run (𝓡.env k)) (Called 𝓛 T (c M 𝓤 𝓛 𝓜.mem 𝓡.returns))) → Callee
+callee T c k w met = record { ended = T; clauses = λ {M} {𝓤}. c M 𝓤; name = k; code = w; met = λ {M} {𝓤}. met M 𝓤 }
 
 module _ {M : Type 1} {𝓤 : Ura M} (𝓛 : Logic 𝓤) (mem : Memory → SProp 𝓤) (run : Routine → Fun 𝓤) (𝓣 : Tables 𝓤 𝓛.H) where
   abbrev pub Knows : List Callee → Type 1
   Knows [] = Unit {1}
   Knows (k ∷ ks) = Triple 𝓤 (𝓣.C k.name) (Called 𝓛 k.ended (k.clauses 𝓛 mem run)) × Knows ks
 
--- each callee's name is bound to its routine
-abbrev pub Binds : Env → List Callee → Type 1
-Binds γ [] = Unit {1}
-Binds γ (k ∷ ks) = (γ k.name ≡ k.routine) × Binds γ ks
+-- each callee's name means its code, as `code.calls-..` of the function's `Code` has it
+abbrev pub Binds : Env → List Callee → Type 0
+Binds γ [] = Unit {0}
+Binds γ (k ∷ ks) = Wired γ k.code × Binds γ ks
 
 -- the tables that a function runs in
-abbrev tables-of : {M : Type 1} (𝓤 : Ura M) (H : Heap 𝓤) (𝓜 : Model 𝓤 H) → Running 𝓤 H 𝓜 → Env → Tables 𝓤 H
-tables-of 𝓤 H 𝓜 𝓡 γ = tables_of 𝓤 H 𝓜 (tables 𝓤 H 𝓜 𝓡 γ)
+abbrev tables-of : {M : Type 1} (𝓤 : Ura M) (H : Heap 𝓤) (𝓜 : Model 𝓤 H) → Running 𝓤 H 𝓜 → Tables 𝓤 H
+tables-of 𝓤 H 𝓜 𝓡 = tables_of 𝓤 H 𝓜 (tables 𝓤 H 𝓜 𝓡 𝓡.env)
 
-knows : {M : Type 1} {𝓤 : Ura M} (𝓛 : Logic 𝓤) (𝓜 : Model 𝓤 𝓛.H) (𝓡 : Running 𝓤 𝓛.H 𝓜) (γ : Env) (ks : List Callee) → Binds γ ks → Knows 𝓛 𝓜.mem 𝓡.run (tables-of 𝓤 𝓛.H 𝓜 𝓡 γ) ks
+knows : {M : Type 1} {𝓤 : Ura M} (𝓛 : Logic 𝓤) (𝓜 : Model 𝓤 𝓛.H) (𝓡 : Running 𝓤 𝓛.H 𝓜) (ks : List Callee) → Binds 𝓡.env ks → Knows 𝓛 𝓜.mem 𝓡.returns (tables-of 𝓤 𝓛.H 𝓜 𝓡) ks
 unfolding tables_of
-knows 𝓛 𝓜 𝓡 γ [] bs = tt
-knows {𝓤 = 𝓤} 𝓛 𝓜 𝓡 γ (k ∷ ks) bs =
-    (cited 𝓤 𝓛.H (Called 𝓛 k.ended (k.clauses 𝓛 𝓜.mem 𝓡.run)) 𝓜 𝓡 γ k.name k.routine bs.0 (k.met 𝓛 𝓜 𝓡), knows 𝓛 𝓜 𝓡 γ ks bs.1)
+knows 𝓛 𝓜 𝓡 [] bs = tt
+knows 𝓛 𝓜 𝓡 (k ∷ ks) bs = (k.met 𝓛 𝓜 𝓡 bs.0, knows 𝓛 𝓜 𝓡 ks bs.1)
 
 abbrev pub ended_of : {n : ℕ} → List (Outlives n) → List (Param n) → Slot n → Ended
 ended_of {n} os ps r = record { signature = record { lifetimes = n; outlives = os; params = slots ps; result = r }; kept = kepts ps }
@@ -104,20 +104,20 @@ module _ (F : Function) where
   WalkAsking = (M : Type 1) (𝓤 : Ura M) (𝓛 : Logic 𝓤) (mem : Memory → SProp 𝓤) (run : Routine → Fun 𝓤) (𝓣 : Tables 𝓤 𝓛.H) → Knows 𝓛 mem run 𝓣 F.callees
       → From 𝓛 T (stays F.params) (all_go F.params 𝓛) (F.clauses 𝓛 mem run) 𝓣 F.mir (spells F.params) (all_tell F.params) (λ κs a g p. sep 𝓤 p ((F.clauses 𝓛 mem run κs a).requires g))
 
-  module _ {M : Type 1} {𝓤 : Ura M} (𝓛 : Logic 𝓤) (𝓜 : Model 𝓤 𝓛.H) (𝓡 : Running 𝓤 𝓛.H 𝓜) (γ : Env) (k : Name) (closed : Closed 𝓤 𝓛.H (tables 𝓤 𝓛.H 𝓜 𝓡 γ).C (tables 𝓤 𝓛.H 𝓜 𝓡 γ).Λ k F.mir) (bound : Binds γ F.callees) where
+  module _ {M : Type 1} {𝓤 : Ura M} (𝓛 : Logic 𝓤) (𝓜 : Model 𝓤 𝓛.H) (𝓡 : Running 𝓤 𝓛.H 𝓜) (k : Name) (closed : Closed 𝓤 𝓛.H (tables 𝓤 𝓛.H 𝓜 𝓡 𝓡.env).C (tables 𝓤 𝓛.H 𝓜 𝓡 𝓡.env).Λ k F.mir) (bound : Binds 𝓡.env F.callees) where
     open 𝓛 use {H}
 
     abbrev c : Clauses 𝓤 T
-    c = F.clauses 𝓛 𝓜.mem 𝓡.run
+    c = F.clauses 𝓛 𝓜.mem 𝓡.returns
 
-    concluded : Triple 𝓤 (WpFn 𝓤 H (tables-of 𝓤 H 𝓜 𝓡 γ).C (tables-of 𝓤 H 𝓜 𝓡 γ).Λ F.mir) (Called 𝓛 T c) → Triple 𝓤 ((tables 𝓤 H 𝓜 𝓡 γ).C k) (Called 𝓛 T c)
+    concluded : Triple 𝓤 (WpFn 𝓤 H (tables-of 𝓤 H 𝓜 𝓡).C (tables-of 𝓤 H 𝓜 𝓡).Λ F.mir) (Called 𝓛 T c) → Triple 𝓤 ((tables 𝓤 H 𝓜 𝓡 𝓡.env).C k) (Called 𝓛 T c)
     unfolding tables_of
-    concluded = entered 𝓤 H (Called 𝓛 T c) (tables 𝓤 H 𝓜 𝓡 γ).C (tables 𝓤 H 𝓜 𝓡 γ).Λ k F.mir closed
+    concluded = entered 𝓤 H (Called 𝓛 T c) (tables 𝓤 H 𝓜 𝓡 𝓡.env).C (tables 𝓤 H 𝓜 𝓡 𝓡.env).Λ k F.mir closed
 
-    pub walked-asking : WalkAsking → Triple 𝓤 ((tables 𝓤 H 𝓜 𝓡 γ).C k) (Called 𝓛 T c)
+    pub walked-asking : WalkAsking → Triple 𝓤 ((tables 𝓤 H 𝓜 𝓡 𝓡.env).C k) (Called 𝓛 T c)
     walked-asking walk = concluded
-        (met-asking 𝓛 T (stays F.params) (all_go F.params 𝓛) c (tables-of 𝓤 H 𝓜 𝓡 γ) F.mir (spells F.params) (all_tell F.params)
-        (walk M 𝓤 𝓛 𝓜.mem 𝓡.run (tables-of 𝓤 H 𝓜 𝓡 γ) (knows 𝓛 𝓜 𝓡 γ F.callees bound)))
+        (met-asking 𝓛 T (stays F.params) (all_go F.params 𝓛) c (tables-of 𝓤 H 𝓜 𝓡) F.mir (spells F.params) (all_tell F.params)
+        (walk M 𝓤 𝓛 𝓜.mem 𝓡.returns (tables-of 𝓤 H 𝓜 𝓡) (knows 𝓛 𝓜 𝓡 F.callees bound)))
 
-    pub walked : Walk → Triple 𝓤 ((tables 𝓤 H 𝓜 𝓡 γ).C k) (Called 𝓛 T c)
+    pub walked : Walk → Triple 𝓤 ((tables 𝓤 H 𝓜 𝓡 𝓡.env).C k) (Called 𝓛 T c)
     walked walk = walked-asking (λ M 𝓤 𝓛 mem run 𝓣 known κs qs bounds a g are. via 𝓤 _ (fst∗ 𝓤 _ ((F.clauses 𝓛 mem run κs a).requires g)) (walk M 𝓤 𝓛 mem run 𝓣 known κs qs bounds a g are))

@@ -1,6 +1,7 @@
 -- A call as one step of a walk, for a callee that takes slices and after them plain data, and whose `requires` and `ensures` are facts. What the walk holds of the slices stands first, and stands there again afterwards.
 --     Hand             a slice that is handed over: lent on as a `&mut [T]` (`again`) or as a `&[T]` (`seen`), where the walk holds a `&mut [T]`, or copied, where it holds a `&[T]` (`copied`)
---     Names            the lifetime and the name that are made for each.        Lasts     what the callee says of each at the end
+--     Law              what that takes of the slice's type. Plain data has it (`PlainData.antt`)
+--     Names            the lifetime and the name that are made for each. A `&[T]` has no name, and the one here says nothing.        Lasts     what the callee says of each at the end
 --     Holding, After   what the walk holds before the call, and after it
 --     calls-handing    the call.        calls-handing-last     where it is the last statement of its part
 -- Definitions assume nothing; the steps assume `Logic`.
@@ -9,10 +10,10 @@ use mathlib.Core.List.{List, [], ◌∷◌}
 use Prim.Native.Nat.{ℕ}
 use lib.ListN.{length}
 use seplogic.Ra.Ura.{Ura}
-use mir.Syntax.{Name, Place, Opd as Operand, Body, seq, call, named}
+use mir.Syntax.{Callee, Place, Opd as Operand, Body, seq, call, named}
 use mir.Val.{Val}
 use base.Logic.{ent, sep, emp, via, comm∗, emp∗, mono∗}
-use base.Fml.{GName, Fml, ftrue, fsep, feq, flft}
+use base.Fml.{GName, Fml, ftrue, fsep, flft}
 use prog.Wp.{Env, Calls, Loops}
 use types.Logic.{Logic, sem}
 use sound.WpLaws.{FmC}
@@ -20,10 +21,12 @@ use contract.Lifetimes.{Lfts, Shares}
 use contract.Monad.{fact}
 use types.Kit.{Goal, Soaks, Item, Post, Seq, ‵, raw, runs, lands, settles, ◌$◌, move, drop, use0, use1, use2, rewrite, fsplit, fjoin}
 use types.Run.{Opds}
-use denote.RattleType.{RattleType, Denots, Valss, owns}
+use denote.RattleType.{RattleType, RowLaws, Denots, Valss, owns}
 use denote.Laws.{Is, Tells}
-use denote.Ref.{Bor}
-use denote.Slice.{slice_val, MutSlice, ShrSlice, finally}
+use denote.Bor.{Bor}
+use denote.MutBor.{MutBor}
+use denote.Shares.{Shares as SharesLaw}
+use denote.Slice.{slice_val, MutSlice, ShrSlice}
 use denote.Steps.{nothing}
 use denote.Triple.Bound.{Bound}
 use denote.Triple.Clauses.{Ended, Clauses, Lasts as LastsOf, at_exit, lasts}
@@ -33,17 +36,24 @@ use Rattle.walk_kit.proofs.CallStep.{Called, Result, After as AfterCall, calls-l
 use Rattle.walk_kit.proofs.CallPlain.{past_head}
 use Rattle.walk_kit.proofs.PlainData.{Value, types_of, values_of, machine-of, values-owned}
 use Rattle.walk_kit.proofs.Loans.{Loan, Lent, ref}
-use Rattle.walk_kit.proofs.LendingAgain.{passed_on, Kept, KeptSeen, passes_on, comes_back, shows-on, seen_back}
-use Rattle.walk_kit.proofs.Sharing.{Sees, Shared, copies}
+use Rattle.walk_kit.proofs.LendingAgain.{passed_on, Kept, KeptSeen, Left, passes_on, comes_back, shows-on, seen_back}
+use Rattle.walk_kit.proofs.Sharing.{Sees, Shared, copies, shown}
 
 pub data Mode : Type 0 where
   again : Mode
   seen : Mode
   copied : Mode
 
+-- what this takes of the type: to lend a `&[T]`, that it holds no `&mut`, and to copy one, that what a `&` to an element holds can be had twice
+abbrev pub Law : Mode → RattleType → Type 2
+Law again R = Unit
+Law seen R = (M : Type 1) (𝓤 : Ura M) (𝓛 : Logic 𝓤) → SharesLaw 𝓛 R []
+Law copied R = RowLaws R
+
 pub record Hand : Type 2 where
   pub mode : Mode
   pub type : RattleType
+  pub law : Law mode type
   pub loan : Loan
   pub elements : List type.Denot
   -- as the machine value counts them
@@ -54,7 +64,7 @@ pub record Hand : Type 2 where
 -- what the callee is lent
 abbrev pub to-callee : Mode → Loan → ℕ × GName → Loan
 to-callee again L c = passed_on L c.0 c.1
-to-callee seen L c = passed_on L c.0 c.1
+to-callee seen L c = passed_on L c.0 L.label
 to-callee copied L c = L
 
 abbrev Held : Mode → (R : RattleType) → Loan → List R.Denot → Fml
@@ -64,23 +74,34 @@ Held copied R L ys = Shared R L ys
 
 abbrev Has : Mode → (R : RattleType) → Loan → List R.Denot → ℕ → Fml
 Has again R L ys n = (MutSlice (named 0) L.lifetime R).own_val (ref R L ys) (slice_val (L.block, L.start) n ∷ [])
-Has seen R L ys n = (ShrSlice (named 0) L.lifetime R).own_val (ref R L ys) (slice_val (L.block, L.start) n ∷ [])
-Has copied R L ys n = (ShrSlice (named 0) L.lifetime R).own_val (ref R L ys) (slice_val (L.block, L.start) n ∷ [])
+Has seen R L ys n = (ShrSlice (named 0) L.lifetime R).own_val (shown R L ys) (slice_val (L.block, L.start) n ∷ [])
+Has copied R L ys n = (ShrSlice (named 0) L.lifetime R).own_val (shown R L ys) (slice_val (L.block, L.start) n ∷ [])
 
 abbrev Keeps : Mode → (R : RattleType) → Loan → ℕ × GName → List R.Denot → Fml
 Keeps again R L c ys = Kept R L c.0 c.1 ys
 Keeps seen R L c ys = KeptSeen R L c.0 ys
 Keeps copied R L c ys = Sees R L ys
 
+-- the reference that the callee is given
+abbrev Passed : Mode → RattleType → Type 0
+Passed again R = MutBor (List R.Denot)
+Passed seen R = Bor (List R.Denot)
+Passed copied R = Bor (List R.Denot)
+
+abbrev passed : (m : Mode) (R : RattleType) → Loan → List R.Denot → Passed m R
+passed again R L ys = ref R L ys
+passed seen R L ys = shown R L ys
+passed copied R L ys = shown R L ys
+
 abbrev Last : Mode → RattleType → Type 0
 Last again R = List R.Denot
 Last seen R = Unit
 Last copied R = Unit
 
-abbrev Says : (m : Mode) (R : RattleType) → ℕ × GName → List R.Denot → Last m R → Fml
-Says again R c ys zs = fsep (finally R c.1 zs) (feq ℕ (length zs) (length ys))
-Says seen R c ys zs = ftrue
-Says copied R c ys zs = ftrue
+abbrev Says : (m : Mode) (R : RattleType) → Loan → ℕ × GName → List R.Denot → Last m R → Fml
+Says again R L c ys zs = Left R (passed_on L c.0 c.1) ys zs
+Says seen R L c ys zs = ftrue
+Says copied R L c ys zs = ftrue
 
 abbrev last : (m : Mode) (R : RattleType) → List R.Denot → Last m R → List R.Denot
 last again R ys zs = zs
@@ -88,14 +109,14 @@ last seen R ys zs = ys
 last copied R ys zs = ys
 
 module _ {M : Type 1} {𝓤 : Ura M} {𝓛 : Logic 𝓤} {K : Type 0} {Γ : List (Item 𝓤)} {G : Goal 𝓤 𝓛.H} where
-  hands : K → Soaks G → (m : Mode) (R : RattleType) (L : Loan) (ys : List R.Denot) {n : ℕ} → length ys ≡ n
+  hands : K → Soaks G → (m : Mode) (R : RattleType) → Law m R → (L : Loan) (ys : List R.Denot) {n : ℕ} → length ys ≡ n
       → ((c : ℕ × GName) → Seq K 𝓛 (‵ (Has m R (to-callee m L c) ys n) ∷ ‵ (flft (to-callee m L c).lifetime (to-callee m L c).share) ∷ ‵ (Keeps m R L c ys) ∷ Γ) G) → Seq K 𝓛 (‵ (Held m R L ys) ∷ Γ) G
-  hands t z again R L ys e k = passes_on t z R L ys (λ ν δ. fsplit t $ rewrite t 0 (λ (n : ℕ). ‵ (Has again R (passed_on L ν δ) ys n)) e refl $ k (ν, δ))
-  hands t z seen R L ys e k = shows-on t z R L ys (λ ν δ. fsplit t $ rewrite t 0 (λ (n : ℕ). ‵ (Has seen R (passed_on L ν δ) ys n)) e refl $ k (ν, δ))
-  hands t z copied R L ys e k = copies t R L ys $ fsplit t $ rewrite t 0 (λ (n : ℕ). ‵ (Has copied R L ys n)) e refl $ k (0, L.label)
+  hands t z again R w L ys e k = passes_on t z R L ys (λ ν δ. fsplit t $ rewrite t 0 (λ (n : ℕ). ‵ (Has again R (passed_on L ν δ) ys n)) e refl $ k (ν, δ))
+  hands t z seen R w L ys e k = shows-on t z R (w M 𝓤 𝓛) L ys (λ ν. fsplit t $ rewrite t 0 (λ (n : ℕ). ‵ (Has seen R (passed_on L ν L.label) ys n)) e refl $ k (ν, L.label))
+  hands t z copied R w L ys e k = copies t R w L ys $ fsplit t $ rewrite t 0 (λ (n : ℕ). ‵ (Has copied R L ys n)) e refl $ k (0, L.label)
 
   back : K → Soaks G → (m : Mode) (R : RattleType) (L : Loan) (c : ℕ × GName) (ys : List R.Denot) (zs : Last m R) → (length (last m R ys zs) ≡ length ys → Seq K 𝓛 (‵ (Held m R L (last m R ys zs)) ∷ Γ) G)
-      → Seq K 𝓛 (‵ (flft (to-callee m L c).lifetime (to-callee m L c).share) ∷ ‵ (Says m R c ys zs) ∷ ‵ (Keeps m R L c ys) ∷ Γ) G
+      → Seq K 𝓛 (‵ (flft (to-callee m L c).lifetime (to-callee m L c).share) ∷ ‵ (Says m R L c ys zs) ∷ ‵ (Keeps m R L c ys) ∷ Γ) G
   back t z again R L c ys zs k = comes_back t z R L ys zs k
   back t z seen R L c ys zs k = move t (1 ∷ []) $ drop t $ seen_back t z R L ys $ k refl
   back t z copied R L c ys zs k = move t (1 ∷ []) $ drop t $ move t (1 ∷ 0 ∷ []) $ fjoin t $ k refl
@@ -125,7 +146,7 @@ Keepings (h ∷ hs) cs = fsep (Keeps h.mode h.type h.loan cs.0 h.elements) (Keep
 -- with what is said of the plain data
 abbrev Sayings : (hs : List Hand) → Names hs → Lasts hs → Fml → Fml
 Sayings [] cs zs P = P
-Sayings (h ∷ hs) cs zs P = fsep (Says h.mode h.type cs.0 h.elements zs.0) (Sayings hs cs.1 zs.1 P)
+Sayings (h ∷ hs) cs zs P = fsep (Says h.mode h.type h.loan cs.0 h.elements zs.0) (Sayings hs cs.1 zs.1 P)
 
 abbrev pub Holding : {M : Type 1} {𝓤 : Ura M} → List Hand → List (Item 𝓤) → List (Item 𝓤)
 Holding [] Γ = Γ
@@ -145,7 +166,7 @@ module _ {M : Type 1} {𝓤 : Ura M} {𝓛 : Logic 𝓤} {K : Type 0} {Γ : List
   hands-all : K → Soaks G → (hs : List Hand) (P Q : Fml) → ent 𝓤 (emp 𝓤) (sem 𝓛 Q) → ((cs : Names hs) → Seq K 𝓛 (‵ (Tokens hs cs) ∷ ‵ (Owns hs cs Q) ∷ ‵ (Keepings hs cs) ∷ ‵ P ∷ Γ) G) → Seq K 𝓛 (‵ P ∷ Holding hs Γ) G
   hands-all t z [] P Q q k = nothing t $ use0 𝓛 (‵ Q) q $ nothing t $ k tt
   hands-all t z (h ∷ hs) P Q q k =
-      move t (1 ∷ []) $ hands t z h.mode h.type h.loan h.elements h.counted (λ c.
+      move t (1 ∷ []) $ hands t z h.mode h.type h.law h.loan h.elements h.counted (λ c.
       move t (2 ∷ 3 ∷ []) $ fjoin t $ move t (2 ∷ 0 ∷ []) $ fjoin t $ move t (1 ∷ 0 ∷ []) $ fjoin t $ hands-all t z hs _ Q q (λ cs.
       move t (3 ∷ []) $ fsplit t $ move t (1 ∷ []) $ fsplit t $
       -- [the token; what is kept, and P; the slice; the tokens; the slices; what is kept]
@@ -171,11 +192,11 @@ shares_of (h ∷ hs) cs = ((to-callee h.mode h.loan cs.0).share, shares_of hs cs
 
 abbrev Arguments : List Hand → List Value → Type 0
 Arguments [] vs = Denots (types_of vs)
-Arguments (h ∷ hs) vs = Bor (List h.type.Denot) × Arguments hs vs
+Arguments (h ∷ hs) vs = Passed h.mode h.type × Arguments hs vs
 
 abbrev arguments : (hs : List Hand) → Names hs → (vs : List Value) → Arguments hs vs
 arguments [] cs vs = values_of vs
-arguments (h ∷ hs) cs vs = (ref h.type (to-callee h.mode h.loan cs.0) h.elements, arguments hs cs.1 vs)
+arguments (h ∷ hs) cs vs = (passed h.mode h.type (to-callee h.mode h.loan cs.0) h.elements, arguments hs cs.1 vs)
 
 abbrev Machine : List Hand → List Value → Type 0
 Machine [] vs = Valss (types_of vs)
@@ -242,7 +263,7 @@ module _ {M : Type 1} {𝓤 : Ura M} {𝓛 : Logic 𝓤} {K : Type 0} {Γ : List
       drop t $ use1 𝓛 (‵ (Tokens h.slices cs)) (h.fits.leaves cs) $ move t (1 ∷ []) $ rewrite t 0 (λ (P : Fml). ‵ P) (h.fits.ends cs ws) refl $ move t (1 ∷ 0 ∷ 2 ∷ []) $
       nothing t $ move t (1 ∷ 2 ∷ 3 ∷ 0 ∷ []) $ back-all t (s (h.val cs r)) h.slices cs (h.fits.lists cs ws) ftrue (h.fits.others cs ws) (λ l. drop t $ go cs r ws e is l)
 
-  module _ {E : Env 𝓤 H} {C : Calls 𝓤 H} {Λ : Loops 𝓤 H} {z : Post 𝓤 H} {k : Name} {xs : List Operand} {d : Place} (t : K) (fm : FmC 𝓤 H 𝓛.laws C) (known : Triple 𝓤 (C k) (Called 𝓛 T c)) (h : Handing 𝓛 T c) where
+  module _ {E : Env 𝓤 H} {C : Calls 𝓤 H} {Λ : Loops 𝓤 H} {z : Post 𝓤 H} {k : Callee} {xs : List Operand} {d : Place} (t : K) (fm : FmC 𝓤 H 𝓛.laws C) (known : Triple 𝓤 (C k) (Called 𝓛 T c)) (h : Handing 𝓛 T c) where
     -- the operands are read as if nothing were handed over
     pub calls-handing : {rest : Body} → ((cs : Names h.slices) → Opds K 𝓛 Γ E xs ((Called 𝓛 T c).args (h.fits.bound cs, h.fits.ghost cs))) → Goes K 𝓛 Γ h (λ u. lands C Λ E d u rest z) → Seq K 𝓛 (Holding h.slices Γ) (runs C Λ E (seq (call k xs d) rest) z)
     calls-handing {rest} os go =

@@ -11,14 +11,13 @@ use mathlib.Core.List.{List, [], ◌∷◌}
 use Prim.Native.Nat.{ℕ}
 use lib.ListN.{length}
 use seplogic.Ra.Ura.{Ura}
-use seplogic.Ra.TreeShare.{full_share}
+use base.Fraction.{full_share}
 use mir.Syntax.{named}
 use mir.Val.{Val}
-use base.Logic.{ent, sep, ex}
-use base.Fml.{Lft, GName, Share, Fml, fsep, fobs, fauth, fobor, flent, flft, fdead}
+use base.Fml.{Lft, GName, Share, Fml, fsep, fobs, fauth, fobor, flent, flft}
 use types.Logic.{Logic}
 use contract.Lifetimes.{lft_at}
-use types.Kit.{Goal, Soaks, Item, Seq, Step, step, ‵, ◌⊛◌, some, given, later, mean, ◌$◌, ◌∵◌, !, qed, move, drop, use1, use3, split, join, pick, learn, rewrite, fsplit, fjoin, fjoin3, feq_l, feq_i, await, updating, now as at_once, check, show, frame, done}
+use types.Kit.{Goal, Soaks, Item, Seq, Step, step, ‵, ◌⊛◌, some, later, ◌$◌, move, drop, use1, use3, split, pick, rewrite, fsplit, fjoin, fjoin3, feq_l, feq_i, await}
 use types.Mut.{open_ref, close_ref}
 use types.SemTy.{cells, Arr, Body}
 use types.Share.{arr_parts}
@@ -31,9 +30,9 @@ use denote.Lend.{Held, lends_slice, slice_back}
 use denote.Memory.{mem, shares}
 use denote.RattleType.{RattleType}
 use denote.Ref.{MutBor, MutRef, mut_vals, at_last, mut_Tells, mut_Lawful}
-use denote.Signature.{Slot, AllWithin, plain, mut_ref_to}
+use denote.Signature.{Slot, AllWithin, mut_ref_to}
 use denote.Slice.{slice_val, MutSlice, Room, finally}
-use denote.Triple.Walked.{Stay, Goes, stay_ref, gave_ref, Goes-ref, Goes-gave_ref}
+use denote.Triple.Walked.{stay_ref, gave_ref, Goes-ref, Goes-gave_ref}
 use Rattle.walk_kit.proofs.Parameters.{Param}
 use Rattle.walk_kit.proofs.Tokens.{tok}
 
@@ -67,7 +66,7 @@ module _ (R : RattleType) (n : ℕ) (κ : Lft) (q : Share) (x : MutBor (List R.D
   b = x.ref_ptr.0
 
   abbrev o : ℕ
-  o = x.ptr.1
+  o = x.ref_ptr.1
 
   abbrev Own : Fml
   Own = fsep (fobor κ q (Body (mem (Array R n)) b o x.ghost_name)) (fsep (fobs x.ghost_name ((Array R n).coded.code x.now)) (fauth x.ghost_name ((Array R n).coded.code x.now)))
@@ -80,7 +79,7 @@ module _ (R : RattleType) (n : ℕ) (κ : Lft) (q : Share) (x : MutBor (List R.D
 
   -- the slice that the callee is lent
   abbrev pub slice_of : GName → List R.Denot → MutBor (List R.Denot)
-  slice_of δ xs = record { ref_ptr = x.ptr; ghost_name = δ; now = xs }
+  slice_of δ xs = record { ref_ptr = x.ref_ptr; ghost_name = δ; now = xs }
 
   module _ {M : Type 1} {𝓤 : Ura M} {𝓛 : Logic 𝓤} {K : Type 0} {Γ : List (Item 𝓤)} {G : Goal 𝓤 𝓛.H} where
     pub array-opens : K → Soaks G → Single R.mir → (length x.now ≡ n → Seq K 𝓛 (‵ (Behind x.now) ∷ Γ) G) → Seq K 𝓛 (‵ (flft κ q) ∷ ‵ ((MutRef (named 0) κ (Array R n)).own_val x (mut_vals x)) ∷ Γ) G
@@ -97,13 +96,13 @@ module _ (R : RattleType) (n : ℕ) (κ : Lft) (q : Share) (x : MutBor (List R.D
         move t (1 ∷ []) $ fsplit t $ move t (1 ∷ []) $ fsplit t $ move t (3 ∷ 2 ∷ 0 ∷ 1 ∷ []) $ close_ref t z (mem (Array R n)) zs {b = b} {o = o} $ feq_i t (List Val) (mut_vals x) (mut_vals x) refl $ fjoin3 t $ s)
 
     pub lends-behind : K → Soaks G → (xs : List R.Denot) → length xs ≡ n → Room R n
-        → ((ν : ℕ) (δ : GName) → Seq K 𝓛 (‵ (BehindLent ν δ) ∷ tok ν ∷ ‵ ((MutSlice (named 0) (ν ∷ []) R).own_val (slice_of δ xs) (slice_val x.ptr n ∷ [])) ∷ Γ) G) → Seq K 𝓛 (‵ (Behind xs) ∷ Γ) G
+        → ((ν : ℕ) (δ : GName) → Seq K 𝓛 (‵ (BehindLent ν δ) ∷ tok ν ∷ ‵ ((MutSlice (named 0) (ν ∷ []) R).own_val (slice_of δ xs) (slice_val x.ref_ptr n ∷ [])) ∷ Γ) G) → Seq K 𝓛 (‵ (Behind xs) ∷ Γ) G
     unfolding Behind BehindLent
     lends-behind t z xs e room k =
         fsplit t $ use1 𝓛 (‵ (cells (mem R) xs b o)) (whole_in 𝓛 R xs b o) $ lft_new t z (λ ν. move t (1 ∷ []) $
-        use1 𝓛 (later (some (λ (δ : GName). ‵ ((MutSlice (named 0) (ν ∷ []) R).own_val (slice_of δ xs) (slice_val x.ptr (length xs) ∷ [])) ⊛ ‵ (flent (ν ∷ []) (Held R (length xs) b o δ)))))
+        use1 𝓛 (later (some (λ (δ : GName). ‵ ((MutSlice (named 0) (ν ∷ []) R).own_val (slice_of δ xs) (slice_val x.ref_ptr (length xs) ∷ [])) ⊛ ‵ (flent (ν ∷ []) (Held R (length xs) b o δ)))))
         (lends_slice 𝓛 R (named 0) (ν ∷ []) xs b o (subst (Room R) (sym e) room)) $ await t z $ pick t (λ δ. split t $
-        rewrite t 0 (λ (m : ℕ). ‵ ((MutSlice (named 0) (ν ∷ []) R).own_val (slice_of δ xs) (slice_val x.ptr m ∷ []))) e refl $ rewrite t 1 (λ (m : ℕ). ‵ (flent (ν ∷ []) (Held R m b o δ))) e refl $
+        rewrite t 0 (λ (m : ℕ). ‵ ((MutSlice (named 0) (ν ∷ []) R).own_val (slice_of δ xs) (slice_val x.ref_ptr m ∷ []))) e refl $ rewrite t 1 (λ (m : ℕ). ‵ (flent (ν ∷ []) (Held R m b o δ))) e refl $
         -- [the slice; the lender's part; the token; the rest]
         move t (1 ∷ 3 ∷ []) $ fjoin t $ move t (0 ∷ 2 ∷ []) $ k ν δ))
 

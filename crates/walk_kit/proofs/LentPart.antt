@@ -13,8 +13,8 @@ use mathlib.Core.List.{List, [], ◌∷◌, ◌++◌, append-nil}
 use lib.ListN.{length, take, drop as rest_of, length-map, length-append, take-append-drop, drop_of_length-le}
 use lib.Seq.{take-length, length-take-le}
 use seplogic.Ra.Ura.{Ura}
-use seplogic.Ra.TreeShare.{full_share}
-use mir.Syntax.{Lifetime, Name, Place, Opd as Operand, Body, seq, call}
+use base.Fraction.{full_share}
+use mir.Syntax.{Lifetime, Callee, Place, Opd as Operand, Body, seq, call}
 use mir.Val.{Val}
 use base.Logic.{ent, sep, ex, guard}
 use base.Fml.{Lft, GName, Share, Fml, fsep, flft, fobs, fbor}
@@ -90,7 +90,7 @@ same_length n ys zs l = length-append (take n ys) zs ∙ ap (λ (k : ℕ). lengt
 pub start-byte : (o : ℕ) (ys : List ℕ) (n : ℕ) → n ≤ length ys → start u8 o ys n ≡ n + o
 start-byte o ys n h = ap (at o (mem u8).size) (length-map (take n ys) (here (mem u8)) ∙ length-take-le n ys h) ∙ at_byte o n
 
-module _ {M : Type 1} {𝓤 : Ura M} {𝓛 : Logic 𝓤} {K : Type 0} {Γ : List (Item 𝓤)} {E : Env 𝓤 𝓛.H} {C : Calls 𝓤 𝓛.H} {Λ : Loops 𝓤 𝓛.H} {p : Post 𝓤 𝓛.H} {f : Name} {xs : List Operand} {d : Place} {rest : Body} where
+module _ {M : Type 1} {𝓤 : Ura M} {𝓛 : Logic 𝓤} {K : Type 0} {Γ : List (Item 𝓤)} {E : Env 𝓤 𝓛.H} {C : Calls 𝓤 𝓛.H} {Λ : Loops 𝓤 𝓛.H} {p : Post 𝓤 𝓛.H} {f : Callee} {xs : List Operand} {d : Place} {rest : Body} where
   open 𝓛 use {H, A}
 
   pub part-call : K → FmC 𝓤 H 𝓛.laws C → (R : RattleType) (ℓ ℓ' : Lifetime) (κ : Lft) (q : Share) (γ : GName) (b o : ℕ) (ys : List R.Denot) (m : ℕ) → length ys ≡ m → (n : ℕ)

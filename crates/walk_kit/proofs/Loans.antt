@@ -32,7 +32,7 @@ pub record Loan : Type 0 where
 
 -- of a parameter
 abbrev pub loan-of : {X : Type 0} → Lft → Share → MutBor X → Loan
-loan-of κ q x = record { lifetime = κ; share = q; label = x.name; block = x.ptr.0; start = x.ptr.1 }
+loan-of κ q x = record { lifetime = κ; share = q; label = x.ghost_name; block = x.ref_ptr.0; start = x.ref_ptr.1 }
 
 -- the reference, where the list is ys
 abbrev pub ref : (R : RattleType) → Loan → List R.Denot → MutBor (List R.Denot)

@@ -19,13 +19,14 @@ use mathlib.Core.List.{List, [], ◌∷◌, ◌++◌}
 use lib.ListN.{length, get_or, replicate, length-replicate, take, drop as drop_first, length-take, take-append-drop}
 use lib.Dec.{T}
 use seplogic.Ra.Ura.{Ura}
-use seplogic.Ra.TreeShare.{full_share}
+use base.Fraction.{full_share}
 use mir.Syntax.{Ty, ty_array, named, Width, int_big, Place, place as placed, Opd as Operand, Body, seq, assign, rv_opd, repeat}
 use mir.Val.{Val, vint, bits, Fits, has_ty, WT, vptr}
 use base.Logic.{SProp, ent, sep, wand, ex, emp, via, comm∗, assoc∗, mono_l, mono_r, snd∗, emp∗, wand_i, apply∗, ex_i, guard_i}
 use base.Fml.{GName, Share, Fml, ftrue, fsep, fat, froom, flft, fdead, flent, fres}
 use prog.Wp.{Env, Calls, Loops, spot_of}
 use types.Logic.{Logic, sem}
+use contract.BorrowLft.{⊑_refl, ⊑_static}
 use types.Kit.{Item, ‵, raw, ◌⊛◌, some, given, later, mean, ⋆, nth, del, put, pull, unpull, fill, push, pop, Goal, Soaks, Post, runs, Seq, Step, step, cut, ◌$◌, ◌∵◌, !, qed, by, move, drop, use1, use2, use3, split, join, pick, learn, rewrite, fsplit, fjoin, fpick, fpack, feq_l, feq_i, frame, await, updating, now as at_once, assume, check, show, done}
 use types.Part.{rep}
 use types.Run.{Reads, Writes, Finds, Opd, of_opd, assigns}
@@ -39,8 +40,10 @@ use denote.Laws.{Is, Tells, Lawful, Makes, shows}
 use denote.Lend.{Held, lends_ref, ref_back, lends_slice, slice_back, lends_shr_slice}
 use denote.Memory.{cell_at, lone, part_at, mem, shares, part_of}
 use denote.RattleType.{RattleType}
+use denote.Bor.{Bor}
 use denote.Ref.{MutBor, MutRef}
 use denote.Shadow.{shadow}
+use denote.Shares.{Shares}
 use denote.Slice.{slice_val, MutSlice, ShrSlice, Room, finally}
 use denote.Steps.{owned}
 use Rattle.walk_kit.proofs.Locals.{sets}
@@ -79,7 +82,7 @@ unfoldable pub Elements : (R : RattleType) → List R.Denot → ℕ → Fml
 Elements R xs b = row R full_share xs b zero
 
 module _ (R : RattleType) where
-  repeat-each : (x : R.Denot) (u : Val) → Is R x (u ∷ []) → (n : ℕ) → shadow (each R.Denot R.own (replicate n x) (replicate n u))
+  repeat-each : (x : R.Denot) (u : Val) → Is R x (u ∷ []) → (n : ℕ) → shadow (each R.Denot R.own_val (replicate n x) (replicate n u))
   repeat-each x u is zero = tt
   repeat-each x u is (suc n) = (is, repeat-each x u is n)
 
@@ -150,6 +153,10 @@ module _ {M : Type 1} {𝓤 : Ura M} {𝓛 : Logic 𝓤} {K : Type 0} {Γ : List
 abbrev pub from_start : (R : RattleType) → ℕ → GName → List R.Denot → MutBor (List R.Denot)
 from_start R b δ ys = record { ref_ptr = (b, zero); ghost_name = δ; now = ys }
 
+-- and shared, which has no name
+abbrev pub seen-from_start : (R : RattleType) → ℕ → List R.Denot → Bor (List R.Denot)
+seen-from_start R b ys = record { ref_ptr = (b, zero); now = ys }
+
 -- what the lender keeps of m elements that are lent for ν under the name δ, and the elements after them
 unfoldable pub Lent : (R : RattleType) → ℕ → GName → ℕ → List R.Denot → ℕ → Fml
 Lent R ν δ m rest b = fsep (flent (ν ∷ []) (Held R m b zero δ)) (row R full_share rest b (place (mem R).size zero m))
@@ -187,8 +194,8 @@ module _ {M : Type 1} {𝓤 : Ura M} (𝓛 : Logic 𝓤) (R : RattleType) where
   abbrev Out : ℕ → List R.Denot → ℕ → ℕ × GName → Item 𝓤
   Out m ys b x = ‵ (flft (x.0 ∷ []) full_share) ⊛ ‵ ((MutSlice (named 0) (x.0 ∷ []) R).own_val (from_start R b x.1 ys) (slice_val (b, zero) m ∷ []))
 
-  abbrev OutShared : ℕ → List R.Denot → ℕ → ℕ × GName → Item 𝓤
-  OutShared m ys b x = ‵ (flft (x.0 ∷ []) full_share) ⊛ ‵ ((ShrSlice (named 0) (x.0 ∷ []) R).own_val (from_start R b x.1 ys) (slice_val (b, zero) m ∷ []))
+  abbrev OutShared : ℕ → List R.Denot → ℕ → ℕ → Item 𝓤
+  OutShared m ys b ν = ‵ (flft (ν ∷ []) full_share) ⊛ ‵ ((ShrSlice (named 0) (ν ∷ []) R).own_val (seen-from_start R b ys) (slice_val (b, zero) m ∷ []))
 
   -- of the elements xs the first, ys, of which there are m
   lends_out : (xs ys rest : List R.Denot) → ys ++ rest ≡ xs → (m : ℕ) → length ys ≡ m → Room R m → (b : ℕ)
@@ -213,17 +220,18 @@ module _ {M : Type 1} {𝓤 : Ura M} (𝓛 : Logic 𝓤) (R : RattleType) where
       rewrite ! 1 (λ (n : ℕ). ‵ (all rest b (place (mem R).size zero n))) (sym l) refl $ use2 𝓛 (‵ (all (zs ++ rest) b zero)) (together zs rest b zero) $
       rewrite ! 0 (λ (us : List R.Denot). ‵ (all us b zero)) e refl $ at_once ! $ check ! l $ done !)
 
-  shares_out : (xs ys rest : List R.Denot) → ys ++ rest ≡ xs → (m : ℕ) → length ys ≡ m → Room R m → (b : ℕ)
-      → ent 𝓤 ⟦ Elements R xs b ⟧ (H.⇛ (ex 𝓤 (λ (x : ℕ × GName). mean 𝓛 (OutShared m ys b x) ∗ ⟦ Shared R x.0 ys rest b ⟧)))
+  -- the type holds no `&mut`, so sharing its elements takes no token but that of the lifetime that is made (`denote.Shares`). `PlainData.sharable` is it at plain data
+  shares_out : Shares 𝓛 R [] → (xs ys rest : List R.Denot) → ys ++ rest ≡ xs → (m : ℕ) → length ys ≡ m → Room R m → (b : ℕ)
+      → ent 𝓤 ⟦ Elements R xs b ⟧ (H.⇛ (ex 𝓤 (λ (ν : ℕ). mean 𝓛 (OutShared m ys b ν) ∗ ⟦ Shared R ν ys rest b ⟧)))
   unfolding Elements Shared
-  shares_out xs ys rest e m l room b =
+  shares_out law xs ys rest e m l room b =
       qed 𝓛 (‵ (all xs b zero) ∷ []) ∵ updating ! $ rewrite ! 0 (λ (zs : List R.Denot). ‵ (all zs b zero)) (sym e) refl $
       use1 𝓛 (‵ (all ys b zero) ⊛ ‵ (all rest b (place (mem R).size zero (length ys)))) (apart ys rest b zero) $ split ! $
-      feq_i ! ℕ (length ys) (length ys) refl $ fjoin ! $ lft_new ! tt (λ ν. move ! (1 ∷ []) $
-      use1 𝓛 (later (some (λ (δ : GName). ‵ ((ShrSlice (named 0) (ν ∷ []) R).own_val (from_start R b δ ys) (slice_val (b, zero) (length ys) ∷ [])) ⊛ ‵ (flent (ν ∷ []) ((arr_parts (shares R) (length ys)).part full_share ys b zero)))))
-      (lends_shr_slice 𝓛 R (named 0) (ν ∷ []) full_share ys b zero (subst (Room R) (sym l) room)) $ await ! tt $ pick ! (λ δ. split ! $ at_once ! $
-      show ! (λ (x : ℕ × GName). mean 𝓛 (OutShared m ys b x) ∗ ⟦ Shared R x.0 ys rest b ⟧) (ν, δ) $
-      rewrite ! 0 (λ (n : ℕ). ‵ ((ShrSlice (named 0) (ν ∷ []) R).own_val (from_start R b δ ys) (slice_val (b, zero) n ∷ []))) l refl $ move ! (2 ∷ 0 ∷ []) $ join ! $ frame ! $ fjoin ! $ done !))
+      feq_i ! ℕ (length ys) (length ys) refl $ fjoin ! $ lft_new ! tt (λ ν. move ! (1 ∷ 0 ∷ []) $
+      use2 𝓛 (later ((‵ ((ShrSlice (named 0) (ν ∷ []) R).own_val (seen-from_start R b ys) (slice_val (b, zero) (length ys) ∷ [])) ⊛ ‵ (flent (ν ∷ []) ((arr_parts (shares R) (length ys)).part full_share ys b zero))) ⊛ ‵ (flft (ν ∷ []) full_share)))
+      (lends_shr_slice 𝓛 R (named 0) (ν ∷ []) full_share ys b zero (subst (Room R) (sym l) room) [] law ((ν ∷ [], full_share) ∷ []) (⊑_static (ν ∷ [])) (⊑_refl (ν ∷ []))) $ await ! tt $ split ! $ split ! $ at_once ! $
+      show ! (λ (ν' : ℕ). mean 𝓛 (OutShared m ys b ν') ∗ ⟦ Shared R ν' ys rest b ⟧) ν $
+      rewrite ! 0 (λ (n : ℕ). ‵ ((ShrSlice (named 0) (ν ∷ []) R).own_val (seen-from_start R b ys) (slice_val (b, zero) n ∷ []))) l refl $ move ! (2 ∷ 0 ∷ []) $ join ! $ frame ! $ fjoin ! $ done !)
 
   shared-in : (ν : ℕ) (xs ys rest : List R.Denot) → ys ++ rest ≡ xs → (b : ℕ) → ent 𝓤 (⟦ Shared R ν ys rest b ⟧ ∗ A.dead (ν ∷ [])) (H.⇛ ⟦ Elements R xs b ⟧)
   unfolding Elements Shared
@@ -277,9 +285,9 @@ module _ {M : Type 1} {𝓤 : Ura M} {𝓛 : Logic 𝓤} {K : Type 0} {Γ : List
       → ((ν : ℕ) (δ : GName) → Seq K 𝓛 (tok ν ∷ ‵ ((MutSlice (named 0) (ν ∷ []) R).own_val (from_start R b δ ys) (slice_val (b, zero) m ∷ [])) ∷ put 𝓛 k (‵ (Lent R ν δ m rest b)) Γ) G) → Seq K 𝓛 Γ G
   lends_part t z R xs ys rest e m l room b k at go = draws t z k (Out 𝓛 R m ys b) (λ x. ‵ (Lent R x.0 x.1 m rest b)) (lends_out 𝓛 R xs ys rest e m l room b) at (λ x. split t $ go x.0 x.1)
 
-  pub shares-part : K → Soaks G → (R : RattleType) (xs ys rest : List R.Denot) → ys ++ rest ≡ xs → (m : ℕ) → length ys ≡ m → Room R m → (b k : ℕ) → nth 𝓛 k Γ ≡ ‵ (Elements R xs b)
-      → ((ν : ℕ) (δ : GName) → Seq K 𝓛 (tok ν ∷ ‵ ((ShrSlice (named 0) (ν ∷ []) R).own_val (from_start R b δ ys) (slice_val (b, zero) m ∷ [])) ∷ put 𝓛 k (‵ (Shared R ν ys rest b)) Γ) G) → Seq K 𝓛 Γ G
-  shares-part t z R xs ys rest e m l room b k at go = draws t z k (OutShared 𝓛 R m ys b) (λ x. ‵ (Shared R x.0 ys rest b)) (shares_out 𝓛 R xs ys rest e m l room b) at (λ x. split t $ go x.0 x.1)
+  pub shares-part : K → Soaks G → (R : RattleType) → Shares 𝓛 R [] → (xs ys rest : List R.Denot) → ys ++ rest ≡ xs → (m : ℕ) → length ys ≡ m → Room R m → (b k : ℕ) → nth 𝓛 k Γ ≡ ‵ (Elements R xs b)
+      → ((ν : ℕ) → Seq K 𝓛 (tok ν ∷ ‵ ((ShrSlice (named 0) (ν ∷ []) R).own_val (seen-from_start R b ys) (slice_val (b, zero) m ∷ [])) ∷ put 𝓛 k (‵ (Shared R ν ys rest b)) Γ) G) → Seq K 𝓛 Γ G
+  shares-part t z R law xs ys rest e m l room b k at go = draws t z k (OutShared 𝓛 R m ys b) (λ ν. ‵ (Shared R ν ys rest b)) (shares_out 𝓛 R law xs ys rest e m l room b) at (λ ν. split t $ go ν)
 
   -- ---- the rules: of the whole array, which has no elements after what is lent, and of the first m
   pub lends-array : K → Soaks G → (R : RattleType) (xs : List R.Denot) (m : ℕ) → length xs ≡ m → Room R m → (b k : ℕ) → nth 𝓛 k Γ ≡ ‵ (Elements R xs b)
@@ -299,14 +307,14 @@ module _ {M : Type 1} {𝓤 : Ura M} {𝓛 : Logic 𝓤} {K : Type 0} {Γ : List
       → (length zs ≡ m → Seq K 𝓛 (put 𝓛 k (‵ (Elements R (zs ++ rest) b)) Γ) G) → Seq K 𝓛 (tok ν ∷ ‵ (finally R δ zs) ∷ Γ) G
   front-back t z R ν δ m zs rest b k at go = lft_end t z $ join t $ gives t z k (length zs ≡ m) (‵ (Elements R (zs ++ rest) b)) (comes-in 𝓛 R ν δ m (zs ++ rest) zs rest refl b) at go
 
-  pub shares_array : K → Soaks G → (R : RattleType) (xs : List R.Denot) (m : ℕ) → length xs ≡ m → Room R m → (b k : ℕ) → nth 𝓛 k Γ ≡ ‵ (Elements R xs b)
-      → ((ν : ℕ) (δ : GName) → Seq K 𝓛 (tok ν ∷ ‵ ((ShrSlice (named 0) (ν ∷ []) R).own_val (from_start R b δ xs) (slice_val (b, zero) m ∷ [])) ∷ put 𝓛 k (‵ (Shared R ν xs [] b)) Γ) G) → Seq K 𝓛 Γ G
-  shares_array t z R xs = shares-part t z R xs xs [] (appended xs)
+  pub shares_array : K → Soaks G → (R : RattleType) → Shares 𝓛 R [] → (xs : List R.Denot) (m : ℕ) → length xs ≡ m → Room R m → (b k : ℕ) → nth 𝓛 k Γ ≡ ‵ (Elements R xs b)
+      → ((ν : ℕ) → Seq K 𝓛 (tok ν ∷ ‵ ((ShrSlice (named 0) (ν ∷ []) R).own_val (seen-from_start R b xs) (slice_val (b, zero) m ∷ [])) ∷ put 𝓛 k (‵ (Shared R ν xs [] b)) Γ) G) → Seq K 𝓛 Γ G
+  shares_array t z R law xs = shares-part t z R law xs xs [] (appended xs)
 
-  pub shares-front : K → Soaks G → (R : RattleType) (xs : List R.Denot) (m : ℕ) → m ≤ length xs → Room R m → (b k : ℕ) → nth 𝓛 k Γ ≡ ‵ (Elements R xs b)
-      → ((ν : ℕ) (δ : GName) → Seq K 𝓛 (tok ν ∷ ‵ ((ShrSlice (named 0) (ν ∷ []) R).own_val (from_start R b δ (take m xs)) (slice_val (b, zero) m ∷ [])) ∷ put 𝓛 k (‵ (Shared R ν (take m xs) (drop_first m xs) b)) Γ) G)
+  pub shares-front : K → Soaks G → (R : RattleType) → Shares 𝓛 R [] → (xs : List R.Denot) (m : ℕ) → m ≤ length xs → Room R m → (b k : ℕ) → nth 𝓛 k Γ ≡ ‵ (Elements R xs b)
+      → ((ν : ℕ) → Seq K 𝓛 (tok ν ∷ ‵ ((ShrSlice (named 0) (ν ∷ []) R).own_val (seen-from_start R b (take m xs)) (slice_val (b, zero) m ∷ [])) ∷ put 𝓛 k (‵ (Shared R ν (take m xs) (drop_first m xs) b)) Γ) G)
       → Seq K 𝓛 Γ G
-  shares-front t z R xs m le = shares-part t z R xs (take m xs) (drop_first m xs) (take-append-drop m xs) m (take_all m xs le)
+  shares-front t z R law xs m le = shares-part t z R law xs (take m xs) (drop_first m xs) (take-append-drop m xs) m (take_all m xs le)
 
   -- the walk gets back what was shared, as it was
   pub part-unshared : K → Soaks G → (R : RattleType) (ν : ℕ) (xs ys rest : List R.Denot) → ys ++ rest ≡ xs → (b k : ℕ) → nth 𝓛 k Γ ≡ ‵ (Shared R ν ys rest b)

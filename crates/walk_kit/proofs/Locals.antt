@@ -11,7 +11,7 @@ use mathlib.Core.List.{List, [], ◌∷◌}
 use Prim.Native.Nat.{ℕ, ◌+◌}
 use lib.Dec.{T}
 use seplogic.Ra.Ura.{Ura}
-use seplogic.Ra.TreeShare.{full_share}
+use base.Fraction.{full_share}
 use mir.Syntax.{Sym, Ty, Tys, ty_struct, deref, field, place, Opd as Operand, copy, Rv as RValue, Body, seq, assign, cond, skip, exit}
 use mir.Raw.{raw as raw_ty}
 use mir.Val.{Val, Vals, vbool, vptr, vstruct}

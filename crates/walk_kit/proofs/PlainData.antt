@@ -1,5 +1,6 @@
 -- A declared type of plain data in a walk: `Data` has its laws, and what a walk cites of a value of it is here.
 --     Means            the value is of its type, at its machine value.        typed, makes     so the machine value may be stored, and what the value owns is had for nothing
+--     copied, sharable, row-laws       so a slice of it is read (`Elements.antt`), lent as a `&[T]` (`LendingAgain.antt`, `LocalArrays.antt`), and its reference copied (`Sharing.antt`)
 --     Value            a value that is passed to a callee: `value` of a declared type, a `number`, a `flag`
 -- Definitions assume nothing; the laws of a model assume `Logic`.
 use mathlib.Core.Path.{refl, subst}
@@ -8,15 +9,19 @@ use mathlib.Core.List.{List, [], ◌∷◌}
 use Prim.Native.Nat.{ℕ, ◌<◌, ◌^◌}
 use lib.Dec.{T}
 use seplogic.Ra.Ura.{Ura}
+use base.Fraction.{full_share}
 use mir.Syntax.{Ty, Width}
 use mir.Val.{Val, vbool, vint, bits, has_ty, WT}
 use base.Logic.{ent, sep, emp, via, id⊢, emp∗, mono∗}
 use types.Logic.{Logic, sem}
-use denote.RattleType.{RattleType, Denots, Valss, owns}
+use denote.Copied.{Copied}
+use denote.Shares.{Shares}
+use denote.RattleType.{RattleType, RowLaws, Denots, Valss, owns}
 use denote.Plain.{UInt, Boolean, uint_Makes, bool_Makes}
 use denote.Laws.{Is, Tells, Typed, Makes, Copy as CopyOf}
 use denote.Struct.Declared.{Declared, row, fields}
 use denote.Struct.Laws as LL
+use borrow.Table.Copies.{parts_laws}
 use denote.Struct.Struct.{Plains}
 
 pub record Data : Type 2 where
@@ -39,6 +44,9 @@ module _ (D : Data) where
   pub tells : Tells Row (Is Row) (λ x. val x ∷ [])
   tells = D.low.val_is
 
+  pub row-laws : RowLaws Row
+  row-laws = parts_laws D.type (LL.copy_row_laws D.type.parts D.copy)
+
   module _ {M : Type 1} {𝓤 : Ura M} (𝓛 : Logic 𝓤) where
     pub makes : Makes 𝓛 Row (Is Row)
     makes = LL.makes D.type D.plain 𝓛
@@ -46,6 +54,12 @@ module _ (D : Data) where
     module _ where
       pub copies : CopyOf 𝓛 Row
       copies = LL.copy D.type D.copy 𝓛
+
+      pub copied : Copied 𝓛 Row
+      copied = LL.copied D.type D.copy 𝓛
+
+      pub sharable : Shares 𝓛 Row []
+      sharable = copied.shares full_share []
 
       pub typed : (x : Row.Denot) → Means x → T (has_ty D.low.mir (val x)) × WT (val x)
       typed x is = (subst (λ (τs : List Ty). Typed τs (val x ∷ [])) D.low.layout_is ((LL.lawful D.type D.laws 𝓛).typed x (val x ∷ []) is)).0
@@ -56,7 +70,7 @@ pub record Value : Type 2 where
   pub it : type.Denot
   pub machine : Val
   -- what it owns is had for nothing
-  pub free : {M : Type 1} {𝓤 : Ura M} (𝓛 : Logic 𝓤) → ent 𝓤 (emp 𝓤) (sem 𝓛 (type.own it (machine ∷ [])))
+  pub free : {M : Type 1} {𝓤 : Ura M} (𝓛 : Logic 𝓤) → ent 𝓤 (emp 𝓤) (sem 𝓛 (type.own_val it (machine ∷ [])))
 
 -- a value of a declared type
 abbrev pub value : (D : Data) (x : (Row D).Denot) → Means D x → Value

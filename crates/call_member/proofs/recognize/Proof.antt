@@ -18,28 +18,19 @@ use Rattle.call_member.specs.RecognizeLaws.{refusal, refused_as, passed, answere
 use Rattle.call_member.proofs.recognize.Statement.{statement}
 use Rattle.call_member.proofs.recognize.Tie as tie
 
-returns : tie.Need-returns-then-refusal-ne0
-returns c =
-    let a = c.before.before.before.before.before.before.args in
-    let found = c.before.before.refusal_for-refusal in
-    record {
-      answer = refused_as a.file.now a.word.now (length a.table.now) a.table.now found.result found.ensures c.if-refusal-ne0.true;
-      meaning = refl;
-    }
-
 -- where nothing refuses the call
-module _ (passes : tie.Else-refusal-ne0) where
+module _ (at : tie.After-refusal_for-refusal) (passes : at.refusal_for-refusal.result.number ≡ 0) where
   abbrev file : List ℕ
-  file = passes.before.before.before.before.before.before.args.file.now
+  file = at.before.before.before.before.args.file.now
 
   abbrev word : List ℕ
-  word = passes.before.before.before.before.before.before.args.word.now
+  word = at.before.before.before.before.args.word.now
 
   abbrev table : List ℕ
-  table = passes.before.before.before.before.before.before.args.table.now
+  table = at.before.before.before.before.args.table.now
 
   none : (refusal file word (length table) table).number ≡ 0
-  none = sym (ap (λ (x : Refusal). x.number) passes.before.before.refusal_for-refusal.ensures) ∙ passes.if-refusal-ne0.false
+  none = sym (ap (λ (x : Refusal). x.number) at.refusal_for-refusal.ensures) ∙ passes
 
   fits : ((fault file).number ≡ 0) × (word_fault word ≡ 0) × (length word ≤ run_limit) × (length table ≡ stretch_cells)
   fits = passed file word (length table) table none
@@ -50,24 +41,18 @@ module _ (passes : tie.Else-refusal-ne0) where
   answers after shows b e = (answered-by file word (length table) after none b e, answered-means file word (length table) after none b e table shows)
 
 fill-requires : tie.Need-fill-requires
-fill-requires c κs = fits c.before
+fill-requires c κs = fits c.before.before.before (omega arith)
 
 mul-if2 : tie.Need-offset_bounds-table-at
-mul-if2 c = omega (arith, (fits c.before.before.before.before).2)
+mul-if2 c = omega (arith, (fits c.before.before.before.before.before.before (omega arith)).2)
 
 slice-read-if2 : tie.Need-bounds-table-at
-slice-read-if2 c = omega (arith, (fits c.before.before.before.before.before).2, c.before.before.before.fill.ensures.size)
+slice-read-if2 c = omega (arith, (fits c.before.before.before.before.before.before.before (omega arith)).2, c.before.before.before.fill.ensures.size)
 
-returns-2 : tie.Need-returns-then-table-at-eq1
-returns-2 c =
+returns : tie.Need-returns
+returns c =
     let f = c.before.before.before.before in
-    let x = answers f.before.before f.fill.new.table f.fill.ensures true (eq-eqb _ _ c.if-table-at-eq1.true) in
-    record { answer = x.0; meaning = x.1 }
-
-returns-3 : tie.Need-returns
-returns-3 c =
-    let f = c.before.before.before.before in
-    let x = answers f.before.before f.fill.new.table f.fill.ensures false (ne_eqb _ _ c.if-table-at-eq1.false) in
+    let x = answers f.before.before.before.before (omega arith) f.fill.new.table f.fill.ensures false (ne_eqb _ _ (omega arith)) in
     record { answer = x.0; meaning = x.1 }
 
 pub recognize_spec : {M : Type 1} → statement M
@@ -75,11 +60,20 @@ recognize_spec =
     tie.close
     (tie.spec
     (λ c κs. search rules)
-    returns
+    (λ c.
+        let a = c.before.before.before.before.before.before.args in
+        let found = c.before.before.refusal_for-refusal in
+        record {
+          answer = refused_as a.file.now a.word.now (length a.table.now) a.table.now found.result found.ensures (λ z. omega arith);
+          meaning = refl;
+        })
     fill-requires
     mul-if2
     slice-read-if2
     (λ c. search rules)
-    returns-2
+    (λ c.
+        let f = c.before.before.before.before in
+        let x = answers f.before.before.before.before (omega arith) f.fill.new.table f.fill.ensures true (eq-eqb _ _ (omega arith)) in
+        record { answer = x.0; meaning = x.1 })
     (λ c. search rules)
-    returns-3)
+    returns)

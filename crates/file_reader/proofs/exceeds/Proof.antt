@@ -10,21 +10,18 @@ use Rattle.spec_file.proofs.EntryLaws.{whole}
 use Rattle.file_reader.proofs.exceeds.Statement.{statement}
 use Rattle.file_reader.proofs.exceeds.Tie as tie
 
-returns : tie.Need-returns-then-i-eq0
+returns : tie.Need-returns
 unfolding exceeds_in
-returns c = rw (eq-eqb _ _ c.if-i-eq0.true)
-
-returns-2 : tie.Need-returns
-unfolding exceeds_in
-returns-2 c =
+returns c =
     let a = c.before.before.before.before.before.args in
     let f = a.file.now in
     let i = a.i in
-    rw (ne_eqb _ _ c.before.before.before.if-i-eq0.false)
+    rw (ne_eqb i 0 (omega arith))
     (c.rises.ensures ∙ ap₂ (λ (r s : List ℕ). rises r s) (c.before.before.whole_record.ensures ∙ sym (whole f (i - 1) (omega arith))) (c.before.whole_record-2.ensures ∙ sym (whole f i (omega arith))))
 
 pub exceeds_spec : {M : Type 1} → statement M
+unfolding exceeds_in
 exceeds_spec =
     tie.close
     (tie.spec
-    returns (λ c. search rules) (λ c κs. search rules) (λ c κs. search rules) (λ c κs. search rules) returns-2)
+    (λ c. rw (eq-eqb c.before.before.args.i 0 (omega arith))) (λ c. search rules) (λ c κs. search rules) (λ c κs. search rules) (λ c κs. search rules) returns)

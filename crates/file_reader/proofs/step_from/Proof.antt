@@ -1,6 +1,7 @@
 -- The tests in the definition's order. Assumes nothing.
 use mathlib.Core.Path.{ap, sym, ◌∙◌}
-use Prim.Native.Nat.{◌+◌}
+use Prim.Native.Nat.{◌+◌, ◌%◌}
+use lib.ListN.{length}
 use native.Mathlib.Omega.{arith}
 use borrow.Author.Rules.{rules}
 use borrow.Author.Tests.{lt-ltb, le-ltb, le-leb, lt-leb, eq-eqb, ne_eqb}
@@ -12,35 +13,32 @@ use Rattle.spec_file.proofs.WalkLaws.{refuse-by}
 use Rattle.file_reader.proofs.step_from.Statement.{statement}
 use Rattle.file_reader.proofs.step_from.Tie as tie
 
-returns : tie.Need-returns-then-file-ne0
-unfolding step_from length_fault_in
-returns c = rw (ne_eqb _ _ c.if-file-ne0.true)
-
 returns-2 : tie.Need-returns-then-records-gt-RECORD_LIMIT
 unfolding step_from length_fault_in
-returns-2 c = rw (eq-eqb _ _ c.before.if-file-ne0.false, lt-ltb _ _ c.if-records-gt-RECORD_LIMIT.true)
+returns-2 c = rw (eq-eqb (length c.before.before.before.args.file.now % 8) 0 (omega arith), lt-ltb _ _ c.if-records-gt-RECORD_LIMIT.true)
 
 returns-3 : tie.Need-returns-then-records-place
 unfolding step_from length_fault_in
-returns-3 c = rw (eq-eqb _ _ c.before.before.if-file-ne0.false, le-ltb _ _ c.before.if-records-gt-RECORD_LIMIT.false, le-leb _ _ c.if-records-place.true)
+returns-3 c = rw (eq-eqb (length c.before.before.before.before.args.file.now % 8) 0 (omega arith), le-ltb _ _ c.before.if-records-gt-RECORD_LIMIT.false, le-leb _ _ c.if-records-place.true)
 
 returns-4 : tie.Need-returns-then-f-ne0
 unfolding step_from length_fault_in
-returns-4 c = rw (eq-eqb _ _ c.before.before.before.before.if-file-ne0.false, le-ltb _ _ c.before.before.before.if-records-gt-RECORD_LIMIT.false, lt-leb _ _ c.before.before.if-records-place.false) (refuse-by _ _ _ _ c.if-f-ne0.true c.before.fault_by-f.ensures)
+returns-4 c = rw (eq-eqb (length c.before.before.before.before.before.before.args.file.now % 8) 0 (omega arith), le-ltb _ _ c.before.before.before.if-records-gt-RECORD_LIMIT.false, lt-leb _ _ c.before.before.if-records-place.false) (refuse-by _ _ _ _ c.if-f-ne0.true c.before.fault_by-f.ensures)
 
 returns-5 : tie.Need-returns
 unfolding step_from length_fault_in
 returns-5 c =
     let a = c.before.before.before.before.before.before.before.before.args in
     let w = c.before.whole_record.ensures ∙ sym (whole a.file.now a.place (omega arith)) in
-    rw (eq-eqb _ _ c.before.before.before.before.before.before.if-file-ne0.false, le-ltb _ _ c.before.before.before.before.before.if-records-gt-RECORD_LIMIT.false, lt-leb _ _ c.before.before.before.before.if-records-place.false, sym c.before.before.before.fault_by-f.ensures ∙ c.before.before.if-f-ne0.false)
+    rw (eq-eqb (length a.file.now % 8) 0 (omega arith), le-ltb _ _ c.before.before.before.before.before.if-records-gt-RECORD_LIMIT.false, lt-leb _ _ c.before.before.before.before.if-records-place.false, sym c.before.before.before.fault_by-f.ensures ∙ c.before.before.if-f-ne0.false)
     (ap (λ (r : Record). gives r (a.place + 1)) (c.record_of.ensures ∙ ap record_of w))
 
 pub step_from_spec : {M : Type 1} → statement M
+unfolding step_from length_fault_in
 step_from_spec =
     tie.close
     (tie.spec
-    returns
+    (λ c. rw (ne_eqb (length c.before.before.args.file.now % 8) 0 (omega arith)))
     returns-2
     returns-3
     (λ c κs. search rules)

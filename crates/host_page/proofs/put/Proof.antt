@@ -5,13 +5,13 @@ use Rattle.host_page.specs.Page.{put}
 use Rattle.host_page.proofs.put.Statement.{statement}
 use Rattle.host_page.proofs.put.Tie as tie
 
-returns : tie.Need-returns
+returns : tie.Need-returns-then-at-text
 unfolding put
-returns c = rw (lt-ltb _ _ c.if1.true)
+returns c = rw (lt-ltb _ _ c.if-at-text.true)
 
-returns-2 : tie.Need-returns-2
+returns-2 : tie.Need-returns
 unfolding put
-returns-2 c = rw (le-ltb _ _ c.if1.false)
+returns-2 c = rw (le-ltb _ _ c.if-at-text.false)
 
 pub put_spec : {M : Type 1} → statement M
 put_spec = tie.close (tie.spec (λ c. search rules) (λ c. search rules) (λ c. search rules) returns returns-2)

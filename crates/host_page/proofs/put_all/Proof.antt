@@ -12,33 +12,33 @@ use Rattle.host_page.specs.PageLaws.{puts_none, puts-next}
 use Rattle.host_page.proofs.put_all.Statement.{statement}
 use Rattle.host_page.proofs.put_all.Tie as tie
 
-abbrev invariant-loop : tie.invariant-loop
-invariant-loop text₀ at bytes place₀ i₀ text place i =
+abbrev invariant-loop-i : tie.invariant-loop-i
+invariant-loop-i text₀ at bytes place₀ i₀ text place i =
     (i ≤ length bytes) × (length text ≡ length text₀) × (puts (drop i bytes) (page place text) ≡ puts bytes (page at text₀))
 
-abbrev decreases-loop : tie.decreases-loop
-decreases-loop text₀ at bytes place₀ i₀ text place i = length bytes - i
+abbrev decreases-loop-i : tie.decreases-loop-i
+decreases-loop-i text₀ at bytes place₀ i₀ text place i = length bytes - i
 
-loop-again : tie.Need-loop-preserved invariant-loop decreases-loop
+loop-again : tie.Need-loop-i-preserved invariant-loop-i decreases-loop-i
 loop-again c =
-    let l = c.before.before.before.before.before.before.loop in
-    let bs = c.before.before.before.before.before.before.before.before.before.args.bytes.now in
-    let put = c.before.before.put in
-    (omega arith, put.auto.0 ∙ l.invariant.1, ap (puts (drop (l.i + 1) bs)) put.ensures ∙ puts-next bs l.i (page l.place l.text) (omega arith) ∙ l.invariant.2)
+    let l = c.loop-i in
+    let bs = c.args.bytes.now in
+    let put = c.put-place in
+    (omega arith, put.auto.text ∙ l.invariant.1, ap (puts (drop (l.i + 1) bs)) put.ensures ∙ puts-next bs l.i (page l.place l.text) (omega arith) ∙ l.invariant.2)
 
-returns : tie.Need-returns invariant-loop decreases-loop
+returns : tie.Need-returns invariant-loop-i decreases-loop-i
 returns c =
-    let l = c.before.loop in
-    let bs = c.before.before.before.before.args.bytes.now in
+    let l = c.loop-i in
+    let bs = c.args.bytes.now in
     let end : l.i ≡ length bs = omega arith in
     puts_none (page l.place l.text) ∙ ap (λ (xs : List ℕ). puts xs (page l.place l.text)) (sym (ap (λ (k : ℕ). drop k bs) end ∙ drop-length bs)) ∙ l.invariant.2
 
-pub put-all-spec : {M : Type 1} → statement M
-put-all-spec =
+pub put_all_spec : {M : Type 1} → statement M
+put_all_spec =
     tie.close
     (tie.spec
-    invariant-loop
-    decreases-loop
+    invariant-loop-i
+    decreases-loop-i
     (λ c. search rules)
     (λ c. search rules)
     (λ c κs. search rules)

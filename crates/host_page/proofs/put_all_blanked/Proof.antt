@@ -14,37 +14,37 @@ use Rattle.host_page.specs.DecimalLaws.{puts-blanked}
 use Rattle.host_page.proofs.put_all_blanked.Statement.{statement}
 use Rattle.host_page.proofs.put_all_blanked.Tie as tie
 
-abbrev invariant-loop : tie.invariant-loop
-invariant-loop text₀ at numbers place₀ i₀ text place i =
+abbrev invariant-loop-i : tie.invariant-loop-i
+invariant-loop-i text₀ at numbers place₀ i₀ text place i =
     (i ≤ length numbers) × (length text ≡ length text₀) × (puts (blanked (drop i numbers)) (page place text) ≡ puts (blanked numbers) (page at text₀))
 
-abbrev decreases-loop : tie.decreases-loop
-decreases-loop text₀ at numbers place₀ i₀ text place i = length numbers - i
+abbrev decreases-loop-i : tie.decreases-loop-i
+decreases-loop-i text₀ at numbers place₀ i₀ text place i = length numbers - i
 
-loop-again : tie.Need-loop-preserved invariant-loop decreases-loop
+loop-again : tie.Need-loop-i-preserved invariant-loop-i decreases-loop-i
 loop-again c =
-    let at-loop = c.before.before.before.before.before.before.before in
-    let l = at-loop.loop in
-    let ns = at-loop.before.before.before.args.numbers.now in
+    let at-loop = c in
+    let l = at-loop.loop-i in
+    let ns = at-loop.args.numbers.now in
     let p = page l.place l.text in
-    let put = c.before.before.put-blanked in
-    let wide = c.before.before.before.wide in
-    (omega arith, put.auto.0 ∙ l.invariant.1, puts-blanked ns l.i p _ (omega arith) (put.ensures ∙ ap (λ (n : ℕ). puts (blank_byte ∷ decimal n) p) wide.ensures) ∙ l.invariant.2)
+    let put = c.put_blanked-place in
+    let wide = c.wide in
+    (omega arith, put.auto.text ∙ l.invariant.1, puts-blanked ns l.i p _ (omega arith) (put.ensures ∙ ap (λ (n : ℕ). puts (blank_byte ∷ decimal n) p) wide.ensures) ∙ l.invariant.2)
 
-returns : tie.Need-returns invariant-loop decreases-loop
+returns : tie.Need-returns invariant-loop-i decreases-loop-i
 unfolding blanked
 returns c =
-    let l = c.before.loop in
-    let ns = c.before.before.before.before.args.numbers.now in
+    let l = c.loop-i in
+    let ns = c.args.numbers.now in
     let end : l.i ≡ length ns = omega arith in
     puts_none (page l.place l.text) ∙ ap (λ (xs : List ℕ). puts (blanked xs) (page l.place l.text)) (sym (ap (λ (k : ℕ). drop k ns) end ∙ drop-length ns)) ∙ l.invariant.2
 
-pub put-all-blanked-spec : {M : Type 1} → statement M
-put-all-blanked-spec =
+pub put_all_blanked_spec : {M : Type 1} → statement M
+put_all_blanked_spec =
     tie.close
     (tie.spec
-    invariant-loop
-    decreases-loop
+    invariant-loop-i
+    decreases-loop-i
     (λ c. search rules)
     (λ c. search rules)
     (λ c κs. search rules)

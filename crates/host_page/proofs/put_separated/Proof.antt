@@ -12,26 +12,26 @@ use Rattle.host_page.specs.DecimalLaws.{puts-no-number, puts-numbers}
 use Rattle.host_page.proofs.put_separated.Statement.{statement}
 use Rattle.host_page.proofs.put_separated.Tie as tie
 
-returns : tie.Need-returns
-returns c = puts-no-number _ _ c.if1.true
+returns : tie.Need-returns-then-numbers-eq0
+returns c = puts-no-number _ _ c.if-numbers-eq0.true
 
-returns-2 : tie.Need-returns-2
+returns-2 : tie.Need-returns
 returns-2 c =
-    let at_first = c.before.before.before.before.before.before.before in
-    let at_test = at_first.before.before.before.before in
-    let a = at_test.before.before.before.args in
+    let at_first = c in
+    let at_test = at_first in
+    let a = at_test.args in
     let ns = a.numbers.now in
     let p = page a.at a.text.now in
-    let first = at_first.put-decimal in
-    let q = page first.result first.new.0 in
-    let rest = c.before.before.put-all-blanked in
+    let first = at_first.put_decimal-next in
+    let q = page first.result first.new.text in
+    let rest = c.put_all_blanked in
     let tail : take (length ns - 1) (drop 1 ns) ≡ drop 1 ns = take_all (length ns - 1) (drop 1 ns) (omega (arith, length-drop 1 ns)) in
-    puts-numbers ns p q _ at_test.if1.false
-    (first.ensures ∙ ap (λ (n : ℕ). puts (decimal n) p) at_first.before.wide.ensures)
+    puts-numbers ns p q _ at_test.if-numbers-eq0.false
+    (first.ensures ∙ ap (λ (n : ℕ). puts (decimal n) p) at_first.wide.ensures)
     (rest.ensures ∙ ap (λ (xs : List ℕ). puts (blanked xs) q) tail)
 
-pub put-separated-spec : {M : Type 1} → statement M
-put-separated-spec =
+pub put_separated_spec : {M : Type 1} → statement M
+put_separated_spec =
     tie.close
     (tie.spec
     returns

@@ -7,5 +7,5 @@ use Rattle.test_random.proofs.random.draw.Tie as tie
 returns : tie.Need-returns
 returns c = mod-lt _ c.before.requires
 
-pub draw-spec : {M : Type 1} → statement M
-draw-spec = tie.close (tie.spec (λ c. search rules) (λ c. search rules) (λ c. search rules) returns)
+pub draw_spec : {M : Type 1} → statement M
+draw_spec = tie.close (tie.spec (λ c. search rules) (λ c. search rules) (λ c. search rules) returns)

@@ -1,0 +1,10 @@
+-- The loop's invariant: the index `i` is within the list, and at most that many bytes are kept. The measure is the list's length less `i`, which
+-- falls by 1 at each turn.
+use Rattle.std.proofs.Common.{◌-◌, ◌≤◌, length}
+use Rattle.test_gaps.proofs.print_kept.Given as goal
+
+abbrev pub invariant-loop-i : goal.invariant-loop-i
+invariant-loop-i g l = (l.i ≤ length l.list) × (l.kept ≤ l.i)
+
+abbrev pub decreases-loop-i : goal.decreases-loop-i
+decreases-loop-i g l = length l.list - l.i

@@ -1,6 +1,6 @@
 -- Demand 3, the counts, what the rows are and stability, on the bytes of a file that is not refused, for all settings.
 -- Assumes nothing.
-use Rattle.std.specs.Prelude.{◌≡◌, true, false, List, ℕ, suc, ◌+◌, ◌*◌, ◌^◌, ◌≤◌, ◌<◌, eqb, length}
+use Rattle.std.specs.Prelude.{◌≡◌, true, List, ℕ, suc, ◌+◌, ◌*◌, ◌^◌, ◌≤◌, ◌<◌, eqb, length}
 use Rattle.std.proofs.Math.Path.{refl, sym, subst}
 use Rattle.std.proofs.Common.{ap, ◌∙◌, true≢false, le_of_eq, mul_comm, mul_assoc, mul-one, add-one, arith, eq-eqb}
 use Rattle.std.proofs.Math.Nat.{le_refl, le_trans}

@@ -15,7 +15,7 @@ abbrev decreases-loop-i : tie.decreases-loop-i
 decreases-loop-i word i₀ i = length word - i
 
 returns : tie.Need-returns-then-word-gt-WORD_LIMIT invariant-loop-i decreases-loop-i
-returns c = too_long c.before.args.word.now c.if-word-gt-WORD_LIMIT.true
+returns c = too_long c.before.args.word.now (omega arith)
 
 loop-holds : tie.Need-loop-i-init invariant-loop-i decreases-loop-i
 loop-holds c = (omega arith, refl)
@@ -26,7 +26,7 @@ shared-slice-read-if2 c = omega arith
 returns-2 : tie.Need-returns-then-word-i-ge-TERMINALS invariant-loop-i decreases-loop-i
 returns-2 c =
     let l = c.before.before.before.loop-i in
-    beyond c.before.before.before.before.before.args.word.now c.before.before.before.before.if-word-gt-WORD_LIMIT.false l.i c.before.before.loop-i-test.true l.invariant.1 c.if-word-i-ge-TERMINALS.true
+    beyond c.before.before.before.before.before.args.word.now (omega arith) l.i c.before.before.loop-i-test.true l.invariant.1 (omega arith)
 
 add-i : tie.Need-overflow_add-i invariant-loop-i decreases-loop-i
 add-i c = omega arith
@@ -37,13 +37,13 @@ loop-less c = omega arith
 loop-again : tie.Need-loop-i-preserved invariant-loop-i decreases-loop-i
 loop-again c =
     let l = c.before.before.before.loop-i in
-    (omega arith, from_next c.before.before.before.before.before.args.word.now l.i c.before.before.loop-i-test.true l.invariant.1 c.if-word-i-ge-TERMINALS.false)
+    (omega arith, from_next c.before.before.before.before.before.args.word.now l.i c.before.before.loop-i-test.true l.invariant.1 (omega arith))
 
 returns-3 : tie.Need-returns invariant-loop-i decreases-loop-i
 returns-3 c =
     let w = c.before.before.before.args.word.now in
     let e : c.before.loop-i.i ≡ length w = omega arith in
-    none-beyond w c.before.before.if-word-gt-WORD_LIMIT.false (rw e at c.before.loop-i.invariant.1)
+    none-beyond w (omega arith) (rw e at c.before.loop-i.invariant.1)
 
 pub word_fault_spec : {M : Type 1} → statement M
 word_fault_spec =

@@ -12,11 +12,11 @@ returns c =
     let third = end.before.before.before.before in
     let second = third.before.before.before.before in
     let first = second.before.before.before.before in
-    puts_first _ _ _ _ _ first.put-decimal.ensures
-    (puts-blank _ _ _ _ _ _ second.put-blanked.ensures (puts-blank _ _ _ _ _ _ third.put-blanked2.ensures (puts-end _ _ end.put.ensures)))
+    puts_first _ _ _ _ _ first.put_decimal-row.ensures
+    (puts-blank _ _ _ _ _ _ second.put_blanked-pairs.ensures (puts-blank _ _ _ _ _ _ third.put_blanked-length.ensures (puts-end _ _ end.put.ensures)))
 
-pub put-row-spec : {M : Type 1} → statement M
-put-row-spec =
+pub put_row_spec : {M : Type 1} → statement M
+put_row_spec =
     tie.close
     (tie.spec
     (λ c κs. search rules)

@@ -10,11 +10,11 @@ returns c =
     let third = end.before.before.before.before in
     let second = third.before.before.before.before in
     let first = second.before.before.before.before in
-    puts-blank _ _ _ _ _ _ first.put-blanked.ensures
-    (puts-blank _ _ _ _ _ _ second.put-blanked2.ensures (puts-blank _ _ _ _ _ _ third.put-blanked3.ensures (puts-end _ _ end.put.ensures)))
+    puts-blank _ _ _ _ _ _ first.put_blanked-first.ensures
+    (puts-blank _ _ _ _ _ _ second.put_blanked-second.ensures (puts-blank _ _ _ _ _ _ third.put_blanked-third.ensures (puts-end _ _ end.put.ensures)))
 
-pub put-three-spec : {M : Type 1} → statement M
-put-three-spec =
+pub put_three_spec : {M : Type 1} → statement M
+put_three_spec =
     tie.close
     (tie.spec
     (λ c κs. search rules)

@@ -8,5 +8,5 @@ returns : tie.Need-returns
 unfolding program_text
 returns c = c.render.ensures
 
-pub answer-spec : {M : Type 1} → statement M
-answer-spec = tie.close (tie.spec (λ c κs. search rules) (λ c κs. search rules) returns)
+pub answer_spec : {M : Type 1} → statement M
+answer_spec = tie.close (tie.spec (λ c κs. search rules) (λ c κs. search rules) returns)

@@ -12,12 +12,12 @@ use Rattle.host_report.proofs.put_whole.Tie as tie
 
 returns : tie.Need-returns
 returns c =
-    let a = c.before.before.before.args in
+    let a = c.args in
     let t = text_told a.told a.buffer.now in
-    let e = c.put-told.ensures in
-    let l : length t ≤ length a.text.now = omega (arith, e.1, c.before.before.before.well-formed) in
+    let e = c.put_told.ensures in
+    let l : length t ≤ length a.text.now = omega (arith, e.1, c.well_formed) in
     let all = e.0 ∙ puts-all t a.text.now l in
     record { count = ap (λ (p : Page). p.place) all; bytes = ap (λ (p : Page). p.held) all; room = l }
 
-pub put-whole-spec : {M : Type 1} → statement M
-put-whole-spec = tie.close (tie.spec (λ c κs. search rules) returns)
+pub put_whole_spec : {M : Type 1} → statement M
+put_whole_spec = tie.close (tie.spec (λ c κs. search rules) returns)

@@ -12,8 +12,8 @@ use Rattle.host_report.proofs.render.Tie as tie
 returns : tie.Need-returns
 returns c =
     let a = c.before.before.before.before.before.before.before.args in
-    let checked = c.before.before.before.before.check-and-write in
-    subst (λ (xs : List ℕ). Printed xs a.text.now c.put_whole.new.0 c.put_whole.result) (told_text _ _ _ _ _ _ _ program_room refl _ checked.ensures) c.put_whole.ensures
+    let checked = c.before.before.before.before.check_and_write-told in
+    subst (λ (xs : List ℕ). Printed xs a.text.now c.put_whole.new.text c.put_whole.result) (told_text _ _ _ _ _ _ _ program_room refl _ checked.ensures) c.put_whole.ensures
 
-pub render-spec : {M : Type 1} → statement M
-render-spec = tie.close (tie.spec (λ c. search rules) (λ c κs. search rules) (λ c κs. search rules) returns)
+pub render_spec : {M : Type 1} → statement M
+render_spec = tie.close (tie.spec (λ c. search rules) (λ c κs. search rules) (λ c κs. search rules) returns)

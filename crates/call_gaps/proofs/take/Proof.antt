@@ -27,6 +27,6 @@ take_spec =
     (λ c κs. search rules)
     (λ c. search rules)
     (λ c.
-        let s = c.before.before.before.before.before.before.before.before.before.before.before.before in
-        taken-final _ _ _ _ _ _ c.before.before.before.before.before.before.if-kind-eq-TRANSITION_KIND.false c.before.before.before.final_at.result s.requires.0 c.before.before.before.final_at.ensures (omega arith) c.before.before.mark.ensures)
+    let s = c.before.before.before.before.before.before.before.before.before.before.before.before in
+    taken-final _ _ _ _ _ _ c.before.before.before.before.before.before.if-kind-eq-TRANSITION_KIND.false c.before.before.before.final_at.result s.requires.0 c.before.before.before.final_at.ensures (omega arith) c.before.before.mark.ensures)
     (λ c. let a = c.before.before.before.before.before.before.before.args in taken-other a.file.now a.i a.counts.now a.taken.now a.used.now a.taken.now c.before.if-kind-eq-TRANSITION_KIND.false (omega arith)))

@@ -32,10 +32,10 @@ judge_spec =
     (tie.spec
     (λ c κs. search rules)
     (λ c.
-        let found = c.before.before.refusal_for-refusal in
-        judged _ _ _
-        (ap refused found.ensures
-        ∙ judge-refused _ _ (λ z. let none : found.result.number ≡ 0 = ap (λ (x : Refusal). x.number) found.ensures ∙ z in omega arith)))
+    let found = c.before.before.refusal_for-refusal in
+    judged _ _ _
+    (ap refused found.ensures
+    ∙ judge-refused _ _ (λ z. let none : found.result.number ≡ 0 = ap (λ (x : Refusal). x.number) found.ensures ∙ z in omega arith)))
     turns-away-requires
     returns
     returns-2)

@@ -61,19 +61,19 @@ recognize_spec =
     (tie.spec
     (λ c κs. search rules)
     (λ c.
-        let a = c.before.before.before.before.before.before.args in
-        let found = c.before.before.refusal_for-refusal in
-        record {
-          answer = refused_as a.file.now a.word.now (length a.table.now) a.table.now found.result found.ensures (λ z. omega arith);
-          meaning = refl;
-        })
+    let a = c.before.before.before.before.before.before.args in
+    let found = c.before.before.refusal_for-refusal in
+    record {
+      answer = refused_as a.file.now a.word.now (length a.table.now) a.table.now found.result found.ensures (λ z. omega arith);
+      meaning = refl;
+    })
     fill-requires
     mul-if2
     slice-read-if2
     (λ c. search rules)
     (λ c.
-        let f = c.before.before.before.before in
-        let x = answers f.before.before.before.before (omega arith) f.fill.new.table f.fill.ensures true (eq-eqb _ _ (omega arith)) in
-        record { answer = x.0; meaning = x.1 })
+    let f = c.before.before.before.before in
+    let x = answers f.before.before.before.before (omega arith) f.fill.new.table f.fill.ensures true (eq-eqb _ _ (omega arith)) in
+    record { answer = x.0; meaning = x.1 })
     (λ c. search rules)
     returns)

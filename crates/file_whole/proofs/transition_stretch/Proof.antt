@@ -41,9 +41,9 @@ transition_stretch_spec =
     (λ c κs. search rules)
     (λ c. search rules)
     (λ c.
-        rw
-        (ne_eqb (fault c.args.file.now).number 0
-        (λ e. let none : c.file_refusal-r.result.number ≡ 0 = ap (λ (r : Refusal). r.number) c.file_refusal-r.ensures ∙ e in omega arith)))
+    rw
+    (ne_eqb (fault c.args.file.now).number 0
+    (λ e. let none : c.file_refusal-r.result.number ≡ 0 = ap (λ (r : Refusal). r.number) c.file_refusal-r.ensures ∙ e in omega arith)))
     (λ c κs. search rules)
     mul-first
     (λ c κs. search rules)

@@ -6,10 +6,8 @@ pub mod OwnRows
 pub mod Hosts
 pub mod BrokenLaws
 pub mod HostReplies
-pub mod HostJudging
 pub mod HostRecognizing
 pub mod HostListing
 pub mod HostConverting
 pub mod HostShows
 pub mod HostStays
-pub mod HostTruth

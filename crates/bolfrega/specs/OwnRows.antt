@@ -22,7 +22,7 @@ use Rattle.host_result.specs.Fronts.{name_in}
 use Rattle.host_result.specs.Results.{told_by, numbers_in}
 use Rattle.host_result.specs.declared.CheckResult.{CheckResult}
 use Rattle.host_check.specs.Details.{zero_row, answer_code, row_after, row_numbers, head_of}
-use Rattle.host_check.specs.TellingLaws.{unbroken-shows-none, row-there, head-there}
+use Rattle.host_check.proofs.TellingLaws.{unbroken-shows-none, row-there, head-there}
 use Rattle.bolfrega.specs.Codes.{writing_code, place_in, size_in}
 use Rattle.bolfrega.specs.Clauses.{ChecksRows, ToldRun, WritesRun}
 

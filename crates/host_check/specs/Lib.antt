@@ -1,3 +1,2 @@
 pub mod Details
 pub mod Clauses
-pub mod TellingLaws

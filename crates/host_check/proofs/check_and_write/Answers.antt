@@ -19,7 +19,7 @@ use Rattle.host_result.specs.Results.{told_by}
 use Rattle.host_result.specs.declared.CheckResult.{CheckResult}
 use Rattle.host_result.specs.declared.RowToWrite.{RowToWrite}
 use Rattle.host_check.specs.Clauses.{ChecksAlone}
-use Rattle.host_check.specs.TellingLaws.{tells-alone}
+use Rattle.host_check.proofs.TellingLaws.{tells-alone}
 use Rattle.host_check.proofs.check_and_write.Goals as goal
 
 -- xs: the array before the check. n: the rows lent. zs: these after it

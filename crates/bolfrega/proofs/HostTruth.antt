@@ -23,7 +23,7 @@ use Rattle.bolfrega.specs.Clauses.{Refuses, ChecksZeros, ChecksFrom, of_initial}
 use Rattle.bolfrega.specs.Hosts.{FilePasses, FileRefused, RowsRefused, FileTells, told_record, told_joins, told_used, told_pass, told_row, told_pairs, told_length, told_refused, Decided, Refusing, RunsOut, Verdicts, Details, Shows, Stays, CheckTells, told_procedure, FromTells}
 use Rattle.bolfrega.specs.HostReplies.{same-verdict, verdict-high, Why, broken_row, writing, rows-refused, refused-rows, why-refused, ToldRefusal, ToldAnswer, told-refusal, told-answer}
 use Rattle.host_result.specs.LowNumbers.{file-refusal, file-number, record-none, low-high}
-use Rattle.bolfrega.specs.HostJudging.{judge-tells}
+use Rattle.bolfrega.proofs.HostJudging.{judge-tells}
 use Rattle.bolfrega.specs.HostShows.{run-shown}
 use Rattle.bolfrega.specs.HostStays.{tells_alike}
 

@@ -1,0 +1,2 @@
+pub mod HostJudging
+pub mod HostTruth

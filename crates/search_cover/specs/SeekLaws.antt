@@ -1,10 +1,10 @@
 -- Laws of looking for a cover: what is known along the links, and what is found among the numbers. Assumes nothing.
 use Rattle.std.specs.Prelude.{◌≡◌, Bool, ◌&&◌, List, [], ◌∷◌, ◌⊎◌, ℕ, suc, ◌+◌, ◌≤◌, ◌<◌, eqb, ltb, length, get_or}
 use Rattle.std.proofs.Math.Path.{refl, sym}
-use Rattle.std.proofs.Common.{ap, ◌∙◌, subst, true≢false, inl, inr, zero-lt-suc, arith, ltb-true, ltb-false, lt-ltb, eqb-true, eq-eqb}
+use Rattle.std.proofs.Common.{ap, ◌∙◌, subst, true≢false, inl, inr, zero-lt-suc, arith, ltb-true, ltb-false, eqb-true, eq-eqb}
 use Rattle.std.proofs.Math.Bool.{true, false, not}
 use Rattle.std.proofs.lemmas.Bool.{false≢true}
-use Rattle.spec_basics.specs.Elements.{In, any}
+use Rattle.spec_basics.specs.Elements.{any}
 use Rattle.spec_basics.specs.Lists.{any_of, any_at}
 use Rattle.spec_basics.specs.Tests.{and_intro, and-fst, and-snd}
 use Rattle.relation.specs.DigitLaws.{subset-trans}
@@ -13,10 +13,10 @@ use Rattle.spec_order.specs.Candidates.{Candidate}
 use Rattle.spec_order.specs.Journal.{Row, live_of}
 use Rattle.spec_order.specs.Order.{dropped, larger}
 use Rattle.search_state.specs.Layout.{row_cells, heads, head_cell, lists_from, end}
-use Rattle.search_links.specs.Covers.{live_at, Cell, Reach, covers_at}
-use Rattle.search_links.specs.CoverLaws.{below-or-last, live_inside}
-use Rattle.search_links.specs.RowLaws.{is_at, any_none, holds-inside, fails-too}
-use Rattle.search_links.specs.Rows.{holds_at, IsAt}
+use Rattle.search_links.specs.Covers.{live_at, Cell, Reach}
+use Rattle.search_links.specs.CoverLaws.{live_inside}
+use Rattle.search_links.specs.RowLaws.{is_at, any_none, holds-inside}
+use Rattle.search_links.specs.Rows.{holds_at}
 use Rattle.search_cover.specs.Near.{near_words, count_of, link_of, is_near, row_effect_at, row_head_at, number_at, effect_at, as_candidate, RowsIn, Numbers, Among, NearTo, Beside}
 use Rattle.search_cover.specs.NearLaws.{above_rows, above-among, above-numbers, rows_same, numbers-none, with_rows, numbers_more, among-old, among-new, noted-length, noted-head, noted-count, noted-link, noted-above}
 use Rattle.search_cover.specs.Seeking.{Leads, Finds, Copies, FoundIn}

@@ -1,6 +1,6 @@
 -- Looking for a row that covers a candidate: what it asks, what is known on the way, and what was found. Here c is the candidate, u the rows
 -- used, t the table and w the words. Definitions only. Assumes nothing.
-use Rattle.std.specs.Prelude.{◌≡◌, Bool, true, false, List, ℕ, ◌+◌, ◌≤◌, ◌<◌, length, get_or}
+use Rattle.std.specs.Prelude.{◌≡◌, Bool, true, false, List, ℕ, ◌≤◌, ◌<◌, length, get_or}
 use Rattle.relation.specs.Relation.{contained}
 use Rattle.spec_order.specs.Candidates.{Candidate}
 use Rattle.spec_order.specs.Journal.{Row}

@@ -1,6 +1,6 @@
 -- What each step of looking for a cover returns, and what it makes of the words. Here w is the words, e the candidate's effect and u the rows
 -- used. Definitions only. Assumes nothing.
-use Rattle.std.specs.Prelude.{◌≡◌, Bool, true, false, cond, List, ℕ, ◌+◌, ◌≤◌, ◌<◌, ltb, length, get_or, set}
+use Rattle.std.specs.Prelude.{◌≡◌, Bool, true, false, cond, List, ℕ, ◌+◌, ◌≤◌, ◌<◌, ltb, length, set}
 use Rattle.relation.specs.Relation.{contained, key_of}
 use Rattle.relation.specs.Stored.{with_relation}
 use Rattle.search_state.specs.Layout.{row_cells}

@@ -1,4 +1,5 @@
 -- Where nothing refuses, the tables are the file's, no row is linked or near, and the first pass begins. Assumes nothing.
+use Rattle.std.proofs.Common.{arith}
 use Rattle.spec_calls.specs.Rows.{settings_of}
 use Rattle.call_check_start.proofs.Started.{may-open, starts}
 use Rattle.call_check_start.proofs.prepare.Goals as goal
@@ -12,4 +13,4 @@ pub returns : goal.returns
 returns c =
     let a = c.args in
     starts a.file.now (settings_of a.rows a.options) _ c.letter_relations.ensures _ c.final_states-finals.ensures _ _ _ c.rule_table-n.ensures _ _ c.unlink_all.ensures a.near.now _ c.requires.1 c.forget.ensures _ c.wait-before.ensures _
-    c.open_pass-at.ensures _ c.all_linked.ensures _ c.stand_or_finish.ensures _ c.refusal_for-fault.ensures c.if-fault-ne0.false
+    c.open_pass-at.ensures _ c.all_linked.ensures _ c.stand_or_finish.ensures _ c.refusal_for-fault.ensures (omega arith)

@@ -1,5 +1,4 @@
 -- `search_cover::bring` meets its contract. Assumes nothing.
-use native.Mathlib.Omega.{arith}
 use borrow.Author.Rules.{rules}
 use mathlib.Core.Path.{sym, ◌∙◌}
 use Rattle.search_cover.proofs.bring.Statement.{statement}

@@ -1,10 +1,10 @@
 -- `search_cover::fill` meets its contract. The loop's invariant: whatever rows the words had, `n` live ones are numbered, those before `row`, to which
 -- the link in `cell` leads. The measure is the room for numbers. Assumes nothing.
-use mathlib.Core.Path.{◌≡◌, refl, sym, ap, ◌∙◌, subst, subst₂}
-use mathlib.Core.List.{List, [], ◌∷◌}
+use mathlib.Core.Path.{◌≡◌, sym, ◌∙◌, subst}
+use mathlib.Core.List.{List}
 use Prim.Native.Nat.{ℕ, ◌+◌, ◌-◌, ◌≤◌, ◌<◌}
 use native.Mathlib.Omega.{arith}
-use lib.ListN.{length, get_or}
+use lib.ListN.{length}
 use borrow.Author.Rules.{rules}
 use Rattle.spec_order.specs.Journal.{Row}
 use Rattle.search_state.specs.Layout.{row_cells, heads, head_cell}

@@ -1,5 +1,4 @@
 -- `search_cover::put_last` meets its contract. Assumes nothing.
-use native.Mathlib.Omega.{arith}
 use borrow.Author.Rules.{rules}
 use Rattle.search_cover.specs.Steps.{with_last}
 use Rattle.search_cover.proofs.put_last.Statement.{statement}

@@ -1,9 +1,12 @@
 -- The first refusal wins: its laws, for two and for a list; and the tests of a record one by one. Assumes nothing.
-use Rattle.std.specs.Prelude.{◌≡◌, refl, Bool, true, false, ◌&&◌, cond, List, [], ◌∷◌, ◌++◌, ℕ, zero, suc, ltb}
+use Rattle.std.specs.Prelude.{◌≡◌, refl, Bool, true, false, ◌&&◌, cond, List, [], ◌∷◌, ◌++◌, ℕ, zero, suc, ltb, Ok, Err}
 use Rattle.std.proofs.Common.{sym, ap, ap₂, ◌∙◌, arith, ltb-true}
 use Rattle.spec_basics.specs.Tests.{and-fst, and-snd}
+use Rattle.std.specs.declared.result.Result.{Result}
+use Rattle.spec_file.specs.declared.Fault.{Fault}
+use Rattle.spec_file.specs.declared.Fault.TheVariants as fault
 use Rattle.spec_file.specs.declared.Refusal.{Refusal as RefusalAnswer}
-use Rattle.spec_file.specs.Answers.{refusal_of}
+use Rattle.spec_file.specs.Answers.{number_of, refusal_of, fault_of, tested_of}
 use Rattle.spec_file.specs.Refusals.{Refusal, refuse, by_number, or_next, first_of, first_holding}
 
 -- ---- by a number
@@ -46,13 +49,44 @@ module _ (r s : Refusal) where
       by zero e = refl
       by (suc k) e = ap (λ (n : ℕ). by_number n r t) e
 
--- the code's refusal r, the first of x and y, is the first of what these say
-pub said_or : (r x y : RefusalAnswer) {a b : Refusal} → r ≡ by_number x.number x y → refusal_of x ≡ a → refusal_of y ≡ b → refusal_of r ≡ or_next a b
-said_or r x y e p q = ap refusal_of e ∙ by x.number ∙ ap₂ or_next p q
-  where
-    by : (k : ℕ) → refusal_of (by_number k x y) ≡ by_number k (refusal_of x) (refusal_of y)
-    by zero = refl
-    by (suc k) = refl
+-- ---- the code's refusals
+
+-- each fault has a number, and none is 0
+pub fault-next : (f : Fault) → (k : ℕ) × (number_of f ≡ suc k)
+fault-next fault.TornRecord = (0, refl)
+fault-next fault.TooManyRecords = (1, refl)
+fault-next fault.UnknownKind = (2, refl)
+fault-next fault.AboveRange = (3, refl)
+fault-next fault.StrayByte = (4, refl)
+fault-next fault.NotRising = (5, refl)
+fault-next fault.OverLimit = (6, refl)
+fault-next fault.JournalSize = (7, refl)
+fault-next fault.UnfitRow = (8, refl)
+fault-next fault.NoRoom = (9, refl)
+fault-next fault.UnfitRun = (10, refl)
+fault-next fault.MoveOnRemark = (11, refl)
+fault-next fault.LongRun = (12, refl)
+fault-next fault.TableSize = (13, refl)
+fault-next fault.ShortList = (14, refl)
+fault-next fault.TornWideRecord = (15, refl)
+fault-next fault.LongBody = (16, refl)
+fault-next fault.TooManyChains = (17, refl)
+
+pub fault-some : (f : Fault) → number_of f ≡ 0 → ⊥
+fault-some f z = let z' : ⊥ = omega (arith, z, (fault-next f).1) in z'
+
+-- a refusal is the first, whatever comes after it
+pub refused-first : (x : RefusalAnswer) (s : Refusal) → or_next (refusal_of x) s ≡ refusal_of x
+refused-first x s = number-some (refusal_of x) s (number_of x.fault) (fault-some x.fault)
+
+-- a test that has no number passes
+pub passes : (r : Result (Unit {0}) Fault) → fault_of r ≡ 0 → r ≡ Ok tt
+passes (Ok u) e = refl
+passes (Err f) e = absurd (fault-some f e)
+
+-- two tests, one after the other
+pub said_then : (x y : Result (Unit {0}) RefusalAnswer) {a b : Refusal} → tested_of x ≡ a → tested_of y ≡ b → or_next (tested_of x) (tested_of y) ≡ or_next a b
+said_then x y p q = ap₂ or_next p q
 
 -- none of them refuses
 abbrev pub NoneRefuses : List Refusal → Type 0

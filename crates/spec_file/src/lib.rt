@@ -6,8 +6,7 @@
 #![tactic(auto)]
 
 ghost use Rattle.std.specs.Prelude.{◌≡◌, cond};
-ghost use Rattle.spec_file.specs.Answers.{numbered};
-ghost use Rattle.spec_file.specs.Refusals.{by_number};
+ghost use Rattle.spec_file.specs.Answers.{number_of, of_call, fault_of};
 
 // The kinds of records.
 pub const RULE_KIND: u8 = 1;
@@ -39,43 +38,87 @@ pub const LETTER_WORDS: usize = TERMINALS as usize * relation::WORDS;
 
 pub type Letters = [relation::Letter; LETTER_WORDS];
 
-// A number that document 01 or C-11 lists, and for 3 to 7 and 12 the record's number, else 0. Number 0: nothing is refused.
-#[derive(Clone, Copy)]
+// Why a call is refused: each has a number in document 01 or 02, which hosts get.
+#[derive(Clone, Copy, Debug, PartialEq, Eq)]
+pub enum Fault {
+    // 1 and 2: the file's length is no multiple of 8, or it has too many records.
+    TornRecord,
+    TooManyRecords,
+    // 3 to 7, of one record.
+    UnknownKind,
+    AboveRange,
+    StrayByte,
+    NotRising,
+    OverLimit,
+    // 8 to 11: the lent journal, the row named for writing, the room for a result, the run.
+    JournalSize,
+    UnfitRow,
+    NoRoom,
+    UnfitRun,
+    // 12, of one record: a transition on a remark.
+    MoveOnRemark,
+    // 13 to 15: a run too long to be recognized, its table, the room for a list.
+    LongRun,
+    TableSize,
+    ShortList,
+    // 16 to 18, of files of sixteen-byte records: 16 in the place of 1, a body too long to move back, too many chain procedures or rules.
+    TornWideRecord,
+    LongBody,
+    TooManyChains,
+}
+
+impl Fault {
+    // Returns the number of the fault.
+    pub fn number(self) -> u64
+        ensures { result ≡ number_of self }
+    {
+        match self {
+            Fault::TornRecord => 1,
+            Fault::TooManyRecords => 2,
+            Fault::UnknownKind => 3,
+            Fault::AboveRange => 4,
+            Fault::StrayByte => 5,
+            Fault::NotRising => 6,
+            Fault::OverLimit => 7,
+            Fault::JournalSize => 8,
+            Fault::UnfitRow => 9,
+            Fault::NoRoom => 10,
+            Fault::UnfitRun => 11,
+            Fault::MoveOnRemark => 12,
+            Fault::LongRun => 13,
+            Fault::TableSize => 14,
+            Fault::ShortList => 15,
+            Fault::TornWideRecord => 16,
+            Fault::LongBody => 17,
+            Fault::TooManyChains => 18,
+        }
+    }
+}
+
+// What refuses a call: the fault, and for 3 to 7 and 12 the record's number, else 0.
+#[derive(Clone, Copy, Debug, PartialEq, Eq)]
 pub struct Refusal {
-    pub number: u64,
+    pub fault: Fault,
     pub place: usize,
 }
 
-impl Refusal {
-    // Returns the refusal with number 0: nothing is refused.
-    pub fn none() -> Refusal
-        ensures { result ≡ numbered 0 }
-    {
-        Refusal {
-            number: 0,
-            place: 0,
-        }
-    }
+// By `?` the fault of a call is its refusal, which names no record.
+impl From<Fault> for Refusal {
+    ghost from_gives = { λ fault refusal. refusal ≡ of_call fault };
 
-    // Returns the refusal `number` of a call, which names no record, where its test `holds`, and else none.
-    pub fn when(number: u64, holds: bool) -> Refusal
-        ensures { result ≡ numbered (cond holds number 0) }
-    {
-        if holds {
-            return Refusal { number, place: 0 };
-        }
-        Refusal::none()
+    fn from(fault: Fault) -> Refusal {
+        Refusal { fault, place: 0 }
     }
+}
 
-    // Returns the first of two refusals: this one, where it has a number, and else `next`.
-    pub fn or(self, next: Refusal) -> Refusal
-        ensures { result ≡ by_number self.number self next }
-    {
-        if self.number != 0 {
-            return self;
-        }
-        next
+// Refuses with `fault` where its test `holds`, and else passes.
+pub fn refuse_if(holds: bool, fault: Fault) -> Result<(), Fault>
+    ensures { fault_of result ≡ cond holds (number_of fault) 0 }
+{
+    if holds {
+        return Err(fault);
     }
+    Ok(())
 }
 
 // A rule: its head (document 01: the procedure), its body length, and the bytes of its symbols.

@@ -1,7 +1,7 @@
 // Checks 3 to 7 and 12 of one record's bytes (document 01, "Numbers a call may refuse with"; C-11), each a test of its own.
 #![tactic(auto)]
 
-ghost use Rattle.std.specs.Prelude.{◌≡◌, cond};
+ghost use Rattle.std.specs.Prelude.{◌≡◌};
 ghost use Rattle.spec_file.specs.Refusals as refusals;
 ghost use Rattle.file_checks.specs.BigEndian.{big_endian};
 
@@ -58,13 +58,7 @@ pub fn on_remark(r: [u8; 8]) -> bool
 pub fn number_of(r: [u8; 8]) -> u64
     ensures { result ≡ big_endian 256 8 r }
 {
-    let mut n: u64 = 0;
-    let mut j: usize = 0;
-    while j < 8 {
-        n = n * 256 + r[j] as u64;
-        j += 1;
-    }
-    n
+    u64::from_be_bytes(r)
 }
 
 // Check 6 does not hold: the record `s` exceeds `r`, the one before it. The first byte that differs decides, as it does between the two
@@ -81,14 +75,4 @@ pub fn over_limit(r: [u8; 8], rules: usize, transitions: usize) -> bool
 {
     ((r[0] == RULE_KIND) & (rules == RULE_LIMIT))
         | ((r[0] == TRANSITION_KIND) & (transitions == TRANSITION_LIMIT))
-}
-
-// Returns `number` where its test `holds`, and else `later`, what the tests after it give.
-pub fn number_or(number: u64, holds: bool, later: u64) -> u64
-    ensures { result ≡ cond holds number later }
-{
-    if holds {
-        return number;
-    }
-    later
 }

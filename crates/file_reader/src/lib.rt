@@ -7,10 +7,11 @@
 ghost use Rattle.std.specs.Prelude.{◌≡◌, ◌<◌};
 ghost use Rattle.spec_file.specs.Reading.{step_from, step_at};
 ghost use Rattle.spec_file.specs.Records.{record_count};
+ghost use Rattle.spec_file.specs.Answers.{fault_of};
 ghost use Rattle.spec_file.specs.Refusals as refusals;
 ghost use Rattle.file_reader.specs.Answers.{step_of, place_after};
 
-use spec_file::{RECORD_LIMIT, Record, Refusal};
+use spec_file::{Fault, RECORD_LIMIT, Record, Refusal, of_record, refuse_if};
 
 // The file's bytes, and the place of the next record.
 #[derive(Clone, Copy)]
@@ -19,13 +20,8 @@ pub struct Reader<'a> {
     pub place: usize,
 }
 
-// A record with the place of the next, the refusal that stopped the reader, or the end of the file.
-#[derive(Clone, Copy)]
-pub enum Step {
-    Gives(Record, usize),
-    Refused(Refusal),
-    Ended,
-}
+// A record with the place of the next, or none at the end of the file; or the refusal that stopped the reader.
+pub type Step = Result<Option<(Record, usize)>, Refusal>;
 
 // ---- a record in its file
 
@@ -43,19 +39,21 @@ fn exceeds(file: &[u8], i: usize) -> bool
     )
 }
 
-// Returns the number that refuses record `i`, or 0; `rules` and `transitions` are the counts of the records before it. The first test in the
-// order of the definition wins, so the code makes it last.
-fn fault_by(file: &[u8], i: usize, rules: usize, transitions: usize) -> u64
+// Tests record `i`, in the order of the definition; `rules` and `transitions` are the counts of the records before it.
+fn fault_by(file: &[u8], i: usize, rules: usize, transitions: usize) -> Result<(), Fault>
     requires { i < record_count file.now }
-    ensures { result ≡ refusals.fault_by file.now i rules transitions }
+    ensures { fault_of result ≡ refusals.fault_by file.now i rules transitions }
 {
     let r = file_bytes::whole_record(file, i);
-    let f = file_checks::number_or(7, file_checks::over_limit(r, rules, transitions), 0);
-    let f = file_checks::number_or(6, !exceeds(file, i), f);
-    let f = file_checks::number_or(12, file_checks::on_remark(r), f);
-    let f = file_checks::number_or(5, file_checks::stray_byte(r), f);
-    let f = file_checks::number_or(4, file_checks::above_range(r), f);
-    file_checks::number_or(3, !file_checks::kind_known(r), f)
+    refuse_if(!file_checks::kind_known(r), Fault::UnknownKind)?;
+    refuse_if(file_checks::above_range(r), Fault::AboveRange)?;
+    refuse_if(file_checks::stray_byte(r), Fault::StrayByte)?;
+    refuse_if(file_checks::on_remark(r), Fault::MoveOnRemark)?;
+    refuse_if(!exceeds(file, i), Fault::NotRising)?;
+    refuse_if(
+        file_checks::over_limit(r, rules, transitions),
+        Fault::OverLimit,
+    )
 }
 
 // Steps from `place`, where `rules` and `transitions` are the counts of the records before it: checks 1 and 2, the end of the file, and then
@@ -63,33 +61,15 @@ fn fault_by(file: &[u8], i: usize, rules: usize, transitions: usize) -> u64
 pub fn step_from(file: &[u8], place: usize, rules: usize, transitions: usize) -> Step
     ensures { step_of result ≡ step_from file.now place rules transitions }
 {
-    if file.len() % 8 != 0 {
-        return Step::Refused(Refusal {
-            number: 1,
-            place: 0,
-        });
-    }
     let records = file.len() / 8;
-    if RECORD_LIMIT < records {
-        return Step::Refused(Refusal {
-            number: 2,
-            place: 0,
-        });
-    }
+    refuse_if(file.len() % 8 != 0, Fault::TornRecord)?;
+    refuse_if(RECORD_LIMIT < records, Fault::TooManyRecords)?;
     if records <= place {
-        return Step::Ended;
+        return Ok(None);
     }
-    let f = fault_by(file, place, rules, transitions);
-    if f != 0 {
-        return Step::Refused(Refusal {
-            number: f,
-            place: place,
-        });
-    }
-    Step::Gives(
-        file_bytes::record_of(file_bytes::whole_record(file, place)),
-        place + 1,
-    )
+    of_record(fault_by(file, place, rules, transitions), place)?;
+    let record = file_bytes::record_of(file_bytes::whole_record(file, place));
+    Ok(Some((record, place + 1)))
 }
 
 // Steps from `place`. It counts the records before `place` by their kind alone, and does not check them again.
@@ -110,9 +90,8 @@ fn place_after(s: Step, place: usize) -> usize
     ensures { result ≡ place_after (step_of s) place }
 {
     match s {
-        Step::Gives(_, next) => next,
-        Step::Refused(_) => place,
-        Step::Ended => place,
+        Ok(Some((_, next))) => next,
+        Ok(None) | Err(_) => place,
     }
 }
 

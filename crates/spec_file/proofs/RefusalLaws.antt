@@ -1,8 +1,9 @@
 -- The first refusal wins: its laws, for two and for a list; and the tests of a record one by one. Assumes nothing.
-use Rattle.std.specs.Prelude.{◌≡◌, refl, Bool, true, false, ◌&&◌, cond, List, [], ◌∷◌, ◌++◌, ℕ, zero, suc, ltb, Ok, Err}
-use Rattle.std.proofs.Common.{sym, ap, ap₂, ◌∙◌, arith, ltb-true}
+use Rattle.std.specs.Prelude.{◌≡◌, refl, Bool, true, false, ◌&&◌, cond, List, [], ◌∷◌, ◌++◌, ℕ, zero, suc, ltb, Ok, Err, MatchResult}
+use Rattle.std.proofs.Common.{sym, ap, ◌∙◌, arith, ltb-true}
 use Rattle.spec_basics.specs.Tests.{and-fst, and-snd}
 use Rattle.std.specs.declared.result.Result.{Result}
+use Rattle.std.specs.Result.{is_err}
 use Rattle.spec_file.specs.declared.Fault.{Fault}
 use Rattle.spec_file.specs.declared.Fault.TheVariants as fault
 use Rattle.spec_file.specs.declared.Refusal.{Refusal as RefusalAnswer}
@@ -84,9 +85,20 @@ pub passes : (r : Result (Unit {0}) Fault) → fault_of r ≡ 0 → r ≡ Ok tt
 passes (Ok u) e = refl
 passes (Err f) e = absurd (fault-some f e)
 
--- two tests, one after the other
-pub said_then : (x y : Result (Unit {0}) RefusalAnswer) {a b : Refusal} → tested_of x ≡ a → tested_of y ≡ b → or_next (tested_of x) (tested_of y) ≡ or_next a b
-said_then x y p q = ap₂ or_next p q
+-- what refuses has a number, and what passes has none
+pub refuses-some : (r : Result (Unit {0}) RefusalAnswer) → is_err r ≡ true → (tested_of r).number ≡ 0 → ⊥
+refuses-some (Ok u) e z = let no : ⊥ = cc in no
+refuses-some (Err x) e z = fault-some x.fault z
+
+pub passes-none : (r : Result (Unit {0}) RefusalAnswer) → is_err r ≡ false → (tested_of r).number ≡ 0
+passes-none (Ok u) e = refl
+passes-none (Err x) e = let no : ⊥ = cc in absurd no
+
+-- what a test refuses with, by what `refuse_if` promises
+pub refused_if : (r : Result (Unit {0}) Fault) (b : Bool) (f : Fault)
+    → MatchResult r (λ u. b ≡ false) (λ g. (b ≡ true) × (g ≡ f)) → fault_of r ≡ cond b (number_of f) 0
+refused_if (Ok u) b f e = rw e refl
+refused_if (Err g) b f e = rw (e.0, e.1) refl
 
 -- none of them refuses
 abbrev pub NoneRefuses : List Refusal → Type 0

@@ -5,7 +5,7 @@
 // by steps WalkLaws; of the order of refusals RefusalLaws.
 #![tactic(auto)]
 
-ghost use Rattle.std.specs.Prelude.{◌≡◌, cond};
+ghost use Rattle.std.specs.Prelude.{◌≡◌, true, false, MatchResult};
 ghost use Rattle.spec_file.specs.Answers.{number_of, of_call, fault_of};
 
 // The kinds of records.
@@ -113,12 +113,19 @@ impl From<Fault> for Refusal {
 
 // Refuses with `fault` where its test `holds`, and else passes.
 pub fn refuse_if(holds: bool, fault: Fault) -> Result<(), Fault>
-    ensures { fault_of result ≡ cond holds (number_of fault) 0 }
+    ensures { MatchResult result (λ _. holds ≡ false) (λ f. (holds ≡ true) × (f ≡ fault)) }
 {
     if holds {
         return Err(fault);
     }
     Ok(())
+}
+
+// Returns what a test of record `place` says, where a refusal names the record.
+pub fn of_record(tested: Result<(), Fault>, place: usize) -> Result<(), Refusal>
+    ensures { MatchResult result (λ _. fault_of tested ≡ 0) (λ x. (number_of x.fault ≡ fault_of tested) × (x.place ≡ place)) }
+{
+    tested.map_err(|fault| Refusal { fault, place })
 }
 
 // A rule: its head (document 01: the procedure), its body length, and the bytes of its symbols.

@@ -1,11 +1,11 @@
--- The reader is on the file, and the tally stands where it is (proofs/Turn). The measure is how many turns are left at most.
-use Rattle.std.proofs.Common.{◌≡◌}
-use Rattle.spec_file.specs.Answers.{refusal_of}
-use Rattle.file_whole.proofs.Turn.{Stands, left}
+-- The reader is on the file, and the tally has the counts of the records before it. The measure is how many records are left.
+use Rattle.std.proofs.Common.{◌≡◌, ◌-◌}
+use Rattle.spec_file.specs.Records.{record_count}
+use Rattle.spec_file.proofs.WalkLaws.{At}
 use Rattle.file_whole.proofs.file_refusal.Given as goal
 
-abbrev pub invariant-loop-t : goal.invariant-loop-t
-invariant-loop-t l = (l.r.file.now ≡ l.file) × Stands l.file l.t.going l.t.rules l.t.transitions l.r.place (refusal_of l.t.refusal)
+abbrev pub invariant-loop-r : goal.invariant-loop-r
+invariant-loop-r l = (l.reader.file.now ≡ l.file) × At l.file l.t.rules l.t.transitions l.reader.place
 
-abbrev pub decreases-loop-t : goal.decreases-loop-t
-decreases-loop-t l = left l.file l.t.going l.r.place
+abbrev pub decreases-loop-r : goal.decreases-loop-r
+decreases-loop-r l = record_count l.file - l.reader.place

@@ -4,13 +4,13 @@
 #![tactic(auto)]
 
 ghost use Rattle.std.specs.Prelude.{◌≡◌, cond, ◌<◌, ◌≤◌, eqb};
-ghost use Rattle.spec_file.specs.Answers.{refusal_of};
+ghost use Rattle.spec_file.specs.Answers.{fault_of, tested_of};
 ghost use Rattle.spec_file.specs.Forms.{sixteen};
 ghost use Rattle.spec_file.specs.Records.{record_count_in, record_in, kind_in};
-ghost use Rattle.spec_file.specs.Refusals.{exceeds_in, fault_by_in, fault_from_in, fault_in, length_fault_in, refuse};
+ghost use Rattle.spec_file.specs.Refusals.{exceeds_in, fault_by_in, fault_from_in, fault_in, length_fault_in};
 
 use file_wide_checks::{WIDTH, WideRecord};
-use spec_file::{RECORD_LIMIT, RULE_KIND, Refusal, TRANSITION_KIND};
+use spec_file::{Fault, RECORD_LIMIT, RULE_KIND, Refusal, TRANSITION_KIND, of_record, refuse_if};
 
 // Copies the bytes of record `i`, which is a whole record of `file`.
 pub fn record_at(file: &[u8], i: usize) -> WideRecord
@@ -49,20 +49,22 @@ fn exceeds(file: &[u8], i: usize) -> bool
     file_wide_checks::rises(record_at(file, i - 1), record_at(file, i))
 }
 
-// Returns the number that refuses record `i`, or 0; `rules` and `transitions` are the counts of the records before it. The first test in the
-// order of the definition wins, so the code makes it last.
-fn fault_by(file: &[u8], i: usize, rules: usize, transitions: usize) -> u64
+// Tests record `i`, in the order of the definition; `rules` and `transitions` are the counts of the records before it.
+fn fault_by(file: &[u8], i: usize, rules: usize, transitions: usize) -> Result<(), Fault>
     requires { i < record_count_in sixteen file.now }
-    ensures { result ≡ fault_by_in sixteen file.now i rules transitions }
+    ensures { fault_of result ≡ fault_by_in sixteen file.now i rules transitions }
 {
     let r = record_at(file, i);
     let front = file_wide_checks::front(r);
-    let f = file_checks::number_or(7, file_checks::over_limit(front, rules, transitions), 0);
-    let f = file_checks::number_or(6, !exceeds(file, i), f);
-    let f = file_checks::number_or(12, file_checks::on_remark(front), f);
-    let f = file_checks::number_or(5, file_wide_checks::stray_byte(r), f);
-    let f = file_checks::number_or(4, file_wide_checks::above_range(r), f);
-    file_checks::number_or(3, !file_checks::kind_known(front), f)
+    refuse_if(!file_checks::kind_known(front), Fault::UnknownKind)?;
+    refuse_if(file_wide_checks::above_range(r), Fault::AboveRange)?;
+    refuse_if(file_wide_checks::stray_byte(r), Fault::StrayByte)?;
+    refuse_if(file_checks::on_remark(front), Fault::MoveOnRemark)?;
+    refuse_if(!exceeds(file, i), Fault::NotRising)?;
+    refuse_if(
+        file_checks::over_limit(front, rules, transitions),
+        Fault::OverLimit,
+    )
 }
 
 // Returns 1 where record `i` of `file` has the kind `kind`, and else 0.
@@ -76,46 +78,33 @@ fn of_kind(file: &[u8], i: usize, kind: u8) -> usize
     0
 }
 
-// Returns the refusal of `file` by its length: 16 for a torn record, then 2 for too many. Number 0: none.
-fn length_refusal(file: &[u8]) -> Refusal
-    ensures { refusal_of result ≡ refuse (length_fault_in sixteen file.now) 0 }
+// Refuses `file` by its length: 16 for a torn record, then 2 for too many.
+fn length_refusal(file: &[u8]) -> Result<(), Fault>
+    ensures { fault_of result ≡ length_fault_in sixteen file.now }
 {
-    let torn = Refusal::when(16, file.len() % WIDTH != 0);
-    let many = Refusal::when(2, RECORD_LIMIT < file.len() / WIDTH);
-    torn.or(many)
+    refuse_if(file.len() % WIDTH != 0, Fault::TornWideRecord)?;
+    refuse_if(RECORD_LIMIT < file.len() / WIDTH, Fault::TooManyRecords)
 }
 
-// Returns the first refusal of a record of `file`, with the record's number. Number 0: none. Rules and transitions are counted on the way, so
-// that each record is looked at once.
-fn records_refusal(file: &[u8]) -> Refusal
-    ensures { refusal_of result ≡ fault_from_in sixteen file.now (record_count_in sixteen file.now) 0 }
+// Refuses the first record of `file` that a test refuses. Rules and transitions are counted on the way, so that each record is looked at once.
+fn records_refusal(file: &[u8]) -> Result<(), Refusal>
+    ensures { tested_of result ≡ fault_from_in sixteen file.now (record_count_in sixteen file.now) 0 }
 {
-    let records = file.len() / WIDTH;
     let mut rules: usize = 0;
     let mut transitions: usize = 0;
-    let mut i: usize = 0;
-    while i < records {
-        let f = fault_by(file, i, rules, transitions);
-        if f != 0 {
-            return Refusal {
-                number: f,
-                place: i,
-            };
-        }
+    // The records before `i` pass, and are counted.
+    for i in 0..file.len() / WIDTH {
+        of_record(fault_by(file, i, rules, transitions), i)?;
         rules += of_kind(file, i, RULE_KIND);
         transitions += of_kind(file, i, TRANSITION_KIND);
-        i += 1;
     }
-    Refusal::none()
+    Ok(())
 }
 
-// Returns the refusal of the whole `file`: by its length, and then by its records. Number 0: none.
-pub fn file_refusal(file: &[u8]) -> Refusal
-    ensures { refusal_of result ≡ fault_in sixteen file.now }
+// Refuses the whole `file`: by its length, and then by its records.
+pub fn file_refusal(file: &[u8]) -> Result<(), Refusal>
+    ensures { tested_of result ≡ fault_in sixteen file.now }
 {
-    let by_length = length_refusal(file);
-    if by_length.number != 0 {
-        return by_length;
-    }
+    length_refusal(file)?;
     records_refusal(file)
 }

@@ -1,6 +1,6 @@
 -- Relations in a table of words, read and stored. No law says how many words hold a relation, so those who cite them do not change with
 -- that number. Assumes nothing.
-use Rattle.std.specs.Prelude.{◌≡◌, ℕ, zero, suc, ◌+◌, ◌-◌, ◌*◌, ◌/◌, ◌%◌, ◌^◌, ◌<◌, ◌≤◌, Bool, true, false, List, length, replicate, ◌==◌, ◌≢◌, slice_index, slice_set}
+use Rattle.std.specs.Prelude.{◌≡◌, ℕ, zero, suc, ◌+◌, ◌*◌, ◌/◌, ◌%◌, ◌^◌, ◌<◌, ◌≤◌, Bool, true, false, List, length, replicate, ◌==◌, ◌≢◌, slice_index, slice_set}
 use Rattle.std.proofs.Math.Path.{refl, sym, ap, ap₂}
 use Rattle.std.proofs.Common.{◌∙◌, div-lt_iff_lt-mul, pow_pos, ext_get_or}
 use Rattle.std.proofs.Math.Nat.{div-eq_of_lt}

@@ -16,8 +16,6 @@ ghost use Rattle.relation.specs.Representation.{rows_of_word, relation_words, of
 ghost use Rattle.relation.specs.Stored.{relation_in, with_relation};
 ghost use Rattle.relation.specs.Turns.{Moved, Joined};
 
-use std::num::wrapping_sub_u64;
-
 // How many states an automaton has.
 pub const STATES: u8 = 16;
 
@@ -52,7 +50,7 @@ const DIGESTS: u64 = 32749;
 // A relation. Its words are known to this crate only: a caller makes, joins, compares and stores relations by the functions below. They are
 // fields and no array, so that a row of the journal stays a struct of numbers. Hosts have rows, and so relations, in memory of their own: C's layout.
 #[repr(C)]
-#[derive(Clone, Copy)]
+#[derive(Clone, Copy, PartialEq, Eq)]
 pub struct Relation {
     w0: u64,
     w1: u64,
@@ -84,26 +82,13 @@ pub fn within(x: u64, y: u64) -> bool
     outside(x, y) == 0
 }
 
-// Returns the word `x` turned by 8 and by 29 places: the bits that leave it above come in below.
-fn turned_8(x: u64) -> u64
-    ensures { result ≡ turned 8 x }
-{
-    (x << 8) | (x >> 56)
-}
-
-fn turned_29(x: u64) -> u64
-    ensures { result ≡ turned 29 x }
-{
-    (x << 29) | (x >> 35)
-}
-
 // Returns all bits of each row of `x` whose lowest bit is set. A row's bits are the next row's lowest bit less its own, so one subtraction
 // makes all four rows; it wraps at the highest row only.
 fn spread(x: u64) -> u64
     ensures { result ≡ spread states rows_of_word x }
 {
     let lowest = x & COLUMN;
-    wrapping_sub_u64(lowest << 16, lowest)
+    (lowest << 16).wrapping_sub(lowest)
 }
 
 // Returns the lowest row of `y` in each of four rows. A row has 16 bits, so no product of it with a bit of `COLUMN` meets another.
@@ -179,7 +164,8 @@ fn by_two(columns: &[u64; COLUMNS], w: usize, next: Relation) -> u64
     by_columns(columns, w, next.w0) | by_columns(columns, w + 16, next.w1)
 }
 
-// Returns word `w` of a composition with `next`, with all middle states.
+// Returns word `w` of a composition with `next`, with all middle states. (One function with the count of words as a parameter would need the
+// words of `next` in an array, which they are not.)
 fn by_four(columns: &[u64; COLUMNS], w: usize, next: Relation) -> u64
     requires { (w < relation_words) × AreColumns column_cells (cell columns.now) }
     ensures { result ≡ word_by 4 columns.now w next }
@@ -215,24 +201,17 @@ impl Relation {
     {
         let from = a as u32;
         let to = b as u32;
-        if SIDE <= from {
-            return Relation::empty();
-        }
-        if SIDE <= to {
+        if SIDE <= from || SIDE <= to {
             return Relation::empty();
         }
         let row = from & LAST_ROW;
         let bit: u64 = 1 << (row * SIDE + to);
-        if from < 4 {
-            return of_words(bit, 0, 0, 0);
+        match from {
+            0..=3 => of_words(bit, 0, 0, 0),
+            4..=7 => of_words(0, bit, 0, 0),
+            8..=11 => of_words(0, 0, bit, 0),
+            _ => of_words(0, 0, 0, bit),
         }
-        if from < 8 {
-            return of_words(0, bit, 0, 0);
-        }
-        if from < 12 {
-            return of_words(0, 0, bit, 0);
-        }
-        of_words(0, 0, 0, bit)
     }
 
     // Returns the relation with the pair (a, b) too; the same relation where `a` or `b` is no state.
@@ -334,14 +313,13 @@ impl Relation {
         ensures { result ≡ columns_of self }
     {
         let mut cells = [0u64; COLUMNS];
-        let mut state: u32 = 0;
-        while state < SIDE {
+        // The cells of the states below `state` are the columns of these.
+        for state in 0..SIDE {
             let at = (state as usize) * WORDS;
             cells[at] = (self.w0 >> state) & COLUMN;
             cells[at + 1] = (self.w1 >> state) & COLUMN;
             cells[at + 2] = (self.w2 >> state) & COLUMN;
             cells[at + 3] = (self.w3 >> state) & COLUMN;
-            state += 1;
         }
         cells
     }
@@ -390,27 +368,24 @@ impl Relation {
     pub fn same(self, other: Relation) -> bool
         ensures { result ≡ (value self == value other) }
     {
-        ((self.w0 ^ other.w0) | (self.w1 ^ other.w1) | (self.w2 ^ other.w2) | (self.w3 ^ other.w3))
-            == 0
+        self == other
     }
 
     // Counts the pairs.
     pub fn pairs(self) -> u32
         ensures { result ≡ pairs states (value self) }
     {
-        u64::count_ones(self.w0)
-            + u64::count_ones(self.w1)
-            + u64::count_ones(self.w2)
-            + u64::count_ones(self.w3)
+        self.w0.count_ones() + self.w1.count_ones() + self.w2.count_ones() + self.w3.count_ones()
     }
 
-    // Returns a small number of the relation, for a table of hints: equal relations have the same, and others seldom do.
+    // Returns a small number of the relation, for a table of hints: equal relations have the same, and others seldom do. Words are turned by
+    // other places each, the bits that leave one above coming in below, so that rows do not meet.
     pub fn digest(self) -> usize
         ensures { result ≡ digest (value self) }
     {
-        let lower = self.w0 ^ turned_8(self.w1);
-        let upper = self.w2 ^ turned_8(self.w3);
-        ((lower ^ turned_29(upper)) % DIGESTS) as usize
+        let lower = self.w0 ^ self.w1.rotate_left(8);
+        let upper = self.w2 ^ self.w3.rotate_left(8);
+        ((lower ^ upper.rotate_left(29)) % DIGESTS) as usize
     }
 
     // Returns the pairs among the states below 8 in one word: of a file of eight states, the whole relation. A relation that is contained in
@@ -430,8 +405,8 @@ impl Relation {
 }
 
 // Returns the pairs of `x` composed with `y` whose middle state has its row in one of the first `count` words of `y`. Each turn takes the next
-// word of `y`, which has the rows of four middle states, and the next four columns of `x`. `k` and the columns move by addition and by a
-// shift, so a turn neither multiplies nor divides by the count of states.
+// word of `y`, which has the rows of four middle states, and the next four columns of `x`. The columns move by a shift, so a turn
+// neither multiplies nor divides by the count of states.
 fn after(x: Relation, y: Relation, count: usize) -> Relation
     requires { count ≤ relation_words }
     ensures { value result ≡ product states states (count * rows_of_word) (value x) (value y) }
@@ -444,11 +419,10 @@ fn after(x: Relation, y: Relation, count: usize) -> Relation
         w3: 0,
     };
     let mut rest = x;
-    let mut k: usize = 0;
-    while k < count {
-        sum = sum.joined(rest, rows[k]);
+    // Each word of `sum` has the pairs with a middle state in a row that was taken, and `rest` begins with the columns of the others.
+    for row in &rows[..count] {
+        sum = sum.joined(rest, *row);
         rest = rest.moved();
-        k += 1;
     }
     sum
 }

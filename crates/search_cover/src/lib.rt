@@ -3,7 +3,7 @@
 // rule's candidates are all of its head; where another is looked for, its rows are numbered along the links. No row of the journal is read.
 #![tactic(auto)]
 
-ghost use Rattle.std.specs.Prelude.{◌≡◌, true, false, ◌||◌, ◌≤◌, ◌<◌, length, set};
+ghost use Rattle.std.specs.Prelude.{◌≡◌, true, false, ◌||◌, ◌≤◌, ◌<◌, length, set, MatchOption};
 ghost use Rattle.relation.specs.Relation.{contained, key_of};
 ghost use Rattle.relation.specs.Representation.{value};
 ghost use Rattle.search_rows.specs.Meanings.{candidate_of};
@@ -86,7 +86,7 @@ fn fill(near: &mut [Letter], table: &[u32], used: usize, head: u8)
     let mut cell = FIRSTS + head as usize;
     let mut row = search_order::position(table[cell]);
     let mut n: usize = 0;
-    // `n` rows have been numbered, those before `row`, to which the link in `cell` leads.
+    // `n` rows have been numbered, those before `row`, to which the link in `cell` leads. (Links lead on, so this is no `for`.)
     while row < used {
         put_number(near, n, row);
         cell = row;
@@ -132,7 +132,8 @@ fn is_below(near: &[Letter], i: usize, key: u64, effect: Effect) -> bool
     held.contained(effect)
 }
 
-// Returns whether the effect at place `i` contains `effect`, whose key is `key`.
+// Returns whether the effect at place `i` contains `effect`, whose key is `key`. (It is `is_below` with both tests turned round. One function for
+// both would have to read the effect at place `i` before its key decides.)
 fn is_above(near: &[Letter], i: usize, key: u64, effect: Effect) -> bool
     requires { Ready row_cells near.now × (i < count_of near.now) × (key ≡ key_of (value effect)) }
     ensures { result ≡ contained (value effect) (effect_at near.now i) }
@@ -143,21 +144,19 @@ fn is_above(near: &[Letter], i: usize, key: u64, effect: Effect) -> bool
     effect.contained(effect_of(near, i))
 }
 
-// Returns the place of the first of the `count` effects that is contained in `effect`, or `count`.
-fn first_below(near: &[Letter], count: usize, effect: Effect) -> usize
+// Returns the place of the first of the `count` effects that is contained in `effect`.
+fn first_below(near: &[Letter], count: usize, effect: Effect) -> Option<usize>
     requires { Ready row_cells near.now × (count ≡ count_of near.now) }
-    ensures { FirstBelow near.now count (value effect) result }
+    ensures { MatchOption result (FirstBelow near.now count (value effect) count) (λ i. (i < count) × FirstBelow near.now count (value effect) i) }
 {
     let key = effect.key();
-    let mut i: usize = 0;
     // No effect before place `i` is contained in `effect`.
-    while i < count {
+    for i in 0..count {
         if is_below(near, i, key, effect) {
-            return i;
+            return Some(i);
         }
-        i += 1;
     }
-    count
+    None
 }
 
 // Returns whether one of the `count` effects contains `effect`.
@@ -166,13 +165,12 @@ fn some_above(near: &[Letter], count: usize, effect: Effect) -> bool
     ensures { result ≡ false → NoneAbove near.now count (value effect) }
 {
     let key = effect.key();
-    let mut i: usize = 0;
-    // No effect before place `i` contains `effect`.
-    while i < count {
+    // No effect before place `i` contains `effect`. (An `any` over the places was tried: the proof did not get
+    // from its result to what the closure returned at each place.)
+    for i in 0..count {
         if is_above(near, i, key, effect) {
             return true;
         }
-        i += 1;
     }
     false
 }
@@ -184,24 +182,23 @@ fn look_through(near: &[Letter], effect: Effect, slot: usize) -> CoverAnswer
     ensures { LooksThrough near.now (value effect) slot result }
 {
     let count = near[COUNT] as usize;
-    let i = first_below(near, count, effect);
-    if i < count {
-        return CoverAnswer {
+    match first_below(near, count, effect) {
+        Some(i) => CoverAnswer {
             covers: true,
             linked: true,
             row: near[NUMBERS + i] as usize,
             cell: FIRSTS,
             larger: false,
             slot,
-        };
-    }
-    CoverAnswer {
-        covers: false,
-        linked: true,
-        row: 0,
-        cell: near[LINK] as usize,
-        larger: some_above(near, count, effect),
-        slot,
+        },
+        None => CoverAnswer {
+            covers: false,
+            linked: true,
+            row: 0,
+            cell: near[LINK] as usize,
+            larger: some_above(near, count, effect),
+            slot,
+        },
     }
 }
 
@@ -268,12 +265,10 @@ fn drop_above(near: &mut [Letter], larger: bool, effect: Effect)
         return;
     }
     let count = near[COUNT] as usize;
-    let mut i: usize = 0;
     let mut k: usize = 0;
     // Of the first `i` rows `k` are kept, and stand in front; from place `i` on all is as it was.
-    while i < count {
+    for i in 0..count {
         k = keep_row(near, i, k, effect);
-        i += 1;
     }
     near[COUNT] = k as u64;
 }

@@ -13,7 +13,7 @@ use borrow.Author.Tests.{ltb-true, ltb-false, eqb-true, eqb-false, eq-eqb, ne_eq
 use Rattle.spec_basics.specs.Elements.{any}
 use Rattle.spec_basics.specs.Tests.{and-fst}
 use Rattle.spec_order.specs.Journal.{Row, live, live_of}
-use Rattle.search_state.specs.Layout.{row_cells, heads, head_cell, list_cells, table_cells, end}
+use Rattle.search_state.specs.Layout.{row_cells, heads, head_cell, list_cells, end}
 use Rattle.search_links.specs.Covers.{live_at, Cell, Reach, Covering, Unlinked, without_effect, is_linked}
 use Rattle.search_links.specs.RowLaws.{holds-inside, holds-nowhere, holds-any, any_none, holds-before, is_last}
 

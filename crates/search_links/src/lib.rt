@@ -15,11 +15,7 @@ pub fn unlink_all(table: &mut [u32])
     requires { length table.old ≡ table_cells }
     ensures { Unlinked table.new }
 {
-    let mut i = FIRSTS;
-    while i < LASTS {
-        table[i] = END_CELL;
-        i += 1;
-    }
+    table[FIRSTS..LASTS].fill(END_CELL);
 }
 
 // Copies the links in the cells from `from` to `to` to the lists.
@@ -27,11 +23,7 @@ fn copy_links(table: &mut [u32], from: usize, to: usize)
     requires { (length table.old ≡ table_cells) × (from ≤ to) × (to ≤ list_cells) }
     ensures { Copied from to table.old table.new }
 {
-    let mut i = from;
-    while i < to {
-        table[LISTS + i] = table[i];
-        i += 1;
-    }
+    table.copy_within(from..to, LISTS + from);
 }
 
 // Makes the rows that are live now, among the first `used`, the lists of the pass: copies the links of these rows and of the heads.

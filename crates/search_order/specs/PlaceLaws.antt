@@ -119,8 +119,9 @@ module _ (lists : List ℕ) (rules : List (List ℕ)) (k r : ℕ) (s : Skipped l
         by (inl z) = inl (chain-end lists p.left z (all_lefts live rules r) (bl live l))
         by (inr z) = inr (chain-end lists p.right z (all_rights live rules r) (br live l))
 
-  pub opens-end : length rules ≤ r → (i j : ℕ) → FirstPlace lists rules k (first_at r i j)
-  opens-end h i j live l = subst (PlacesFrom live lists rules (first_at r i j)) (sym (onward-end live rules r h) ∙ s live l) (λ z. omega (arith, h, z))
+  -- none is left: any number past the last rule
+  pub opens-end : length rules ≤ r → (m : ℕ) → length rules ≤ m → (i j : ℕ) → FirstPlace lists rules k (first_at m i j)
+  opens-end h m n i j live l = subst (PlacesFrom live lists rules (first_at m i j)) (sym (onward-end live rules r h) ∙ s live l) (λ z. omega (arith, n, z))
 
 -- ---- the place after a place
 

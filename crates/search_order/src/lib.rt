@@ -80,16 +80,14 @@ pub fn first_place(lists: &[u32], rules: &[[u8; 4]], r: usize) -> Place
     requires { list_cells ≤ length lists.now }
     ensures { FirstPlace lists.now rules.now r result }
 {
-    let mut r = r;
-    while r < rules.len() {
-        let rule = rules[r];
-        let place = beginning(lists, rule, r);
+    // The rules before the current one form no candidate.
+    for r in r..rules.len() {
+        let place = beginning(lists, rules[r], r);
         if (place.left != END) & (place.right != END) {
             return place;
         }
-        r += 1;
     }
-    Place::first(r, END, END)
+    Place::first(rules.len(), END, END)
 }
 
 // The place after this one, which has no right position after it: the next left, or the next rule.

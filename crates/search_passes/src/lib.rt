@@ -50,14 +50,13 @@ pub fn all_linked(table: &[u32], starts: u64) -> bool
     ensures { result ≡ all_linked starts table.now }
 {
     let mut all = true;
-    let mut p: u8 = 0;
-    while p < NONTERMINALS {
+    // `all` says whether each member below `p` has a live row.
+    for p in 0..NONTERMINALS {
         let place = p as u32;
         if starts >> place == 0 {
             return all;
         }
         all = all & linked(table, starts, p);
-        p += 1;
     }
     all
 }

@@ -72,11 +72,9 @@ fn measure_all(lists: &mut [u32], old: usize)
     requires { (span_cells ≤ length lists.old) × (old ≤ row_cells) }
     ensures { Measures old lists.old lists.new }
 {
-    let mut x = 0;
     // The lists of the procedures below `x` are measured.
-    while x < PROCEDURES {
+    for x in 0..PROCEDURES {
         measure_one(lists, old, x);
-        x += 1;
     }
 }
 
@@ -85,15 +83,9 @@ fn leads_on(lists: &[u32], old: usize) -> bool
     requires { (span_cells ≤ length lists.now) × (old ≤ row_cells) }
     ensures { result ≡ false → NoneLeads old old lists.now }
 {
-    let mut i = 0;
-    // No row below `i` leads to a row below `old`.
-    while i < old {
-        if search_order::position(lists[i]) < old {
-            return true;
-        }
-        i += 1;
-    }
-    false
+    lists[..old]
+        .iter()
+        .any(|cell| search_order::position(*cell) < old)
 }
 
 // Notes how far each list goes over the rows below `old`. Where none of these leads to another, there is nothing to note: in the first two

@@ -139,7 +139,7 @@ fn try_file(
         count_mismatch(rt, tally, number, comparison::refusal(file, remark))?;
         return Ok(());
     }
-    let mut found = [[0u64; test_unpruned::PAIR]; test_unpruned::LIMIT];
+    let mut found = [test_unpruned::BLANK; test_unpruned::LIMIT];
     let count = test_unpruned::search(file, &mut found);
     if count == test_unpruned::LIMIT {
         count_one(tally, SKIPPED);

@@ -1,7 +1,7 @@
 -- A place with two rows is the first; a rule that has none is skipped. Assumes nothing.
 use mathlib.Core.Path.{sym, subst}
+use native.Mathlib.Omega.{arith}
 use native.Mathlib.Numerals.{add-one}
-use borrow.Author.Rules.{rules}
 use Rattle.search_order.specs.PlaceLaws.{Skipped, opens-here, opens-end, skipped-next, both-open, one-is-end}
 use Rattle.search_order.proofs.first_place.Goals as goal
 
@@ -23,4 +23,4 @@ loop-r-preserved c =
 pub returns : goal.returns
 returns c =
     let a = c.args in
-    rw c.first.ensures (opens-end a.lists.now a.rules.now a.r _ c.loop-r.invariant c.loop-r-test.false _ _)
+    rw c.first.ensures (opens-end a.lists.now a.rules.now a.r _ c.loop-r.invariant c.loop-r-test.false _ (omega arith) _ _)

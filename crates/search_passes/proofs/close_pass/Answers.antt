@@ -5,7 +5,6 @@ use native.Mathlib.Nat.{le_refl}
 use native.Mathlib.Omega.{arith}
 use lib.ListN.{length, take}
 use lib.Seq.{length-take-le}
-use borrow.Author.Rules.{rules}
 use Rattle.search_laws.specs.Clauses.{Answers}
 use Rattle.search_laws.specs.Running.{Onward}
 use Rattle.search_laws.specs.States.{all_linked, finished}

@@ -4,7 +4,6 @@ use Prim.Native.Nat.{◌≤◌}
 use native.Mathlib.Omega.{arith}
 use lib.ListN.{take}
 use lib.Seq.{length-take-le}
-use borrow.Author.Rules.{rules}
 use Rattle.search_laws.specs.Steps.{MeasuresIn, PassesOver}
 use Rattle.search_laws.specs.Running.{Onward}
 use Rattle.search_laws.specs.States.{all_linked, opening}

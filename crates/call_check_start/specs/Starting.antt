@@ -10,6 +10,8 @@ use Rattle.spec_calls.specs.Checking.{Settings, check_refusals}
 use Rattle.spec_file.specs.Entries.{entry_of}
 use Rattle.spec_calls.specs.Rows.{Journal}
 use Rattle.spec_calls.specs.declared.Row.{Row}
+use Rattle.search_state.specs.Stages.{is_going}
+use Rattle.search_state.specs.declared.Stage.TheVariants.{Waiting}
 use Rattle.search_state.specs.declared.State.{State}
 use Rattle.search_cover.specs.Near.{Beside}
 use Rattle.search_laws.specs.OnRelations.{Letters, problem_in}
@@ -22,7 +24,7 @@ use Rattle.call_check_start.specs.declared.Start.{Start}
 abbrev pub waiting : Settings → ℕ → ℕ → State
 waiting g n finals =
     record {
-      going = false;
+      stage = Waiting;
       left_row = 0;
       right_row = 0;
       terms = record { budget = g.budget; starts = g.starts; finals = finals; pass = 1; present = 0; old = 0 };
@@ -30,8 +32,6 @@ waiting g n finals =
       place = record { rule = 0; left = 0; right = 0 };
       rows = g.rows;
       rules = n;
-      verdict = 0;
-      broken = 0;
     }
 
 -- what a check of the file bs works on, with the settings g and these tables
@@ -50,5 +50,5 @@ pub record FirstPass (bs : List ℕ) (g : Settings) (letters : Letters) (rules :
 pub record Starts (bs : List ℕ) (g : Settings) (letters : Letters) (rules : RuleBytes) (t w : List ℕ) (r : Start) : Type 0 where
   pub refusal : refusal_of r.refusal ≡ first_of (check_refusals bs g.rows)
   -- nothing is done where something refuses
-  pub refused : (r.refusal.number ≡ 0 → ⊥) → r.state.going ≡ false
+  pub refused : (r.refusal.number ≡ 0 → ⊥) → is_going r.state.stage ≡ false
   pub begins : r.refusal.number ≡ 0 → FirstPass bs g letters rules t w r.state

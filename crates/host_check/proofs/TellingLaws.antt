@@ -27,8 +27,8 @@ use Rattle.spec_calls.specs.declared.Row.{Row as LentRow}
 use Rattle.search_laws.specs.Meanings.{verdict_of, answer_of}
 use Rattle.search_laws.specs.declared.Answer.TheVariants as answer
 use Rattle.search_laws.specs.declared.Totals.{Totals}
-use Rattle.search_laws.specs.declared.Unbroken.TheVariants as unbroken
-use Rattle.search_laws.specs.declared.Unbroken.{Unbroken}
+use Rattle.search_state.specs.declared.Unbroken.TheVariants as unbroken
+use Rattle.search_state.specs.declared.Unbroken.{Unbroken}
 use Rattle.call_check.specs.declared.Checked.{Checked}
 use Rattle.call_check.specs.declared.Checked.TheVariants as checked
 use Rattle.call_write.specs.declared.Writing.{Writing}

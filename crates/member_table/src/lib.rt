@@ -103,10 +103,8 @@ fn fill_row(
     ensures { Filled (map entry_of rules.now) word.now (DoneFrom i) starts.new table.new }
 {
     let mut ends = [0u64; SETS];
-    let mut j = i;
-    while j <= word.len() {
+    for j in i..=word.len() {
         fill_stretch(rules, word, empties, units, &mut ends, starts, table, i, j);
-        j += 1;
     }
 }
 
@@ -122,21 +120,8 @@ fn fill_rows(
     requires { Prepared (map entry_of rules.now) word.now empties units.now × Filled (map entry_of rules.now) word.now (DoneFrom (length word.now + 1)) starts.old table.old }
     ensures { Filled (map entry_of rules.now) word.now (DoneFrom 0) starts.new table.new }
 {
-    let mut i = word.len() + 1;
-    while 0 < i {
-        i -= 1;
+    for i in (0..=word.len()).rev() {
         fill_row(rules, word, empties, units, starts, table, i);
-    }
-}
-
-// Stores 0 in every cell.
-fn clear(table: &mut [u64])
-    ensures { (x : ℕ) → get_or table.new x 0 ≡ 0 }
-{
-    let mut i: usize = 0;
-    while i < table.len() {
-        table[i] = 0;
-        i += 1;
     }
 }
 
@@ -151,7 +136,6 @@ pub fn fill(rules: &[[u8; 4]], word: &[u8], table: &mut [u64])
     let empties = member_sets::nullable(rules);
     member_units::fill_direct(rules, empties, &mut direct);
     member_units::fill_units(&direct, &mut units);
-    clear(&mut starts);
-    clear(table);
+    table.fill(0);
     fill_rows(rules, word, empties, &units, &mut starts, table);
 }

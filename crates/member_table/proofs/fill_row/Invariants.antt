@@ -6,4 +6,5 @@ use Rattle.member_table.proofs.fill_row.Given as goal
 
 abbrev pub invariant-loop-j : goal.invariant-loop-j
 invariant-loop-j l =
-    RowKnown (map entry_of l.rules) l.word l.i l.j l.ends × Filled (map entry_of l.rules) l.word (Done l.i l.j) l.starts l.table
+    RowKnown (map entry_of l.sentence.rules.now) l.sentence.word.now l.i l.j l.ends
+    × Filled (map entry_of l.sentence.rules.now) l.sentence.word.now (Done l.i l.j) l.starts l.table

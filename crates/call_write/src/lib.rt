@@ -88,12 +88,7 @@ fn part_of(refusal: Refusal, row: usize) -> Part
     if refusal.number != 0 {
         return call_write_word::no_part();
     }
-    Part {
-        older: true,
-        terminal: false,
-        symbol: 0,
-        row,
-    }
+    Part::Row(row)
 }
 
 // Returns `said` where it has a number, and else the length `n`.

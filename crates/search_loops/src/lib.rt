@@ -25,14 +25,13 @@ fn insert(
     requires { MayInsert state candidate fate found journal.old table.old }
     ensures { CandidateInserted state candidate found journal.old table.old journal.new table.new }
 {
-    let mut cursor = search_retire::begin(table, state, fate, found);
-    while cursor.active {
+    let mut next = search_retire::begin(table, state, fate, found);
+    while let Some(cursor) = next {
         let row = cursor.row;
         let held = journal[row];
         let compared = search_rows::compare(held, candidate);
-        let new = cursor.new;
-        journal[row] = search_rows::replacement(state, candidate, new, compared, held);
-        cursor = search_retire::step(table, state, cursor, compared);
+        journal[row] = search_rows::replacement(state, candidate, cursor.new, compared, held);
+        next = search_retire::step(table, state, cursor, compared);
     }
 }
 

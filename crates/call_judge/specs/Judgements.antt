@@ -3,10 +3,12 @@ use Rattle.std.specs.Prelude.{◌≡◌, Bool, true, false, ◌||◌, cond, List
 use Rattle.std.proofs.Common.{sym, ap, ◌∙◌, subst, add-one, drop-cons, le-leb, lt-ltb, le-ltb}
 use Rattle.std.proofs.Math.Seq.{drop-length}
 use Rattle.std.proofs.lemmas.Bool.{lt-leb}
+use Rattle.std.specs.declared.result.Result.{Result}
 use Rattle.spec_basics.specs.Tests.{or_left, or-neither}
 use Rattle.relation.specs.Relation.{states}
 use Rattle.spec_language.specs.WordRelation.{rejected}
 use Rattle.spec_file.specs.Limits.{terminals}
+use Rattle.spec_file.specs.declared.Refusal.{Refusal as RefusalAnswer}
 use Rattle.spec_file.specs.Refusals.{Refusal, first_of}
 use Rattle.spec_file.proofs.RefusalLaws.{number-some, number-none, not-held, none-refuses}
 use Rattle.spec_file.specs.Views.{automaton_of}
@@ -19,7 +21,7 @@ use Rattle.call_judge.specs.Letters.{strays}
 use Rattle.call_judge.specs.Answers.{judged_of, Judging}
 
 -- an answer that is the definition's means what that one means
-pub judged : (bs w : List ℕ) (r : Judged) → judged_of r ≡ judge_of bs w → Judging bs w r
+pub judged : (bs w : List ℕ) (r : Result Judged RefusalAnswer) → judged_of r ≡ judge_of bs w → Judging bs w r
 judged bs w r e = record { answer = e; meaning = subst (JudgementMeans bs w) (sym e) (judge-means bs w) }
 
 -- ---- the refusal of the call

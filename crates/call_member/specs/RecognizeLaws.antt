@@ -11,7 +11,7 @@ use Rattle.spec_file.specs.Limits.{terminals, nonterminals}
 use Rattle.spec_file.specs.declared.Refusal.{Refusal as RefusalAnswer}
 use Rattle.spec_file.specs.Answers.{refusal_of}
 use Rattle.spec_file.specs.Refusals.{Refusal, first_of, fault}
-use Rattle.spec_file.proofs.RefusalLaws.{number-some, number-none, not-held, none-refuses}
+use Rattle.spec_file.proofs.RefusalLaws.{number-some, number-none, not-held, none-refuses, fault-some}
 use Rattle.spec_file.specs.Views.{rules_of, productions_of}
 use Rattle.spec_file.proofs.EntryLaws.{rules-length, rule-read}
 use Rattle.spec_file.proofs.Ranges.{rule-in-range}
@@ -89,8 +89,8 @@ module _ (bs w : List ℕ) (cells : ℕ) (after : List ℕ) where
   refused-by h = sym (by-refusal ∙ number-some (refused refusal) (answered last) refusal.number h)
 
   -- as the code has it
-  pub refused_as : (x : RefusalAnswer) → refusal_of x ≡ refusal → (x.number ≡ 0 → ⊥) → refused (refusal_of x) ≡ recognize_of bs w cells after
-  refused_as x e h = ap refused e ∙ refused-by (λ z. h (ap (λ (r : Refusal). r.number) e ∙ z))
+  pub refused_as : (x : RefusalAnswer) → refusal_of x ≡ refusal → refused (refusal_of x) ≡ recognize_of bs w cells after
+  refused_as x e = ap refused e ∙ refused-by (λ z. fault-some x.fault (ap (λ (r : Refusal). r.number) e ∙ z))
 
   -- nothing refuses the call
   module _ (e : refusal.number ≡ 0) where

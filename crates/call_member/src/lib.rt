@@ -2,7 +2,7 @@
 #![tactic(auto)]
 
 ghost use Rattle.std.specs.Prelude.{◌≡◌, ◌≤◌, length};
-ghost use Rattle.spec_file.specs.Answers.{refusal_of};
+ghost use Rattle.spec_file.specs.Answers.{tested_of};
 ghost use Rattle.spec_file.specs.Refusals.{fault, first_of};
 ghost use Rattle.spec_file.specs.Views.{productions_of};
 ghost use Rattle.spec_calls.specs.Judging.{word_fault};
@@ -10,26 +10,24 @@ ghost use Rattle.spec_calls.specs.Recognizing.{run_limit, stretch_cells, TableSh
 ghost use Rattle.call_member.specs.Answers.{Recognizing};
 
 use member_table::{RUN_LIMIT, STRETCH_CELLS};
-use spec_file::{RULE_LIMIT, Refusal};
+use spec_file::{Fault, RULE_LIMIT, Refusal, refuse_if};
 
-// A refusal has one of a file's numbers, or 11, 13 or 14.
-#[derive(Clone, Copy)]
+// Whether the initial symbol derives a word.
+#[derive(Clone, Copy, Debug, PartialEq, Eq)]
 pub enum Recognized {
     Derived,
     NotDerived,
-    Refused(Refusal),
 }
 
-// Returns the first refusal of a call on `file`, `word` and a table of `cells` cells: those of judging, by the code of judging, then 13 for a
-// word of more than 64 steps, then 14 for a table of any other size. Number 0: none.
-fn refusal_for(file: &[u8], word: &[u8], cells: usize) -> Refusal
-    ensures { refusal_of result ≡ first_of (recognize_refusals file.now word.now cells) }
+// Refuses a call on `file`, `word` and a table of `cells` cells: as judging refuses it, by the code of judging, then with 13 a word of more than
+// 64 steps, then with 14 a table of any other size.
+fn refusal_for(file: &[u8], word: &[u8], cells: usize) -> Result<(), Refusal>
+    ensures { tested_of result ≡ first_of (recognize_refusals file.now word.now cells) }
 {
-    let of_judging = call_judge::refusal_for(file, word);
-    let of_run = Refusal::when(13, RUN_LIMIT < word.len());
-    let of_table = Refusal::when(14, cells != STRETCH_CELLS);
-    let of_lengths = of_run.or(of_table);
-    of_judging.or(of_lengths)
+    call_judge::refusal_for(file, word)?;
+    refuse_if(RUN_LIMIT < word.len(), Fault::LongRun)?;
+    refuse_if(cells != STRETCH_CELLS, Fault::TableSize)?;
+    Ok(())
 }
 
 // Stores in `table` which procedures of the file derive each stretch of `word`.
@@ -43,18 +41,16 @@ fn fill(file: &[u8], word: &[u8], table: &mut [u64])
 }
 
 // Returns whether the initial symbol derives `word` by the rules of `file`, and stores in each cell of `table` which nonterminals derive its
-// stretch: bit p is set for nonterminal p. A refused call leaves `table` as it was.
-pub fn recognize(file: &[u8], word: &[u8], table: &mut [u64]) -> Recognized
+// stretch: bit p is set for nonterminal p. A refusal has one of a file's numbers, or 11, 13 or 14; a refused call leaves `table` as it was.
+pub fn recognize(file: &[u8], word: &[u8], table: &mut [u64]) -> Result<Recognized, Refusal>
     ensures { Recognizing file.now word.now table.old table.new result }
 {
-    let refusal = refusal_for(file, word, table.len());
-    if refusal.number != 0 {
-        return Recognized::Refused(refusal);
-    }
+    refusal_for(file, word, table.len())?;
     fill(file, word, table);
     let at = word.len();
-    if table[at] & 1 == 1 {
-        return Recognized::Derived;
+    let derived = table[at] & 1 == 1;
+    if derived {
+        return Ok(Recognized::Derived);
     }
-    Recognized::NotDerived
+    Ok(Recognized::NotDerived)
 }

@@ -4,6 +4,8 @@ use Rattle.std.proofs.Common.{sym, ap, ◌∙◌}
 use Rattle.std.proofs.Math.Path.{subst}
 use mathlib.Core.List.{List, [], ◌∷◌}
 use Rattle.std.proofs.Math.ListN.{length}
+use Rattle.std.specs.declared.result.Result.{Result}
+use Rattle.spec_file.specs.declared.Refusal.{Refusal as RefusalAnswer}
 use Rattle.spec_file.specs.Refusals.{refuse, first_of}
 use Rattle.spec_file.proofs.RefusalLaws.{none-refuses, first-last}
 use Rattle.spec_calls.proofs.ReplyLaws.{reply-none}
@@ -12,7 +14,6 @@ use Rattle.spec_unfold.specs.Calls.{output_fault, widen_refusals, narrow_refusal
 use Rattle.spec_unfold.proofs.CallLaws.{widen-answers, narrow-answers}
 use Rattle.spec_unfold.specs.MovingMeans.{WidenMeans, NarrowMeans}
 use Rattle.spec_unfold.proofs.MovingTruth.{widen-means, narrow-means}
-use Rattle.call_move.specs.declared.Moved.{Moved}
 use Rattle.call_move.specs.Answers.{moved_of, Widens, Narrows}
 use Rattle.call_move.specs.FrontLaws.{widened-length, narrowed-length}
 use Rattle.call_move.specs.ReplyLaws.{Replied}
@@ -42,7 +43,7 @@ module _ (bs : List ℕ) (room : ℕ) where
       let done = reply-none (narrow_refusals bs room) n (none-refuses (narrow_refusals bs room) z) in
       subst (λ (k : ℕ). k ≤ room) (narrowed-length bs) (narrow-answers bs room n done).2
 
-module _ (bs old new : List ℕ) (r : Moved) where
+module _ (bs old new : List ℕ) (r : Result ℕ RefusalAnswer) where
   pub widens : Replied (widen_refusals bs (length old)) (widened bs) old (moved_of r) new → Widens bs old new r
   unfolding widen_of widen_after
   widens p =

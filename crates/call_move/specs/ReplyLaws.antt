@@ -4,7 +4,7 @@ use Rattle.std.proofs.Common.{sym, ap, ◌∙◌}
 use Rattle.spec_file.specs.declared.Refusal.{Refusal as RefusalAnswer}
 use Rattle.spec_file.specs.Answers.{refusal_of}
 use Rattle.spec_file.specs.Refusals.{Refusal, first_of}
-use Rattle.spec_file.proofs.RefusalLaws.{number-some, number-none}
+use Rattle.spec_file.proofs.RefusalLaws.{number-some, number-none, fault-some}
 use Rattle.spec_calls.specs.Replies.{Reply, refused, answered, reply}
 use Rattle.spec_calls.proofs.ReplyLaws.{reply-first}
 use Rattle.spec_calls.specs.Writing.{written_by}
@@ -17,11 +17,11 @@ module _ (rs : List Refusal) (result old : List ℕ) where
     pub output : new ≡ written_by result old (reply rs (length result))
 
   -- a refusal that the code found
-  pub replied-refused : (x : RefusalAnswer) → refusal_of x ≡ first_of rs → (x.number ≡ 0 → ⊥) → Replied (refused (refusal_of x)) old
-  replied-refused x e n =
+  pub replied-refused : (x : RefusalAnswer) → refusal_of x ≡ first_of rs → Replied (refused (refusal_of x)) old
+  replied-refused x e =
       let first = first_of rs in
       let a : refused (refusal_of x) ≡ reply rs (length result) =
-      ap refused e ∙ sym (reply-first rs (length result) ∙ number-some (refused first) (answered (length result)) first.number (λ z. n (ap (λ (r : Refusal). r.number) e ∙ z))) in
+      ap refused e ∙ sym (reply-first rs (length result) ∙ number-some (refused first) (answered (length result)) first.number (λ z. fault-some x.fault (ap (λ (r : Refusal). r.number) e ∙ z))) in
       record { answer = a; output = ap (written_by result old) a }
 
   -- a result that the code wrote

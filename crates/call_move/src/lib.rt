@@ -4,7 +4,7 @@
 
 ghost use Rattle.std.specs.Prelude.{◌≡◌, ◌+◌, ◌*◌, ◌≤◌, ◌/◌, length};
 ghost use Rattle.std.proofs.Math.Seq.{paste};
-ghost use Rattle.spec_file.specs.Answers.{refusal_of};
+ghost use Rattle.spec_file.specs.Answers.{tested_of};
 ghost use Rattle.spec_file.specs.Refusals.{first_of};
 ghost use Rattle.spec_unfold.specs.Calls.{widen_refusals, narrow_refusals};
 ghost use Rattle.spec_unfold.specs.Moving.{widened, narrowed, has_long};
@@ -12,14 +12,7 @@ ghost use Rattle.call_move.specs.Answers.{Widens, Narrows};
 ghost use Rattle.call_move.specs.Fronts.{over};
 
 use file_wide_checks::WIDTH;
-use spec_file::{RULE_KIND, Refusal};
-
-// The result's length in bytes. A refusal has one of a file's numbers, or 10, 17 or 18.
-#[derive(Clone, Copy)]
-pub enum Moved {
-    Length(usize),
-    Refused(Refusal),
-}
+use spec_file::{Fault, RULE_KIND, Refusal, refuse_if};
 
 // ---- writing
 
@@ -28,11 +21,7 @@ pub fn put(out: &mut [u8], at: usize, part: &[u8])
     requires { at + length part.now ≤ length out.old }
     ensures { out.new ≡ paste out.old at part.now (length part.now) }
 {
-    let mut j: usize = 0;
-    while j < part.len() {
-        out[at + j] = part[j];
-        j += 1;
-    }
+    out[at..at + part.len()].copy_from_slice(part);
 }
 
 // Writes the records of `file`, of eight bytes each, to the front of `out`, each with eight zeros behind it.
@@ -41,13 +30,11 @@ fn put_wider(file: &[u8], out: &mut [u8])
     ensures { out.new ≡ over (widened file.now) out.old }
 {
     let zeros = [0u8; 8];
-    let n = file.len() / 8;
-    let mut i: usize = 0;
-    while i < n {
+    // The records before `i` are written, and the bytes behind them are the old ones.
+    for i in 0..file.len() / 8 {
         let from = i * 8;
         put(out, i * WIDTH, &file[from..from + 8]);
         put(out, i * WIDTH + 8, &zeros);
-        i += 1;
     }
 }
 
@@ -56,12 +43,10 @@ pub fn put_narrower(file: &[u8], out: &mut [u8])
     requires { length file.now / 16 * 8 ≤ length out.old }
     ensures { out.new ≡ over (narrowed file.now) out.old }
 {
-    let n = file.len() / WIDTH;
-    let mut i: usize = 0;
-    while i < n {
+    // Eight bytes of each record before `i` are written, and the bytes behind them are the old ones.
+    for i in 0..file.len() / WIDTH {
         let from = i * WIDTH;
         put(out, i * 8, &file[from..from + 8]);
-        i += 1;
     }
 }
 
@@ -71,62 +56,55 @@ pub fn put_narrower(file: &[u8], out: &mut [u8])
 fn has_long(file: &[u8]) -> bool
     ensures { result ≡ has_long file.now }
 {
-    let n = file.len() / WIDTH;
-    let mut i: usize = 0;
-    while i < n {
+    // No record before `i` is such a rule.
+    for i in 0..file.len() / WIDTH {
         let from = i * WIDTH;
-        if (file[from] == RULE_KIND) & (2 < file[from + 2]) {
+        let long = (file[from] == RULE_KIND) & (2 < file[from + 2]);
+        if long {
             return true;
         }
-        i += 1;
     }
     false
 }
 
-// Returns the first refusal of moving `file` over to an output of `room` bytes: the file's, then 10 for too little room. Number 0: none.
-fn widen_refusal(file: &[u8], room: usize) -> Refusal
-    ensures { refusal_of result ≡ first_of (widen_refusals file.now room) }
+// Refuses to move `file` over to an output of `room` bytes: as the file is refused, then with 10 for too little room.
+fn widen_refusal(file: &[u8], room: usize) -> Result<(), Refusal>
+    ensures { tested_of result ≡ first_of (widen_refusals file.now room) }
 {
-    let of_file = file_whole::file_refusal(file);
-    let of_room = Refusal::when(10, room < file.len() / 8 * WIDTH);
-    of_file.or(of_room)
+    file_whole::file_refusal(file)?;
+    refuse_if(room < file.len() / 8 * WIDTH, Fault::NoRoom)?;
+    Ok(())
 }
 
-// Returns the first refusal of moving `file` back to an output of `room` bytes: the file's, then 17 for a body above two, then 10 for too
-// little room. Number 0: none.
-fn narrow_refusal(file: &[u8], room: usize) -> Refusal
-    ensures { refusal_of result ≡ first_of (narrow_refusals file.now room) }
+// Refuses to move `file` back to an output of `room` bytes: as the file is refused, then with 17 for a body above two, then with 10 for too
+// little room.
+fn narrow_refusal(file: &[u8], room: usize) -> Result<(), Refusal>
+    ensures { tested_of result ≡ first_of (narrow_refusals file.now room) }
 {
-    let of_file = file_wide::file_refusal(file);
-    let of_body = Refusal::when(17, has_long(file));
-    let of_room = Refusal::when(10, room < file.len() / WIDTH * 8);
-    of_file.or(of_body.or(of_room))
+    file_wide::file_refusal(file)?;
+    refuse_if(has_long(file), Fault::LongBody)?;
+    refuse_if(room < file.len() / WIDTH * 8, Fault::NoRoom)?;
+    Ok(())
 }
 
 // ---- the calls
 
-// Moves `file`, of eight-byte records, over to sixteen bytes, at the front of `out`; returns the result's length. The other bytes of `out`
-// keep their values; a refused call leaves all of them.
-pub fn widen(file: &[u8], out: &mut [u8]) -> Moved
+// Moves `file`, of eight-byte records, over to sixteen bytes, at the front of `out`; returns the result's length in bytes. The other bytes of
+// `out` keep their values. A refusal has one of a file's numbers, or 10; a refused call leaves all bytes.
+pub fn widen(file: &[u8], out: &mut [u8]) -> Result<usize, Refusal>
     ensures { Widens file.now out.old out.new result }
 {
-    let refusal = widen_refusal(file, out.len());
-    if refusal.number != 0 {
-        return Moved::Refused(refusal);
-    }
+    widen_refusal(file, out.len())?;
     put_wider(file, out);
-    Moved::Length(file.len() / 8 * WIDTH)
+    Ok(file.len() / 8 * WIDTH)
 }
 
-// Moves `file`, of sixteen-byte records, back to eight bytes, at the front of `out`; returns the result's length. The other bytes of `out`
-// keep their values; a refused call leaves all of them.
-pub fn narrow(file: &[u8], out: &mut [u8]) -> Moved
+// Moves `file`, of sixteen-byte records, back to eight bytes, at the front of `out`; returns the result's length in bytes. The other bytes of
+// `out` keep their values. A refusal has one of a file's numbers, or 10 or 17; a refused call leaves all bytes.
+pub fn narrow(file: &[u8], out: &mut [u8]) -> Result<usize, Refusal>
     ensures { Narrows file.now out.old out.new result }
 {
-    let refusal = narrow_refusal(file, out.len());
-    if refusal.number != 0 {
-        return Moved::Refused(refusal);
-    }
+    narrow_refusal(file, out.len())?;
     put_narrower(file, out);
-    Moved::Length(file.len() / WIDTH * 8)
+    Ok(file.len() / WIDTH * 8)
 }

@@ -1,0 +1,19 @@
+-- No record, one record more, and all of them. Assumes nothing.
+use Rattle.std.proofs.Common.{List, ℕ, ◌+◌, length, refl, sym, ap, arith, ◌∙◌}
+use Rattle.spec_unfold.specs.Moving.{narrowed, narrower}
+use Rattle.call_move.specs.FrontLaws.{narrower-step, narrower_fits, moved_none, moved_all}
+use Rattle.call_move.specs.Fronts.{over}
+use Rattle.call_move.proofs.put_narrower.Goals as goal
+
+pub loop-i-init : goal.loop-i-init
+loop-i-init c = (refl, sym (ap (λ (p : List ℕ). over p c.args.out.now) (moved_none 16 8 narrower c.args.file.now)))
+
+pub loop-i-preserved : goal.loop-i-preserved
+loop-i-preserved c =
+    let l = c.loop-i in
+    let s = c.put.ensures ∙ narrower-step c.args.file.now c.args.out.now l.out l.i (omega arith) l.invariant.1 in
+    (ap length s ∙ narrower_fits c.args.file.now c.args.out.now (l.i + 1) (omega arith) (omega arith), s)
+
+pub returns : goal.returns
+unfolding narrowed
+returns c = c.loop-i.invariant.1 ∙ ap (λ (p : List ℕ). over p c.args.out.now) (moved_all 16 8 narrower c.args.file.now c.loop-i.i (omega arith))

@@ -1,8 +1,11 @@
 -- What the library's functions ensure, each in one record. Definitions only. Assumes nothing.
-use Rattle.std.specs.Prelude.{◌≡◌, List, [], ◌∷◌, ◌++◌, map, ℕ, ◌+◌, ◌≤◌, take, drop, replicate}
+use Rattle.std.specs.Prelude.{◌≡◌, List, [], ◌∷◌, ◌++◌, map, ℕ, ◌+◌, ◌≤◌, take, drop, replicate, MatchResult}
+use Rattle.std.specs.declared.result.Result.{Result}
 use Rattle.std.proofs.Math.ListN.{length}
 use Rattle.spec_file.specs.Reading.{step_at, stretch}
 use Rattle.spec_file.specs.Refusals.{fault}
+use Rattle.spec_file.specs.Answers.{number_of}
+use Rattle.spec_file.specs.declared.Refusal.{Refusal as RefusalAnswer}
 use Rattle.spec_order.specs.Journal.{Row}
 use Rattle.spec_order.specs.Order.{Answer}
 use Rattle.spec_calls.specs.Base.{initial_alone}
@@ -73,6 +76,10 @@ pub record ToldMove (x : Reply ℕ) (r i n : ℕ) : Type 0 where
   pub code : r ≡ code_by conversion_code x
   pub place : i ≡ place_in x
   pub size : n ≡ size_in x
+
+-- the same of what the code has: a size with this number, or what refuses
+pub record ToldSize (code : ℕ) (x : Result ℕ RefusalAnswer) (r i n : ℕ) : Type 0 where
+  pub told : MatchResult x (λ size. (r ≡ code) × (i ≡ 0) × (n ≡ size)) (λ y. (r ≡ number_of y.fault) × (i ≡ y.place) × (n ≡ 0))
 
 -- told so, where the output held new after the call, and it was to hold `after`; what both mean is `means`
 pub record Converts (x : Reply ℕ) (after : List ℕ) (means : List ℕ → Reply ℕ → Type 0) (new : List ℕ) (r i n : ℕ) : Type 0 where

@@ -24,8 +24,8 @@ use Rattle.host_result.specs.Results.{told_by, numbers_in}
 use Rattle.host_result.specs.declared.CheckResult.{CheckResult}
 use Rattle.host_check.specs.Details.{zero_row, answer_code, row_after, row_numbers, head_of}
 use Rattle.host_check.proofs.TellingLaws.{unbroken-shows-none, row-there, head-there}
-use Rattle.bolfrega.specs.Codes.{writing_code, place_in, size_in}
-use Rattle.bolfrega.specs.Clauses.{ChecksRows, ToldRun, WritesRun}
+use Rattle.bolfrega.specs.Codes.{written_code, writing_code, place_in, size_in}
+use Rattle.bolfrega.specs.Clauses.{ChecksRows, ToldRun, ToldSize, WritesRun}
 
 -- ---- the check
 
@@ -74,6 +74,11 @@ module _ (bs : List ℕ) (o : Options) (old new : Journal) (as_many : length new
 -- the answer x, which is y
 pub told-run : (x y : Result ℕ Refused) → x ≡ y → ToldRun (writing_of x) (code_by writing_code (writing_of y)) (place_in (writing_of y)) (size_in (writing_of y))
 told-run x y q = let e = ap writing_of (sym q) in record { code = ap (code_by writing_code) e; place = ap place_in e; size = ap size_in e }
+
+-- what is told so
+pub run-told : (x : Result ℕ Refused) (r i n : ℕ) → ToldSize written_code x r i n → ToldRun (writing_of x) r i n
+run-told (Ok k) r i n t = record { code = t.told.0; place = t.told.1.0; size = t.told.1.1 }
+run-told (Err y) r i n t = record { code = t.told.0; place = t.told.1.0; size = t.told.1.1 }
 
 pub writes-run : (bs : List ℕ) (rows : Journal) (used k : ℕ) (old new : List ℕ) (x : Result ℕ Refused) → Writes bs (map row_of rows) used k old new x → (r i n : ℕ) → ToldRun (writing_of x) r i n → WritesRun bs rows used k old new r i n
 writes-run bs rows used k old new x w r i n t = record { told = subst (λ (y : Reply ℕ). ToldRun y r i n) w.answer t; buffer = w.buffer; meaning = w.meaning }

@@ -9,25 +9,19 @@ ghost use Rattle.spec_calls.specs.Rows.{blank};
 ghost use Rattle.host_result.specs.Results.{numbers_in};
 ghost use Rattle.host_check.specs.Clauses.{ChecksAlone};
 ghost use Rattle.bolfrega.specs.Codes.{version, record_code, record_values};
-ghost use Rattle.bolfrega.specs.Clauses.{Refuses, StepsFrom, MovesAt, Judges, Recognizes, ListsGaps, ToldMove, WidensFile, NarrowsFile, UnfoldsFile, ChecksZeros, ChecksFrom, of_initial, ChecksRows, ToldRun, WritesRun};
+ghost use Rattle.bolfrega.specs.Clauses.{Refuses, StepsFrom, MovesAt, Judges, Recognizes, ListsGaps, ToldSize, WidensFile, NarrowsFile, UnfoldsFile, ChecksZeros, ChecksFrom, of_initial, ChecksRows, WritesRun};
 ghost use Rattle.bolfrega.specs.OwnRows.{ToldRows};
 ghost use Rattle.spec_calls.specs.Base.{initial_alone};
-ghost use Rattle.call_move.specs.Answers.{moved_of};
-ghost use Rattle.call_write.specs.Answers.{writing_of};
 
-use call_check::Checked;
-use call_gaps::Listed;
 use call_judge::Judged;
 use call_member::Recognized;
-use call_move::Moved;
-use call_write::Writing;
-use file_reader::Step;
 use host_result::CheckResult;
 use relation::Letter;
 use search_cover::NEAR_WORDS;
+use search_laws::Answer;
 use search_state::CELLS;
 use spec_calls::{INITIAL_ALONE, Options, Row};
-use spec_file::Record;
+use spec_file::{Record, Refusal};
 
 const VERSION: u64 = 3;
 
@@ -66,9 +60,16 @@ pub extern "C" fn bolfrega_version() -> u64
 pub extern "C" fn bolfrega_refusal(file: &[u8], place: &mut u64) -> u64
     ensures { Refuses file.now result place.new }
 {
-    let refusal = file_whole::file_refusal(file);
-    *place = refusal.place as u64;
-    refusal.number
+    match file_whole::file_refusal(file) {
+        Ok(()) => {
+            *place = 0;
+            0
+        }
+        Err(refusal) => {
+            *place = refusal.place as u64;
+            refusal.fault.number()
+        }
+    }
 }
 
 // Returns the number of what `found` is.
@@ -116,21 +117,20 @@ pub extern "C" fn bolfrega_step(
 ) -> u64
     ensures { StepsFrom file.now from result place.new values.new next.new }
 {
-    let step = file_reader::step_at(file, from);
-    match step {
-        Step::Gives(record, after) => {
+    match file_reader::step_at(file, from) {
+        Ok(Some((record, after))) => {
             *place = 0;
             *values = record_values(record);
             *next = after as u64;
             record_code(record)
         }
-        Step::Refused(stopped) => {
+        Err(stopped) => {
             *place = stopped.place as u64;
             *values = [0, 0, 0, 0];
             *next = from as u64;
-            stopped.number
+            stopped.fault.number()
         }
-        Step::Ended => {
+        Ok(None) => {
             *place = 0;
             *values = [0, 0, 0, 0];
             *next = from as u64;
@@ -144,8 +144,7 @@ pub extern "C" fn bolfrega_step(
 pub extern "C" fn bolfrega_moves(file: &[u8], offset: &mut u64, length: &mut u64)
     ensures { MovesAt file.now offset.new length.new }
 {
-    let fault = file_whole::file_refusal(file);
-    if fault.number != 0 {
+    if file_whole::file_refusal(file).is_err() {
         *offset = 0;
         *length = 0;
         return;
@@ -160,19 +159,18 @@ pub extern "C" fn bolfrega_moves(file: &[u8], offset: &mut u64, length: &mut u64
 pub extern "C" fn bolfrega_judge(file: &[u8], run: &[u8], place: &mut u64) -> u64
     ensures { Judges file.now run.now result place.new }
 {
-    let judged = call_judge::judge(file, run);
-    match judged {
-        Judged::Accepted => {
+    match call_judge::judge(file, run) {
+        Ok(Judged::Accepted) => {
             *place = 0;
             ACCEPTED
         }
-        Judged::TurnedAway => {
+        Ok(Judged::TurnedAway) => {
             *place = 0;
             TURNED_AWAY
         }
-        Judged::Refused(refused) => {
+        Err(refused) => {
             *place = refused.place as u64;
-            refused.number
+            refused.fault.number()
         }
     }
 }
@@ -188,19 +186,37 @@ pub extern "C" fn bolfrega_recognize(
 ) -> u64
     ensures { Recognizes file.now run.now table.old table.new result place.new }
 {
-    let recognized = call_member::recognize(file, run, table);
-    match recognized {
-        Recognized::Derived => {
+    match call_member::recognize(file, run, table) {
+        Ok(Recognized::Derived) => {
             *place = 0;
             DERIVED
         }
-        Recognized::NotDerived => {
+        Ok(Recognized::NotDerived) => {
             *place = 0;
             NOT_DERIVED
         }
-        Recognized::Refused(found) => {
+        Err(found) => {
             *place = found.place as u64;
-            found.number
+            found.fault.number()
+        }
+    }
+}
+
+// Tells a size: returns `code` where `answer` has one, or the number that refuses the call. Stores the number of the refused record in `place`, or
+// 0, and in `size` what the answer has, 0 for a refused call.
+fn tell_size(answer: Result<usize, Refusal>, code: u64, place: &mut u64, size: &mut u64) -> u64
+    ensures { ToldSize code answer result place.new size.new }
+{
+    match answer {
+        Ok(n) => {
+            *place = 0;
+            *size = n as u64;
+            code
+        }
+        Err(refused) => {
+            *place = refused.place as u64;
+            *size = 0;
+            refused.fault.number()
         }
     }
 }
@@ -218,39 +234,10 @@ pub extern "C" fn bolfrega_list(
     ensures { ListsGaps file.now list.old list.new result place.new entries.new }
 {
     let listed = call_gaps::list(file, list);
-    match listed {
-        Listed::Entries(n) => {
-            *place = 0;
-            *entries = n as u64;
-            LISTED
-        }
-        Listed::Refused(found) => {
-            *place = found.place as u64;
-            *entries = 0;
-            found.number
-        }
-    }
+    tell_size(listed, LISTED, place, entries)
 }
 
 // ---- the other form of records
-
-// Stores the record and the length of `moved` in `place` and `length`, and returns CONVERTED or the number that refuses the call.
-fn tell_moved(moved: Moved, place: &mut u64, length: &mut u64) -> u64
-    ensures { ToldMove (moved_of moved) result place.new length.new }
-{
-    match moved {
-        Moved::Length(n) => {
-            *place = 0;
-            *length = n as u64;
-            CONVERTED
-        }
-        Moved::Refused(found) => {
-            *place = found.place as u64;
-            *length = 0;
-            found.number
-        }
-    }
-}
 
 // Moves `file`, of eight-byte records, over to sixteen bytes: returns CONVERTED, or the number that refuses the call, with `place` as
 // above. Stores the result's length in `length`, 0 for a refused call, and writes the result to the front of `out`. The other bytes of `out`
@@ -265,7 +252,7 @@ pub extern "C" fn bolfrega_widen(
     ensures { WidensFile file.now out.old out.new result place.new length.new }
 {
     let moved = call_move::widen(file, out);
-    tell_moved(moved, place, length)
+    tell_size(moved, CONVERTED, place, length)
 }
 
 // Moves `file`, of sixteen-byte records, back to eight bytes; its numbers and lent places are those of `bolfrega_widen`.
@@ -279,7 +266,7 @@ pub extern "C" fn bolfrega_narrow(
     ensures { NarrowsFile file.now out.old out.new result place.new length.new }
 {
     let moved = call_move::narrow(file, out);
-    tell_moved(moved, place, length)
+    tell_size(moved, CONVERTED, place, length)
 }
 
 // Unfolds `file`, of sixteen-byte records, into a file of eight-byte records for a check, with chain procedures for its longer bodies; its
@@ -294,7 +281,7 @@ pub extern "C" fn bolfrega_unfold(
     ensures { UnfoldsFile initial_alone file.now out.old out.new result place.new length.new }
 {
     let moved = call_unfold::unfold(file, INITIAL_ALONE, out);
-    tell_moved(moved, place, length)
+    tell_size(moved, CONVERTED, place, length)
 }
 
 // As `bolfrega_unfold`, for the set `starts` of starting procedures, bit p for procedure p: none of them becomes a chain procedure.
@@ -309,7 +296,7 @@ pub extern "C" fn bolfrega_unfold_from(
     ensures { UnfoldsFile starts file.now out.old out.new result place.new length.new }
 {
     let moved = call_unfold::unfold(file, starts, out);
-    tell_moved(moved, place, length)
+    tell_size(moved, CONVERTED, place, length)
 }
 
 // ---- the check
@@ -392,7 +379,7 @@ pub extern "C" fn bolfrega_check_from(
 // ---- over a host's own rows
 
 // Stores the nine details of `checked` in `details`, where `row` is the row that a broken answer names, and returns its number.
-fn tell_rows(checked: Checked, row: Row, details: &mut [u64; 9]) -> u64
+fn tell_rows(checked: Result<Answer, Refusal>, row: Row, details: &mut [u64; 9]) -> u64
     ensures { ToldRows checked row result details.new }
 {
     let told = host_result::to_unwritten(checked, row);
@@ -422,24 +409,6 @@ pub extern "C" fn bolfrega_check_rows(
     tell_rows(checked, row, details)
 }
 
-// Stores the record and the length of `writing` in `place` and `length`, and returns WRITTEN or the number that refuses the call.
-fn tell_written(writing: Writing, place: &mut u64, length: &mut u64) -> u64
-    ensures { ToldRun (writing_of writing) result place.new length.new }
-{
-    match writing {
-        Writing::Length(n) => {
-            *place = 0;
-            *length = n as u64;
-            WRITTEN
-        }
-        Writing::Refused(found) => {
-            *place = found.place as u64;
-            *length = 0;
-            found.number
-        }
-    }
-}
-
 // Writes the run behind row `row` of `journal`, of which `used` rows are used, to the front of `buffer`: returns WRITTEN, or the number that
 // refuses the call, with `place` as above. Stores the run's length in `length`, 0 for a refused call. The other bytes of `buffer` keep their
 // values, and a refused call leaves all of them as they were.
@@ -456,5 +425,5 @@ pub extern "C" fn bolfrega_write(
     ensures { WritesRun file.now journal.now used row buffer.old buffer.new result place.new length.new }
 {
     let writing = call_write::write(file, journal, used, row, buffer);
-    tell_written(writing, place, length)
+    tell_size(writing, WRITTEN, place, length)
 }

@@ -2,23 +2,23 @@
 use mathlib.Core.Path.{◌≡◌, refl, sym, ap, ap₂, ◌∙◌, subst, subst₂}
 use mathlib.Core.Bool.{Bool, true, false, not}
 use mathlib.Core.List.{List, ◌++◌, map, map-append}
-use Prim.Native.Nat.{ℕ, zero, suc}
-use native.Mathlib.Omega.{arith}
+use Prim.Native.Nat.{ℕ}
 use lib.Dec.{T}
 use lib.ListN.{length, take, drop, take-append-drop}
 use Rattle.spec_basics.specs.Lists.{drop-map}
 use Rattle.spec_file.specs.Refusals as refusals
-use Rattle.spec_file.specs.Refusals.{by_number, first_of}
+use Rattle.spec_file.specs.Refusals.{first_of}
 use Rattle.spec_order.specs.Order as order
 use Rattle.spec_order.specs.Journal.{Row}
 use Rattle.spec_calls.specs.Checking.{Settings, check_refusals, order_on, check_of, kept_by, journal_after}
 use Rattle.spec_calls.proofs.Promising.{promises}
 use Rattle.spec_calls.specs.declared.Options.{Options}
 use Rattle.spec_calls.proofs.ReplyLaws.{reply-first}
-use Rattle.spec_file.proofs.RefusalLaws.{number-some}
+use Rattle.spec_file.proofs.RefusalLaws.{number-some, fault-some}
 use Rattle.spec_calls.specs.Replies.{Reply, refused, answered, unless}
 use Rattle.spec_calls.specs.Rows.{row_of, Journal}
 use Rattle.spec_calls.specs.declared.Row.{Row as LentRow}
+use Rattle.search_state.specs.Stages.{is_going}
 use Rattle.search_state.specs.declared.State.{State}
 use Rattle.search_state.specs.declared.Terms.{Terms}
 use Rattle.search_links.specs.Rows.{rows_read}
@@ -29,10 +29,11 @@ use Rattle.search_laws.specs.Problems.{RuleBytes, Problem}
 use Rattle.search_laws.specs.Meanings.{answer_in, answer_of, totals_in}
 use Rattle.search_laws.specs.declared.Answer.{Answer}
 use Rattle.search_laws.specs.declared.Answer.TheVariants.{Ended, Broken}
-use Rattle.call_check.specs.declared.Checked.{Checked}
-use Rattle.call_check.specs.declared.Checked.TheVariants as checked
-use Rattle.call_check_start.specs.declared.Start.{Start}
-use Rattle.call_check.specs.Answers.{checked_by, checked_of, used_in}
+use Rattle.std.specs.Prelude.{Ok, Err}
+use Rattle.std.specs.declared.result.Result.{Result}
+use Rattle.spec_file.specs.Answers.{refusal_of}
+use Rattle.spec_file.specs.declared.Refusal.{Refusal}
+use Rattle.call_check.specs.Answers.{checked_of, used_in}
 use Rattle.call_check.specs.Clauses.{settings_over, Checks}
 use Rattle.call_check.specs.OrderLaws.{order_same}
 use Rattle.call_check_start.specs.Starting.{problem_of, Starts}
@@ -70,7 +71,7 @@ module _ (bs : List ℕ) (o : Options) (old : Journal) where
   reply = reply-first (check_refusals bs g.rows) (order_on bs g)
 
   -- whatever it is
-  checks : (x : Reply (order.Answer ℕ)) → check_of bs g ≡ x → (new : Journal) (c : Checked) → checked_of c new ≡ x → map row_of new ≡ kept_by (map row_of old) x
+  checks : (x : Reply (order.Answer ℕ)) → check_of bs g ≡ x → (new : Journal) (c : Result Answer Refusal) → checked_of c new ≡ x → map row_of new ≡ kept_by (map row_of old) x
       → drop (used_in x) new ≡ drop (used_in x) old → Checks bs o old new c
   unfolding journal_after
   checks x e new c a j u =
@@ -82,60 +83,43 @@ module _ (bs : List ℕ) (o : Options) (old : Journal) where
       }
 
   -- the answer, where the passes gave it
-  answers : (a : Answer) (new : Journal) → search.Checked row_of (order_on bs g) old new a → check_of bs g ≡ answered (order_on bs g) → Checks bs o old new (checked.Answered a)
+  answers : (a : Answer) (new : Journal) → search.Checked row_of (order_on bs g) old new a → check_of bs g ≡ answered (order_on bs g) → Checks bs o old new (Ok a)
   answers a new x e =
-      checks (answered (answer_of row_of a new)) (e ∙ ap answered (sym x.answer)) new (checked.Answered a) refl
+      checks (answered (answer_of row_of a new)) (e ∙ ap answered (sym x.answer)) new (Ok a) refl
       (front_rest (totals_in a).used old new x.beyond ∙ sym (ap₂ (λ (l : List (Row ℕ)) (u : ℕ). l ++ drop u (map row_of old)) (answer-journal a new) (answer-used a new)))
       (subst (λ (u : ℕ). drop u new ≡ drop u old) (sym (answer-used a new)) x.beyond)
 
-  module _ (letters : Letters) (rules : RuleBytes) (t near t' : List ℕ) (r : Start) (h : Starts bs g letters rules t near r) (new : Journal) (last : State) (ran : Ran letters rules r.state old new t' last) where
-    abbrev s : State
-    s = r.state
+  -- ---- something refused: the journal is as it was
+  pub refuses : (r : Refusal) → refusal_of r ≡ refusal → Checks bs o old old (Err r)
+  refuses r e =
+      let some : refusal.number ≡ 0 → ⊥ = λ q. fault-some r.fault (ap (λ (x : refusals.Refusal). x.number) e ∙ q) in
+      checks (refused refusal) (reply ∙ number-some (refused refusal) (answered (order_on bs g)) refusal.number some) old (Err r) (ap refused e) refl refl
 
+  -- ---- nothing refused
+  module _ (letters : Letters) (rules : RuleBytes) (t near t' : List ℕ) (s : State) (h : Starts bs g letters rules t near (Ok s)) (new : Journal) (last : State) (ran : Ran letters rules s old new t' last) where
     abbrev P : Problem ℕ LentRow
     P = problem_of bs g letters (take s.rules rules)
 
-    -- ---- something refused: the search did nothing
-    module _ (z : r.refusal.number ≡ 0 → ⊥) where
-      same : new ≡ old
-      same = (ran.1.search.idle (subst (λ (b : Bool). T (not b)) (sym (h.refused z)) tt)).1
-
-      refuses : Checks bs o old new (checked.Refused r.refusal)
-      refuses =
-          subst (λ (j : Journal). Checks bs o old j (checked.Refused r.refusal)) (sym same)
-          (checks (refused refusal)
-          (reply ∙ number-some (refused refusal) (answered (order_on bs g)) refusal.number (λ q. z (ap (λ (x : refusals.Refusal). x.number) h.refusal ∙ q)))
-          old (checked.Refused r.refusal) (ap refused h.refusal) refl refl)
-
-    -- ---- nothing refused
-    module _ (z : r.refusal.number ≡ 0) where
-      -- it ended, or it did not begin
-      ended : search.Checked row_of (order_of P g.rows g.budget) old new (answer_in last)
-      ended = by s.going refl
-        where
-          by : (b : Bool) → s.going ≡ b → search.Checked row_of (order_of P g.rows g.budget) old new (answer_in last)
-          by true e =
-              let on : T s.going = subst T (sym e) tt in
-              let stood = (h.begins z).stands old refl in
-              subst (λ (x : Terms). search.Checked row_of (order_of (problem_in x.starts x.finals letters (take s.rules rules)) g.rows x.budget) old new (answer_in last)) (stood.goes on).begun.terms ((ran.1.search.stands on).ends ran.0)
-          by false e =
-              let off : T (not s.going) = subst (λ (b : Bool). T (not b)) (sym e) tt in
-              let i = ran.1.search.idle off in
-              subst₂ (λ (x : State) (j : Journal). search.Checked row_of (order_of P g.rows g.budget) old j (answer_in x)) (sym i.0) (sym i.1) (((h.begins z).stands old refl).ends off)
-
-      on-file : order_of P g.rows g.budget ≡ order_on bs g
-      on-file =
-          ap (λ (l : Letters). order_of (problem_of bs g l (take s.rules rules)) g.rows g.budget) (h.begins z).relations
-          ∙ order_same bs (none-refused bs (length old) r.refusal h.refusal z).0 (take s.rules rules) (h.begins z).entries g
-
-      answered-so : Checks bs o old new (checked.Answered (answer_in last))
-      answered-so =
-          answers (answer_in last) new (subst (λ (a : order.Answer ℕ). search.Checked row_of a old new (answer_in last)) on-file ended)
-          (reply ∙ ap (λ (n : ℕ). by_number n (refused refusal) (answered (order_on bs g))) (sym (ap (λ (x : refusals.Refusal). x.number) h.refusal) ∙ z))
-
-    pub checks-by : (c : Checked) → c ≡ checked_by r.refusal (answer_in last) → Checks bs o old new c
-    checks-by c e = subst (Checks bs o old new) (sym e) (by r.refusal.number refl)
+    -- it ended, or it did not begin
+    ended : search.Checked row_of (order_of P g.rows g.budget) old new (answer_in last)
+    ended = by (is_going s.stage) refl
       where
-        by : (k : ℕ) → r.refusal.number ≡ k → Checks bs o old new (by_number k (checked.Refused r.refusal) (checked.Answered (answer_in last)))
-        by zero z = answered-so z
-        by (suc k) z = refuses (λ q. let y : ⊥ = omega (arith, sym z ∙ q) in y)
+        by : (b : Bool) → is_going s.stage ≡ b → search.Checked row_of (order_of P g.rows g.budget) old new (answer_in last)
+        by true e =
+            let on : T (is_going s.stage) = subst T (sym e) tt in
+            let stood = h.1.stands old refl in
+            subst (λ (x : Terms). search.Checked row_of (order_of (problem_in x.starts x.finals letters (take s.rules rules)) g.rows x.budget) old new (answer_in last)) (stood.goes on).begun.terms ((ran.1.search.stands on).ends ran.0)
+        by false e =
+            let off : T (not (is_going s.stage)) = subst (λ (b : Bool). T (not b)) (sym e) tt in
+            let i = ran.1.search.idle off in
+            subst₂ (λ (x : State) (j : Journal). search.Checked row_of (order_of P g.rows g.budget) old j (answer_in x)) (sym i.0) (sym i.1) ((h.1.stands old refl).ends off)
+
+    on-file : order_of P g.rows g.budget ≡ order_on bs g
+    on-file =
+        ap (λ (l : Letters). order_of (problem_of bs g l (take s.rules rules)) g.rows g.budget) h.1.relations
+        ∙ order_same bs (none-refused bs (length old) h.0).0 (take s.rules rules) h.1.entries g
+
+    pub answered-so : Checks bs o old new (Ok (answer_in last))
+    answered-so =
+        answers (answer_in last) new (subst (λ (a : order.Answer ℕ). search.Checked row_of a old new (answer_in last)) on-file ended)
+        (reply ∙ ap (λ (r : refusals.Refusal). unless r (answered (order_on bs g))) (sym h.0))

@@ -1,6 +1,6 @@
 -- What the answers of a check say, case by case, in the terms of the definitions. Definitions only. Assumes nothing.
-use Rattle.std.specs.Prelude.{ℕ}
-use Rattle.spec_file.specs.Refusals.{by_number}
+use Rattle.std.specs.Prelude.{ℕ, Ok, Err}
+use Rattle.std.specs.declared.result.Result.{Result}
 use Rattle.spec_file.specs.Answers.{refusal_of}
 use Rattle.spec_file.specs.declared.Refusal.{Refusal}
 use Rattle.spec_order.specs.Order as order
@@ -8,17 +8,11 @@ use Rattle.spec_calls.specs.Replies.{Reply, refused, answered}
 use Rattle.spec_calls.specs.Rows.{row_of, Journal}
 use Rattle.search_laws.specs.Meanings.{answer_of}
 use Rattle.search_laws.specs.declared.Answer.{Answer}
-use Rattle.call_check.specs.declared.Checked.{Checked}
-use Rattle.call_check.specs.declared.Checked.TheVariants as checked
-
--- the refusal, where it has a number, and else the answer
-abbrev pub checked_by : Refusal → Answer → Checked
-checked_by r a = by_number r.number (checked.Refused r) (checked.Answered a)
 
 -- the answer, over the journal as it stands then
-abbrev pub checked_of : Checked → Journal → Reply (order.Answer ℕ)
-checked_of (checked.Refused r) j = refused (refusal_of r)
-checked_of (checked.Answered a) j = answered (answer_of row_of a j)
+abbrev pub checked_of : Result Answer Refusal → Journal → Reply (order.Answer ℕ)
+checked_of (Err r) j = refused (refusal_of r)
+checked_of (Ok a) j = answered (answer_of row_of a j)
 
 -- the rows that a reply uses; none on a refusal
 abbrev pub used_in : Reply (order.Answer ℕ) → ℕ

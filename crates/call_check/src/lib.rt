@@ -2,33 +2,14 @@
 #![tactic(auto)]
 
 ghost use Rattle.std.specs.Prelude.{◌≡◌};
-ghost use Rattle.search_laws.specs.Meanings.{answer_in};
-ghost use Rattle.call_check.specs.Answers.{checked_by};
 ghost use Rattle.call_check.specs.Clauses.{Checks};
 
 use relation::Letter;
 use search_cover::NEAR_WORDS;
 use search_laws::Answer;
-use search_state::{CELLS, State};
+use search_state::CELLS;
 use spec_calls::{Options, Row};
 use spec_file::{LETTER_WORDS, Letters, RULE_LIMIT, Refusal};
-
-// The answer of a check, or what refused it.
-#[derive(Clone, Copy)]
-pub enum Checked {
-    Refused(Refusal),
-    Answered(Answer),
-}
-
-// Returns `told` where it has a number, and else the answer of `last`, the state in which the search ended.
-fn as_checked(told: Refusal, last: State) -> Checked
-    ensures { result ≡ checked_by told (answer_in last) }
-{
-    if told.number != 0 {
-        return Checked::Refused(told);
-    }
-    Checked::Answered(search_step::answer_of(last))
-}
 
 // Decides whether every word of the plan in `file` is accepted, by the working order over the lent `journal`, in which it stores the rows that it
 // uses; `options` has the budget of joins. It works in the lent `table` and `near`, which may have any contents: nothing is cleared but what is
@@ -39,13 +20,13 @@ pub fn check_in(
     table: &mut [u32; CELLS],
     near: &mut [Letter; NEAR_WORDS],
     options: Options,
-) -> Checked
+) -> Result<Answer, Refusal>
     ensures { Checks file.now options journal.old journal.new result }
 {
     let mut letters: Letters = [0; LETTER_WORDS];
     let mut rules = [[0u8; 4]; RULE_LIMIT];
     let rows = journal.len();
-    let start = call_check_start::prepare(
+    let state = call_check_start::prepare(
         file,
         &mut letters,
         &mut rules,
@@ -53,13 +34,13 @@ pub fn check_in(
         near,
         rows,
         options,
-    );
-    let last = search_loops::run(journal, table, near, &letters, &rules, start.state);
-    as_checked(start.refusal, last)
+    )?;
+    let last = search_loops::run(journal, table, near, &letters, &rules, state);
+    Ok(search_step::answer_of(last))
 }
 
 // The same with a table and words of its own.
-pub fn check(file: &[u8], journal: &mut [Row], options: Options) -> Checked
+pub fn check(file: &[u8], journal: &mut [Row], options: Options) -> Result<Answer, Refusal>
     ensures { Checks file.now options journal.old journal.new result }
 {
     let mut table = [0u32; CELLS];

@@ -2,7 +2,7 @@
 use mathlib.Core.Path.{◌≡◌, refl, sym, ap, ◌∙◌, subst}
 use mathlib.Core.Bool.{Bool, ◌||◌}
 use mathlib.Core.List.{List, [], map}
-use Prim.Native.Nat.{ℕ, zero, suc, ◌≤◌, ◌<◌}
+use Prim.Native.Nat.{ℕ, ◌≤◌, ◌<◌}
 use native.Mathlib.Omega.{arith}
 use lib.Dec.{T, eqb, ltb}
 use lib.ListN.{length, take, set, replicate, length-replicate}
@@ -12,11 +12,9 @@ use Rattle.spec_basics.specs.Tests.{or-neither}
 use Rattle.relation.specs.Digits.{number}
 use Rattle.relation.specs.Relation.{states}
 use Rattle.spec_language.specs.WordRelation.{is_final}
-use Rattle.spec_file.specs.Refusals.{fault, first_of}
+use Rattle.spec_file.specs.Refusals.{refuse, fault, first_of}
 use Rattle.spec_file.proofs.RefusalLaws.{not-held}
 use Rattle.spec_file.specs.Views.{rules_of, transitions_of, automaton_of}
-use Rattle.spec_file.specs.Answers.{refusal_of}
-use Rattle.spec_file.specs.declared.Refusal.{Refusal}
 use Rattle.spec_calls.specs.Checking.{Settings, journal_limit, journal_fault, check_refusals}
 use Rattle.spec_file.specs.Entries.{entry_of}
 use Rattle.spec_calls.specs.Rows.{row_of, blank, Journal}
@@ -27,6 +25,7 @@ use Rattle.search_links.specs.Covers.{Covering, Unlinked}
 use Rattle.search_links.specs.RowLaws.{rows_none}
 use Rattle.search_links.specs.Rows.{rows_read}
 use Rattle.search_cover.specs.Near.{near_words, Beside}
+use Rattle.search_state.specs.Stages.{is_going}
 use Rattle.search_state.specs.declared.State.{State}
 use Rattle.search_state.specs.declared.Terms.{Terms}
 use Rattle.search_laws.specs.Passes.{pass-first}
@@ -42,7 +41,7 @@ use Rattle.file_tables.specs.Tables.{letter_table, RuleTable}
 use Rattle.file_tables.specs.LetterLaws.{letters-length}
 use Rattle.call_refusals.specs.RuleLaws.{rules-fit, rules-in}
 use Rattle.call_refusals.proofs.Refusals.{none-refused}
-use Rattle.call_check_start.specs.declared.Start.{Start}
+use Rattle.std.specs.Prelude.{Ok}
 use Rattle.call_check_start.specs.Starting.{waiting, problem_of, Starts}
 
 -- a journal that 8 does not refuse
@@ -60,22 +59,19 @@ module _ (bs : List ℕ) (g : Settings) where
   abbrev B : ℕ
   B = g.budget
 
-  -- ---- at the ends
-  pub starts-refused : (letters : Letters) (rules : RuleBytes) (t near : List ℕ) (r : Refusal) → refusal_of r ≡ first_of (check_refusals bs J) → (r.number ≡ 0 → ⊥) → (s : State) → s ≡ waiting g 0 0 → Starts bs g letters rules t near (record { refusal = r; state = s })
-  starts-refused letters rules t near r e z s w = record { refusal = e; refused = λ _. ap (λ (x : State). x.going) w; begins = λ q. absurd (z q) }
-
+  -- ---- where nothing refuses
   pub may-open : (finals : ℕ) (before rules : RuleBytes) (n : ℕ) → RuleTable bs before rules n → (t : List ℕ) → Unlinked t → (w : State) → w ≡ waiting g n finals → MayOpen rules n w.terms w.counts t
   may-open finals before rules n en t et w ew =
       subst (λ (x : State). MayOpen rules n x.terms x.counts t) (sym ew)
       (record { table = et.size; count = rules-fit bs before rules n en; old = omega arith; used = omega arith; links = record { rows = []; size = refl; covering = covering-none t et } })
 
   module _ (letters : Letters) (el : letters ≡ letter_table states (transitions_of bs)) (finals : ℕ) (ef : finals ≡ number states (is_final (automaton_of bs))) (before rules : RuleBytes) (n : ℕ) (en : RuleTable bs before rules n) (t t' : List ℕ)
-      (et : Unlinked t) (near near' : List ℕ) (size : length near ≡ near_words) (forgot : near' ≡ set near 0 0) (w : State) (ew : w ≡ waiting g n finals) (x : Reached) (o : OpensPass rules t n w.terms w.counts t' x) (nonempty : Bool) (em : nonempty ≡ all_linked w.terms.starts t') (s : State) (es : s ≡ opening w w.terms x nonempty) (r : Refusal) (e : refusal_of r ≡ first_of (check_refusals bs J)) (z : r.number ≡ 0) where
+      (et : Unlinked t) (near near' : List ℕ) (size : length near ≡ near_words) (forgot : near' ≡ set near 0 0) (w : State) (ew : w ≡ waiting g n finals) (x : Reached) (o : OpensPass rules t n w.terms w.counts t' x) (nonempty : Bool) (em : nonempty ≡ all_linked w.terms.starts t') (s : State) (es : s ≡ opening w w.terms x nonempty) (e : refuse 0 0 ≡ first_of (check_refusals bs J)) where
     abbrev P : Problem ℕ LentRow
     P = problem_in g.starts finals letters (take n rules)
 
     quiet : ((fault bs).number ≡ 0) × (journal_fault J ≡ 0)
-    quiet = none-refused bs J r e z
+    quiet = none-refused bs J e
 
     opened : (j : Journal) → length j ≡ J → Onward P B j (record { used = 0; joins = 0; added = 0 }) s j t'
     opened j l =
@@ -90,49 +86,35 @@ module _ (bs : List ℕ) (g : Settings) where
     count : n ≡ s.rules
     count = sym ((opened (replicate J blank) (length-replicate J blank)).stands.count ∙ length-take-le n rules fit)
 
-    pub starts : Starts bs g letters rules t' near' (record { refusal = r; state = s })
-    starts = record {
-      refusal = e;
-      refused = λ q. absurd (q z);
-      begins = λ _. record {
+    pub starts : Starts bs g letters rules t' near' (Ok s)
+    starts = (
+      e,
+      record {
         relations = el;
         whole = subst (λ (k : ℕ). k ≤ length rules) count fit;
         entries = subst (λ (k : ℕ). map entry_of (take k rules) ≡ rules_of bs) count (rules-in bs quiet.0 before rules n en);
         none-used = (opened (replicate J blank) (length-replicate J blank)).used;
         none-near = subst (Beside []) (sym forgot) (near_first near size);
         stands = λ j l. subst (λ (k : ℕ). SearchAt (problem_of bs g letters (take k rules)) B j s j t') count (subst (λ (f : ℕ). SearchAt (problem_in g.starts f letters (take n rules)) B j s j t') ef (opened j l).stands);
-      };
-    }
+      },
+    )
 
   -- ---- then the search may run, over every journal of J rows
-  module _ (letters : Letters) (rules : RuleBytes) (t near : List ℕ) (r : Start) (h : Starts bs g letters rules t near r) (j : Journal) (l : length j ≡ J) where
-    abbrev s : State
-    s = r.state
-
+  module _ (letters : Letters) (rules : RuleBytes) (t near : List ℕ) (s : State) (h : Starts bs g letters rules t near (Ok s)) (j : Journal) (l : length j ≡ J) where
     pub may-run : Running letters rules s j s j t
-    may-run = by r.refusal.number refl
-      where
-        by : (k : ℕ) → r.refusal.number ≡ k → Running letters rules s j s j t
-        by zero z =
-            let b = h.begins z in
-            let k = journal-size J (none-refused bs J r.refusal h.refusal z).1 in
-            record {
-              all = λ _. omega (arith, ap length b.relations, letters-length states (transitions_of bs));
-              search = record {
-                idle = λ _. (refl, refl);
-                sized = λ _. record { some = omega (arith, l, k.0); limit = omega (arith, l, k.1) };
-                whole = λ _. b.whole;
-                stands = λ g. subst (λ (x : Terms). SearchAt (problem_in x.starts x.finals letters (take s.rules rules)) x.budget j s j t) (sym ((b.stands j l).goes g).begun.terms) (b.stands j l);
-              };
-            }
-        by (suc k) z =
-            let none : T s.going → ⊥ = λ g. subst T (h.refused (λ q. let y : ⊥ = omega (arith, sym z ∙ q) in y)) g in
-            record { all = λ g. absurd (none g); search = record { idle = λ _. (refl, refl); sized = λ g. absurd (none g); whole = λ g. absurd (none g); stands = λ g. absurd (none g) } }
+    may-run =
+        let b = h.1 in
+        let k = journal-size J (none-refused bs J h.0).1 in
+        record {
+          all = λ _. omega (arith, ap length b.relations, letters-length states (transitions_of bs));
+          search = record {
+            idle = λ _. (refl, refl);
+            sized = λ _. record { some = omega (arith, l, k.0); limit = omega (arith, l, k.1) };
+            whole = λ _. b.whole;
+            stands = λ g. subst (λ (x : Terms). SearchAt (problem_in x.starts x.finals letters (take s.rules rules)) x.budget j s j t) (sym ((b.stands j l).goes g).begun.terms) (b.stands j l);
+          };
+        }
 
     -- and no effect stands in the words yet
-    pub may-look : T s.going → NearIn s j near
-    may-look g = by r.refusal.number refl
-      where
-        by : (k : ℕ) → r.refusal.number ≡ k → NearIn s j near
-        by zero z = subst (λ (rows : List Row). Beside rows near) (sym (ap (λ (u : ℕ). rows_read row_of u j) (h.begins z).none-used ∙ rows_none row_of j)) (h.begins z).none-near
-        by (suc k) z = absurd (subst T (h.refused (λ q. let y : ⊥ = omega (arith, sym z ∙ q) in y)) g)
+    pub may-look : T (is_going s.stage) → NearIn s j near
+    may-look g = subst (λ (rows : List Row). Beside rows near) (sym (ap (λ (u : ℕ). rows_read row_of u j) h.1.none-used ∙ rows_none row_of j)) h.1.none-near

@@ -8,23 +8,16 @@ ghost use Rattle.search_cover.specs.Near.{near_words};
 ghost use Rattle.call_check_start.specs.Starting.{waiting, Starts};
 
 use relation::{Letter, StateSet};
-use search_state::{Counts, Place, State, Terms};
+use search_state::{Counts, Place, Stage, State, Terms};
 use spec_calls::Options;
 use spec_file::{Letters, RULE_LIMIT, Refusal};
-
-// Where the check starts: the refusal, with number 0 where there is none, and the first pass, which does not begin where something refuses.
-#[derive(Clone, Copy)]
-pub struct Start {
-    pub refusal: Refusal,
-    pub state: State,
-}
 
 // The state before the first pass, over a journal of `rows` rows and `rules` rules, where `finals` is the set of final states.
 fn wait(rows: usize, rules: usize, options: Options, finals: StateSet) -> State
     ensures { result ≡ waiting (settings_of rows options) rules finals }
 {
     State {
-        going: false,
+        stage: Stage::Waiting,
         left_row: 0,
         right_row: 0,
         terms: Terms {
@@ -43,14 +36,12 @@ fn wait(rows: usize, rules: usize, options: Options, finals: StateSet) -> State
         place: Place::first(0, 0, 0),
         rows,
         rules,
-        verdict: 0,
-        broken: 0,
     }
 }
 
 // Where nothing refuses the check of `file` over a journal of `rows` rows, stores the relation of each terminal in `letters` and the rules in
 // `rules`, and begins the first pass, for which it sets up `table` and `near`. Both may have any contents: only what is read before it is
-// written is cleared, the first rows of the nonterminals in `table` and the nonterminal of `near`. Returns the refusal and the state then.
+// written is cleared, the first rows of the nonterminals in `table` and the nonterminal of `near`. Returns the state then.
 pub fn prepare(
     file: &[u8],
     letters: &mut Letters,
@@ -59,17 +50,11 @@ pub fn prepare(
     near: &mut [Letter],
     rows: usize,
     options: Options,
-) -> Start
+) -> Result<State, Refusal>
     requires { (length table.old ≡ table_cells) × (length near.old ≡ near_words) }
     ensures { Starts file.now (settings_of rows options) letters.new rules.new table.new near.new result }
 {
-    let fault = call_refusals::refusal_for(file, rows);
-    if fault.number != 0 {
-        return Start {
-            refusal: fault,
-            state: wait(rows, 0, options, 0),
-        };
-    }
+    call_refusals::refusal_for(file, rows)?;
     file_tables::letter_relations(file, letters);
     let finals = file_tables::final_states(file);
     let n = file_tables::rule_table(file, rules);
@@ -78,13 +63,6 @@ pub fn prepare(
     let before = wait(rows, n, options, finals);
     let terms = before.terms;
     let at = search_passes::open_pass(&rules[..], table, n, terms, before.counts);
-    Start {
-        refusal: fault,
-        state: search_step::stand_or_finish(
-            before,
-            terms,
-            at,
-            search_passes::all_linked(table, terms.starts),
-        ),
-    }
+    let nonempty = search_passes::all_linked(table, terms.starts);
+    Ok(search_step::stand_or_finish(before, terms, at, nonempty))
 }

@@ -36,11 +36,5 @@ pub fn write(
     let fit = call_write_fit::rows_fit(journal, known, row + 1);
     refuse_if(!fit.fits, Fault::UnfitRow)?;
     refuse_if(too_long(fit.len, buffer.len()), Fault::NoRoom)?;
-    let part = Part {
-        older: true,
-        terminal: false,
-        symbol: 0,
-        row,
-    };
-    Ok(call_write_word::write_symbol(journal, known, part, buffer))
+    Ok(call_write_word::write_symbol(journal, known, Part::Row(row), buffer))
 }

@@ -15,7 +15,7 @@ use Rattle.spec_order.specs.Fitting.{pointer_fits}
 use Rattle.spec_calls.specs.Base.{words}
 use Rattle.spec_calls.proofs.BaseLaws.{word-sizes}
 use Rattle.call_write_word.specs.declared.Part.{Part}
-use Rattle.call_write_word.specs.declared.Parts.{Parts}
+use Rattle.call_write_word.specs.declared.Part.TheVariants.{Nothing, Terminal, Row as OlderRow}
 use Rattle.call_write_fit.specs.Forms.{no_forms}
 use Rattle.call_write_word.specs.Parts.{nothing, older_row, part_of, body_parts, parts_of, part_word, parts_word, FitsIf, Ready}
 use Rattle.spec_order.proofs.FittingLaws.{FitThrough, PointersFit, lower, body_at, fitting}
@@ -27,27 +27,24 @@ no_length [] e = refl
 no_length (x ∷ w) e = absurd (let z : ⊥ = omega arith in z)
 
 -- an older row is below i
-abbrev BelowIf : ℕ → Bool → ℕ → Type 0
-BelowIf i true p = p < i
-BelowIf i false p = Unit {0}
-
 abbrev Below : ℕ → Part → Type 0
-Below i x = BelowIf i x.older x.row
+Below i Nothing = Unit {0}
+Below i (Terminal c) = Unit {0}
+Below i (OlderRow p) = p < i
 
-abbrev AllBelow : ℕ → Parts → Type 0
-AllBelow i p = Below i p.first × Below i p.second
+abbrev AllBelow : ℕ → Part × Part → Type 0
+AllBelow i p = Below i p.0 × Below i p.1
 
 -- what falls at each call: write_row has i + i + 1, and a symbol that hands over to row p one more than that row
-abbrev pub rank_if : Bool → ℕ → ℕ
-rank_if true p = p + p + 2
-rank_if false p = 0
-
 abbrev pub rank : Part → ℕ
-rank x = rank_if x.older x.row
+rank Nothing = 0
+rank (Terminal c) = 0
+rank (OlderRow p) = p + p + 2
 
-falls-if : (i : ℕ) (b : Bool) (p : ℕ) → BelowIf i b p → rank_if b p < i + i + 1
-falls-if i true p h = omega arith
-falls-if i false p h = omega arith
+falls_if : (i : ℕ) (x : Part) → Below i x → rank x < i + i + 1
+falls_if i Nothing h = omega arith
+falls_if i (Terminal c) h = omega arith
+falls_if i (OlderRow p) h = omega arith
 
 module _ (rules : List Rule) (rows : List (Row ℕ)) where
   part-word : (s : Symbol) (p : ℕ) → part_word rules rows (part_of s p) ≡ symbol_word words (words_of words rules rows) s p
@@ -82,31 +79,32 @@ module _ (rules : List Rule) (rows : List (Row ℕ)) where
         b : Body
         b = body_at no_forms rows rules i
 
-        none : Parts
-        none = record { first = nothing; second = nothing }
+        none : Part × Part
+        none = (nothing, nothing)
 
-        by : (t : Bool) → (t ≡ true → r.len ≡ 0) → (word_behind words rules rows i ≡ parts_word rules rows (cond t (record { first = nothing; second = nothing }) (body_parts b r.left r.right))) × AllBelow i (cond t (record { first = nothing; second = nothing }) (body_parts b r.left r.right))
+        by : (t : Bool) → (t ≡ true → r.len ≡ 0) → (word_behind words rules rows i ≡ parts_word rules rows (cond t ((nothing, nothing)) (body_parts b r.left r.right))) × AllBelow i (cond t ((nothing, nothing)) (body_parts b r.left r.right))
         by true e = (no_length (word_behind words rules rows i) (sym (len-behind words no_forms rules rows word-sizes i k f) ∙ e refl), (tt, tt))
         by false e = (
           behind-body words no_forms rules rows i k (f i (le_refl i)) ∙ sym (parts-word b r.effect r.left r.right),
           parts_below i b r.left r.right (fitting no_forms rows rules i (f i (le_refl i))).pointers,
         )
 
-    fits_below : (b : Bool) (p : ℕ) → BelowIf i b p → FitsIf rules rows b p
-    fits_below true p h = (omega arith, λ j l. f j (omega arith))
-    fits_below false p h = tt
+    fits_below : (x : Part) → Below i x → FitsIf rules rows x
+    fits_below Nothing h = tt
+    fits_below (Terminal c) h = tt
+    fits_below (OlderRow p) h = (omega arith, λ j l. f j (omega arith))
 
 -- ---- what the row writer knows of a row that may be written, by what the row hands over to
 
-pub record Handed (rules : List Rule) (rows : List (Row ℕ)) (i n : ℕ) (p : Parts) : Type 0 where
-  pub word : word_behind words rules rows i ≡ part_word rules rows p.first ++ part_word rules rows p.second
-  pub falls : rank p.first < i + i + 1
-  pub ready : Ready rules rows p.first n
-  pub then-falls : rank p.second < i + i + 1
+pub record Handed (rules : List Rule) (rows : List (Row ℕ)) (i n : ℕ) (p : Part × Part) : Type 0 where
+  pub word : word_behind words rules rows i ≡ part_word rules rows p.0 ++ part_word rules rows p.1
+  pub falls : rank p.0 < i + i + 1
+  pub ready : Ready rules rows p.0 n
+  pub then-falls : rank p.1 < i + i + 1
   -- after the first, in what remains
-  pub then_ready : (m : ℕ) → m ≡ length (part_word rules rows p.first) → Ready rules rows p.second (n - m)
+  pub then_ready : (m : ℕ) → m ≡ length (part_word rules rows p.0) → Ready rules rows p.1 (n - m)
 
-module _ {rules : List Rule} {rows : List (Row ℕ)} {i n : ℕ} (a : Ready rules rows (older_row i) n) {p : Parts} (e : p ≡ parts_of rules (get_or rows i (no_row no_forms))) where
+module _ {rules : List Rule} {rows : List (Row ℕ)} {i n : ℕ} (a : Ready rules rows (older_row i) n) {p : Part × Part} (e : p ≡ parts_of rules (get_or rows i (no_row no_forms))) where
   made_of : (word_behind words rules rows i ≡ parts_word rules rows p) × AllBelow i p
   made_of =
       let m = made rules rows i a.fits.0 a.fits.1 in
@@ -115,11 +113,11 @@ module _ {rules : List Rule} {rows : List (Row ℕ)} {i n : ℕ} (a : Ready rule
   pub handed : Handed rules rows i n p
   handed =
       let m = made_of in
-      let l = ap length m.0 ∙ length-append (part_word rules rows p.first) (part_word rules rows p.second) in
+      let l = ap length m.0 ∙ length-append (part_word rules rows p.0) (part_word rules rows p.1) in
       record {
         word = m.0;
-        falls = falls-if i p.first.older p.first.row m.1.0;
-        ready = record { fits = fits_below rules rows i a.fits.0 a.fits.1 p.first.older p.first.row m.1.0; room = omega (arith, l, a.room) };
-        then-falls = falls-if i p.second.older p.second.row m.1.1;
-        then_ready = λ k c. record { fits = fits_below rules rows i a.fits.0 a.fits.1 p.second.older p.second.row m.1.1; room = omega (arith, l, a.room) };
+        falls = falls_if i p.0 m.1.0;
+        ready = record { fits = fits_below rules rows i a.fits.0 a.fits.1 p.0 m.1.0; room = omega (arith, l, a.room) };
+        then-falls = falls_if i p.1 m.1.1;
+        then_ready = λ k c. record { fits = fits_below rules rows i a.fits.0 a.fits.1 p.1 m.1.1; room = omega (arith, l, a.room) };
       }

@@ -13,21 +13,21 @@ use Rattle.spec_calls.specs.declared.Row.{Row as LentRow}
 use Rattle.spec_file.specs.Entries.{entry_of}
 use Rattle.spec_calls.specs.Rows.{row_of, blank}
 use Rattle.call_write_fit.specs.Forms.{no_forms}
-use Rattle.call_write_word.specs.declared.Parts.{Parts}
+use Rattle.call_write_word.specs.declared.Part.{Part}
 use Rattle.call_write_word.specs.Parts.{nothing, body_parts, parts_of}
 use Rattle.spec_order.proofs.FittingLaws.{fitting}
 
 module _ (rules : List (List ℕ)) (r : LentRow) where
-  abbrev none : Parts
-  none = record { first = nothing; second = nothing }
+  abbrev none : Part × Part
+  none = (nothing, nothing)
 
-  parts-by : (t : Bool) → eqb r.len 0 ≡ t → cond t (record { first = nothing; second = nothing }) (body_parts (entry_of (get_or rules r.rule [])).body r.left r.right) ≡ parts_of (map entry_of rules) (row_of r)
+  parts-by : (t : Bool) → eqb r.len 0 ≡ t → cond t ((nothing, nothing)) (body_parts (entry_of (get_or rules r.rule [])).body r.left r.right) ≡ parts_of (map entry_of rules) (row_of r)
   unfolding parts_of
   parts-by t e =
-      ap₂ (λ (t : Bool) (x : Rule). cond t (record { first = nothing; second = nothing }) (body_parts x.body r.left r.right)) (sym e) (sym (get_or-map entry_of rules r.rule []))
+      ap₂ (λ (t : Bool) (x : Rule). cond t ((nothing, nothing)) (body_parts x.body r.left r.right)) (sym e) (sym (get_or-map entry_of rules r.rule []))
 
   -- what a row of length 0 hands over to, and what another does
-  pub parts_none : r.len ≡ 0 → record { first = nothing; second = nothing } ≡ parts_of (map entry_of rules) (row_of r)
+  pub parts_none : r.len ≡ 0 → (nothing, nothing) ≡ parts_of (map entry_of rules) (row_of r)
   parts_none e = parts-by true (eq-eqb r.len 0 e)
 
   pub parts-some : (r.len ≡ 0 → ⊥) → body_parts (entry_of (get_or rules r.rule [])).body r.left r.right ≡ parts_of (map entry_of rules) (row_of r)

@@ -27,11 +27,12 @@ use Rattle.spec_calls.specs.declared.Row.{Row as LentRow}
 use Rattle.search_laws.specs.Meanings.{verdict_of, answer_of}
 use Rattle.search_laws.specs.declared.Answer.TheVariants as answer
 use Rattle.search_laws.specs.declared.Totals.{Totals}
-use Rattle.search_laws.specs.declared.Unbroken.TheVariants as unbroken
-use Rattle.search_laws.specs.declared.Unbroken.{Unbroken}
-use Rattle.call_check.specs.declared.Checked.{Checked}
-use Rattle.call_check.specs.declared.Checked.TheVariants as checked
-use Rattle.call_write.specs.declared.Writing.{Writing}
+use Rattle.search_state.specs.declared.Unbroken.TheVariants as unbroken
+use Rattle.search_state.specs.declared.Unbroken.{Unbroken}
+use Rattle.std.specs.declared.result.Result.{Result}
+use Rattle.spec_file.specs.declared.Refusal.{Refusal as Refused}
+use Rattle.search_laws.specs.declared.Answer.{Answer as Answered}
+use Rattle.std.specs.Prelude.{Ok, Err}
 use Rattle.call_check.specs.Answers.{checked_of}
 use Rattle.call_write.specs.Answers.{writing_of}
 use Rattle.call_check.specs.Clauses.{settings_over, Checks}
@@ -88,10 +89,10 @@ unwritten bs rows old = by (fault bs).number (journal_fault (length rows))
     by (suc f) g = refl
 
 -- no more bytes of the file are given to the writing than it has
-pub few_bytes : (c : Checked) (s : ℕ) → (name_in c s).bytes ≤ s
-few_bytes (checked.Refused r) s = omega arith
-few_bytes (checked.Answered (answer.Ended v n)) s = omega arith
-few_bytes (checked.Answered (answer.Broken i n)) s = omega arith
+pub few_bytes : (c : Result Answered Refused) (s : ℕ) → (name_in c s).bytes ≤ s
+few_bytes (Err r) s = omega arith
+few_bytes (Ok (answer.Ended v n)) s = omega arith
+few_bytes (Ok (answer.Broken i n)) s = omega arith
 
 -- a verdict that shows no row is not broken
 pub unbroken-shows-none : {A : Type 0} (v : Unbroken) (x y : A) → if_broken (verdict_of v) x y ≡ y
@@ -102,7 +103,7 @@ unbroken-shows-none unbroken.Empty x y = refl
 
 -- ---- a broken answer, over the journal before and after the check
 
-module _ (bs : List ℕ) (o : Options) (before after : Journal) (as_many : length after ≡ length before) (i : ℕ) (n : Totals) (h : Checks bs o before after (checked.Answered (answer.Broken i n))) where
+module _ (bs : List ℕ) (o : Options) (before after : Journal) (as_many : length after ≡ length before) (i : ℕ) (n : Totals) (h : Checks bs o before after (Ok (answer.Broken i n))) where
   abbrev said : Answer ℕ
   said = answer_of row_of (answer.Broken i n) after
 
@@ -124,26 +125,26 @@ module _ (bs : List ℕ) (o : Options) (before after : Journal) (as_many : lengt
 
 -- ---- the whole reply
 
-module _ (bs : List ℕ) (o : Options) (before after rest : Journal) (few : length before ≤ journal_limit) (as_many : length after ≡ length before) (old new : List ℕ) (w : Writing) (y : LentRow) where
+module _ (bs : List ℕ) (o : Options) (before after rest : Journal) (few : length before ≤ journal_limit) (as_many : length after ≡ length before) (old new : List ℕ) (w : Result ℕ Refused) (y : LentRow) where
   -- the row that is named, and the bytes that the writing is given
-  abbrev name : Checked → RowToWrite
+  abbrev name : Result Answered Refused → RowToWrite
   name c = name_in c (length bs)
 
   -- with that row
-  abbrev tale : Checked → CheckResult
+  abbrev tale : Result Answered Refused → CheckResult
   tale c = told_by c (get_or (after ++ rest) (place_of (name c).row) blank) y (refused_by (writing_of w))
 
   -- over the journal as it stands then
-  tells : (c : Checked) → Checks bs o before after c → Writes (take (name c).bytes bs) (map row_of after) (name c).used (name c).row old new w
+  tells : (c : Result Answered Refused) → Checks bs o before after c → Writes (take (name c).bytes bs) (map row_of after) (name c).used (name c).row old new w
       → Tells bs (map row_of after) (checked_of c after) (numbers_in (tale c)) old new (tale c).code
-  tells (checked.Refused r) h v = record { code = refl; details = refl; buffer = v.buffer ∙ unwritten [] (map row_of after) old }
-  tells (checked.Answered (answer.Ended x n)) h v =
+  tells (Err r) h v = record { code = refl; details = refl; buffer = v.buffer ∙ unwritten [] (map row_of after) old }
+  tells (Ok (answer.Ended x n)) h v =
       record {
         code = refl;
         details = ap (λ (l : List ℕ). 0 ∷ n.joins ∷ n.used ∷ n.pass ∷ absent ∷ l) (sym (unbroken-shows-none x _ (0 ∷ 0 ∷ 0 ∷ [])));
         buffer = v.buffer ∙ unwritten [] (map row_of after) old ∙ sym (unbroken-shows-none x _ old);
       }
-  tells (checked.Answered (answer.Broken i n)) h u =
+  tells (Ok (answer.Broken i n)) h u =
       let v = subst (λ (xs : List ℕ). Writes xs (map row_of after) n.used i old new w) (take-length bs) u in
       let low = row-there bs o before after as_many i n h in
       let here = ap (λ (k : ℕ). row_of (get_or (after ++ rest) k blank)) (place-low i (omega (arith, low, as_many, few))) ∙ row-front after rest i low in
@@ -156,7 +157,7 @@ module _ (bs : List ℕ) (o : Options) (before after rest : Journal) (few : leng
       }
 
   -- of the check
-  tells-check : (c : Checked) → Checks bs o before after c → Writes (take (name c).bytes bs) (map row_of after) (name c).used (name c).row old new w
+  tells-check : (c : Result Answered Refused) → Checks bs o before after c → Writes (take (name c).bytes bs) (map row_of after) (name c).used (name c).row old new w
       → ChecksOver bs before o (numbers_in (tale c)) old new (tale c).code
   tells-check c h v =
       record {
@@ -167,21 +168,21 @@ module _ (bs : List ℕ) (o : Options) (before after rest : Journal) (few : leng
       }
 
   -- the nonterminal of the row
-  head-told : (c : Checked) → Checks bs o before after c → (tale c).head ≡ head_of (check_of bs (settings_over o before))
+  head-told : (c : Result Answered Refused) → Checks bs o before after c → (tale c).head ≡ head_of (check_of bs (settings_over o before))
   head-told c h = by c h ∙ ap head_of h.answer
     where
-      by : (c : Checked) → Checks bs o before after c → (tale c).head ≡ head_of (checked_of c after)
-      by (checked.Refused r) h = refl
-      by (checked.Answered (answer.Ended x n)) h = sym (unbroken-shows-none x _ 0)
-      by (checked.Answered (answer.Broken i n)) h =
+      by : (c : Result Answered Refused) → Checks bs o before after c → (tale c).head ≡ head_of (checked_of c after)
+      by (Err r) h = refl
+      by (Ok (answer.Ended x n)) h = sym (unbroken-shows-none x _ 0)
+      by (Ok (answer.Broken i n)) h =
           let low = row-there bs o before after as_many i n h in
           ap (λ (k : ℕ). (row_of (get_or (after ++ rest) k blank)).head) (place-low i (omega (arith, low, as_many, few))) ∙ ap (λ (x : Row ℕ). x.head) (row-front after rest i low) ∙ head-there bs o before after as_many i n h
 
 -- the sample is told
-sample-told : (c : Checked) (x y : LentRow) (f : ℕ) → (told_by c x y f).sample ≡ y
-sample-told (checked.Refused r) x y f = refl
-sample-told (checked.Answered (answer.Ended v n)) x y f = refl
-sample-told (checked.Answered (answer.Broken i n)) x y f = refl
+sample-told : (c : Result Answered Refused) (x y : LentRow) (f : ℕ) → (told_by c x y f).sample ≡ y
+sample-told (Err r) x y f = refl
+sample-told (Ok (answer.Ended v n)) x y f = refl
+sample-told (Ok (answer.Broken i n)) x y f = refl
 
 -- ---- as the code has it all in hand
 
@@ -189,8 +190,8 @@ module _ (bs : List ℕ) (n : ℕ) (old : LentRow) (o : Options) (p : ℕ) (befo
   -- xs: the array before the check. m: the rows lent. zs: its first m rows after it. c: what the check answered. d: what is to be written,
   -- and i: the row to show. k: the sample row. w: what writing answered. r: the result
   pub tells-alone : (xs : Journal) → xs ≡ replicate journal_limit old → (m : ℕ) → (m ≡ front_of n) × (m ≤ journal_limit) → length (take m xs) ≡ m
-      → (zs : Journal) → length zs ≡ m → length (zs ++ drop m xs) ≡ journal_limit → (c : Checked) → Checks bs o (take m xs) zs c
-      → (d : RowToWrite) → d ≡ name_in c (length bs) → (i : ℕ) → i ≡ place_of d.row → (k : ℕ) → (k ≡ place_of p) × (k < journal_limit) → (w : Writing) → Writes (take d.bytes bs) (map row_of zs) d.used d.row before after w
+      → (zs : Journal) → length zs ≡ m → length (zs ++ drop m xs) ≡ journal_limit → (c : Result Answered Refused) → Checks bs o (take m xs) zs c
+      → (d : RowToWrite) → d ≡ name_in c (length bs) → (i : ℕ) → i ≡ place_of d.row → (k : ℕ) → (k ≡ place_of p) × (k < journal_limit) → (w : Result ℕ Refused) → Writes (take d.bytes bs) (map row_of zs) d.used d.row before after w
       → (r : CheckResult) → r ≡ told_by c (get_or (zs ++ drop m xs) i blank) (get_or (zs ++ drop m xs) k blank) (refused_by (writing_of w)) → ChecksAlone bs n old o p before after r
   unfolding journal_of rest_of
   tells-alone xs e m em lent zs back all c h d ed i ei k ek w v r er =

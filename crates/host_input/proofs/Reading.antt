@@ -1,14 +1,11 @@
 -- What a loop of reads keeps, and that it hands over what it should.
-use Rattle.std.specs.Prelude.{◌≡◌, refl, Bool, true, false, List, [], ◌++◌, ℕ, ◌+◌, ◌<◌, ◌≤◌, ltb, length, take, drop, min, None, Some, IfSome}
-use Rattle.std.proofs.Common.{sym, ap, subst, ◌∙◌, arith, length-append, ltb-true, ltb-false}
+use Rattle.std.specs.Prelude.{◌≡◌, refl, Bool, true, false, List, [], ◌++◌, ℕ, ◌+◌, ◌<◌, ◌≤◌, ltb, length, take, drop, min, None, Some, IfSome, Ok}
+use Rattle.std.proofs.Common.{sym, ap, ◌∙◌, arith, length-append, ltb-true, ltb-false}
 use Rattle.std.proofs.lemmas.List.{append_assoc, append-nil, take-append-drop, take-append-le, length-take-le, take_all, take_at}
 use Rattle.std.proofs.Math.Seq.{take-append-add}
 use Rattle.std.specs.Io.KnownBytes.{Consumes, IsAtEnd}
 use Rattle.std.specs.declared.option.Option.{Option}
-use Rattle.host_input.specs.declared.Chunk.{Chunk}
-use Rattle.host_input.specs.declared.Chunk.TheVariants as chunk
-use Rattle.host_input.specs.declared.Input.TheVariants as input
-use Rattle.host_input.specs.Held.{most, held_of, Handed, CameAt, HandsOver}
+use Rattle.host_input.specs.Held.{most, held_of, Handed, CameAt}
 use Rattle.host_input.specs.HeldLaws.{held-short, count-is}
 
 -- `front` has come of an input that had `known` left: it is counted by `at`, and the buffer has it up to the most
@@ -65,9 +62,9 @@ kept-none known buffer = record { front = []; consumed = none known; counted = s
     none (Some a) = refl
 
 -- after one that gave bytes
-kept-bytes : (known now new : Option (List ℕ)) (at got next : ℕ) (before after : List ℕ) → most ≤ length before → most ≤ length after
-    → Kept known now at before → CameAt now new (chunk.Bytes got) at before after → ((n : ℕ) → at ≡ held_of n → next ≡ held_of (n + got)) → Kept known new next after
-kept-bytes known now new at got next before after u v k r h =
+pub kept-bytes : {E : Type 0} (known now new : Option (List ℕ)) (at got next : ℕ) (before after : List ℕ) → most ≤ length before → most ≤ length after
+    → Kept known now at before → CameAt {E = E} now new (Ok got) at before after → ((n : ℕ) → at ≡ held_of n → next ≡ held_of (n + got)) → Kept known new next after
+kept-bytes {E} known now new at got next before after u v k r h =
     let came = r.came in
     let few = length-take-le got r.room came.1 in
     let long : length (k.front ++ take got r.room) ≡ length k.front + got = length-append k.front (take got r.room) ∙ ap (λ (m : ℕ). length k.front + m) few in
@@ -98,10 +95,10 @@ kept-bytes known now new at got next before after u v k r h =
         ∙ b.1
         ∙ sym (take-append-le most k.front (take got r.room) b.0)
 
--- after one that said that the input has ended
-handed-all : (known now new : Option (List ℕ)) (at : ℕ) (before after : List ℕ) → most ≤ length before → most ≤ length after → at ≤ length after
-    → Kept known now at before → CameAt now new chunk.Ended at before after → HandsOver known (input.Whole at) after
-handed-all known now new at before after u w v k r = over known (all-consumed known now k.front k.consumed (r.came r.some))
+-- after one that gave none: the input has ended
+pub handed-over : {E : Type 0} (known now new : Option (List ℕ)) (at got : ℕ) (before after : List ℕ) → most ≤ length before → most ≤ length after → at ≤ length after
+    → Kept known now at before → CameAt {E = E} now new (Ok got) at before after → got ≡ 0 → IfSome known (λ whole. Handed whole (take at after))
+handed-over {E} known now new at got before after u w v k r z = over known (all-consumed known now k.front k.consumed (r.came.2 z r.some))
   where
     front : take most (take at after) ≡ take most k.front
     front = by (ltb at most) refl
@@ -125,16 +122,3 @@ handed-all known now new at before after u w v k r = over known (all-consumed kn
       count = length-take-le at after v ∙ k.counted ∙ ap (λ (ys : List ℕ). held_of (length ys)) (sym e);
       front = front ∙ ap (λ (ys : List ℕ). take most ys) (sym e);
     }
-
--- ---- by what the read said
-
-pub kept-on : (known now new : Option (List ℕ)) (r : Chunk) (at got next : ℕ) (before after : List ℕ) → most ≤ length before → most ≤ length after
-    → Kept known now at before → CameAt now new r at before after → r ≡ chunk.Bytes got → ((n : ℕ) → at ≡ held_of n → next ≡ held_of (n + got))
-    → Kept known new next after
-kept-on known now new r at got next before after u v k a e h =
-    kept-bytes known now new at got next before after u v k (subst (λ (s : Chunk). CameAt now new s at before after) e a) h
-
-pub handed-over : (known now new : Option (List ℕ)) (r : Chunk) (at : ℕ) (before after : List ℕ) → most ≤ length before → most ≤ length after
-    → at ≤ length after → Kept known now at before → CameAt now new r at before after → r ≡ chunk.Ended → HandsOver known (input.Whole at) after
-handed-over known now new r at before after u w v k a e =
-    handed-all known now new at before after u w v k (subst (λ (s : Chunk). CameAt now new s at before after) e a)

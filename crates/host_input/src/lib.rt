@@ -3,7 +3,7 @@
 #![tactic(auto)]
 
 ghost use Rattle.std.specs.Prelude.{◌≡◌, ℕ, ◌+◌, ◌<◌, ◌≤◌, length, List};
-ghost use Rattle.host_input.specs.Held.{held_by, held_of, FitsIn, Came, CameAt, HandsOver};
+ghost use Rattle.host_input.specs.Held.{held_of, FitsIn, Came, CameAt, HandsOver};
 
 use std::io;
 use std::io::Read;
@@ -14,60 +14,27 @@ const HELD: usize = 10376;
 // The buffer: room for those bytes, and for the remainder by 8 of a longer input.
 pub const ROOM: usize = 10383;
 
-// The result of one read: the number of bytes that came, or that the input has ended, or that the read failed.
-#[derive(Clone, Copy)]
-enum Chunk {
-    Bytes(usize),
-    Ended,
-    Failed,
-}
-
-// What became of the input: it was read to its end, and the file is the given number of bytes at the front of the buffer; or it cannot be
-// read.
-#[derive(Clone, Copy)]
-pub enum Input {
-    Whole(usize),
-    Failed,
-}
-
 // Returns how many bytes to hand over when `got` more bytes have come after an input for which it was `at`. Past `HELD` only the remainder
 // by 8 is kept, which is what numbers 1 and 2 look at.
 fn held(at: usize, got: usize) -> usize
     ensures count { (n : ℕ) → at ≡ held_of n → result ≡ held_of (n + got) }
     ensures room { result ≤ 10383 }
 {
-    if at < HELD {
-        if got < HELD - at {
-            return at + got;
-        }
+    if got < HELD.saturating_sub(at) {
+        return at + got;
     }
     HELD + (at % 8 + got % 8) % 8
 }
 
-// What the answer `got` of a read into `buffer` says: that the input has ended, where no bytes came; how many came, at most `buffer`'s length;
-// or that the read failed.
-fn said(got: io::Result<usize>, buffer: &[u8]) -> Chunk
-    ensures { result ≡ held_by got (length buffer.now) }
-{
-    let Ok(got) = got else {
-        return Chunk::Failed;
-    };
-    if got == 0 {
-        return Chunk::Ended;
-    }
-    Chunk::Bytes(got.min(buffer.len()))
-}
-
-// Reads once from `input` into `buffer`.
-fn read_into<R: Read>(input: &mut R, buffer: &mut [u8]) -> Chunk
+// Reads once from `input` into `buffer`, and returns how many bytes came: none where the input has ended, if `buffer` has room for any.
+fn read_into<R: Read>(input: &mut R, buffer: &mut [u8]) -> io::Result<usize>
     ensures { Came (R.remaining input.old) (R.remaining input.new) result buffer.new }
 {
-    let got = input.read(buffer);
-    said(got, buffer)
+    input.read(buffer)
 }
 
 // Reads once, and throws away what came: the input is longer than any file.
-fn read_past<R: Read>(input: &mut R) -> Chunk
+fn read_past<R: Read>(input: &mut R) -> io::Result<usize>
     ensures { (room : List ℕ) × (0 < length room) × Came (R.remaining input.old) (R.remaining input.new) result room }
 {
     let mut scratch = [0u8; 4096];
@@ -75,7 +42,7 @@ fn read_past<R: Read>(input: &mut R) -> Chunk
 }
 
 // Reads once, into `buffer` from place `at` on while there is room for a file, and else past it.
-fn read_at<R: Read>(input: &mut R, buffer: &mut [u8], at: usize) -> Chunk
+fn read_at<R: Read>(input: &mut R, buffer: &mut [u8], at: usize) -> io::Result<usize>
     requires { 10376 ≤ length buffer.old }
     ensures { CameAt (R.remaining input.old) (R.remaining input.new) result at buffer.old buffer.new }
 {
@@ -85,27 +52,19 @@ fn read_at<R: Read>(input: &mut R, buffer: &mut [u8], at: usize) -> Chunk
     read_past(input)
 }
 
-// Reads `input` into `buffer` until a read says that it has ended, or fails. A proved loop must end, so this one counts its turns down
-// from a number that no input uses up.
-pub fn read<R: Read>(input: &mut R, buffer: &mut [u8; ROOM]) -> Input
+// Reads `input` into `buffer` until a read says that it has ended, or fails. The file is as many bytes at the front of the buffer as the
+// answer says; where it is an error, there is none. A proved loop must end, so this one has a number of turns that no input uses up.
+pub fn read<R: Read>(input: &mut R, buffer: &mut [u8; ROOM]) -> io::Result<usize>
     ensures fits { FitsIn result }
     ensures bytes { HandsOver (R.remaining input.old) result buffer.new }
 {
     let mut at: usize = 0;
-    let mut turns = u64::MAX;
-    while turns > 0 {
-        match read_at(input, buffer, at) {
-            Chunk::Bytes(got) => {
-                at = held(at, got);
-            }
-            Chunk::Ended => {
-                return Input::Whole(at);
-            }
-            Chunk::Failed => {
-                return Input::Failed;
-            }
+    for _ in 0..u64::MAX {
+        let got = read_at(input, buffer, at)?;
+        if got == 0 {
+            return Ok(at);
         }
-        turns -= 1;
+        at = held(at, got);
     }
-    Input::Failed
+    Err(io::Error::from(io::ErrorKind::FileTooLarge))
 }

@@ -2,12 +2,12 @@
 // function stores into `text` from place `at` on and returns the place after what it stored, as those of crate `host_page` do.
 #![tactic(auto)]
 
-ghost use Rattle.std.specs.Prelude.{◌≡◌, [], ◌∷◌, ◌++◌, ◌+◌, ◌*◌, ◌≤◌, min, length, take};
+ghost use Rattle.std.specs.Prelude.{◌≡◌, [], ◌∷◌, ◌++◌, ◌+◌, ◌*◌, ◌≤◌, length, take};
 ghost use Rattle.spec_calls.specs.Printing.{line_feed, blanked, numbers_line, refused_line};
 ghost use Rattle.host_page.specs.Page.{page, puts};
 ghost use Rattle.host_lines.specs.Lines.{totals_line, row_line, run_line, broken_text, text_told};
 
-use host_result::CheckResult;
+use host_result::{BROKEN, CheckResult, EMPTY, FULL, HOLDS, SPENT};
 
 // Stores `a`, `b` and `c`, each after a blank, and the end of the line.
 fn put_three(text: &mut [u8], at: usize, a: u64, b: u64, c: u64) -> usize
@@ -50,7 +50,7 @@ fn put_row(text: &mut [u8], at: usize, told: CheckResult) -> usize
 fn put_steps(text: &mut [u8], at: usize, buffer: &[u8], n: usize) -> usize
     ensures { page result text.new ≡ puts (numbers_line (take n buffer.now)) (page at text.old) }
 {
-    let m = least(n, buffer.len());
+    let m = n.min(buffer.len());
     let end = host_page::put_separated(text, at, &buffer[..m]);
     host_page::put(text, end, b'\n')
 }
@@ -76,34 +76,17 @@ fn put_broken(text: &mut [u8], at: usize, told: CheckResult, buffer: &[u8]) -> u
 
 // Stores all lines of an answer from the start of `text` on, by the number in `told`. `buffer` has the run of a broken answer. The second
 // clause bounds the length, so that a caller knows how much room is enough.
+#[tactic(auto, unfolding(crate::specs::Lines::text_told))]
 pub fn put_told(text: &mut [u8], told: CheckResult, buffer: &[u8]) -> usize
     ensures put { page result text.new ≡ puts (text_told told buffer.now) (page 0 text.old) }
     ensures long { length (text_told told buffer.now) ≤ 163 + length buffer.now * 4 }
 {
-    if told.code == host_result::HOLDS {
-        return put_totals(text, 0, b"holds", told);
+    match told.code {
+        HOLDS => put_totals(text, 0, b"holds", told),
+        FULL => put_totals(text, 0, b"full", told),
+        SPENT => put_totals(text, 0, b"spent", told),
+        EMPTY => put_totals(text, 0, b"empty", told),
+        BROKEN => put_broken(text, 0, told, buffer),
+        refusal => put_refused(text, 0, refusal),
     }
-    if told.code == host_result::FULL {
-        return put_totals(text, 0, b"full", told);
-    }
-    if told.code == host_result::SPENT {
-        return put_totals(text, 0, b"spent", told);
-    }
-    if told.code == host_result::EMPTY {
-        return put_totals(text, 0, b"empty", told);
-    }
-    if told.code == host_result::BROKEN {
-        return put_broken(text, 0, told, buffer);
-    }
-    put_refused(text, 0, told.code)
-}
-
-// Returns the lesser of `a` and `b`.
-fn least(a: usize, b: usize) -> usize
-    ensures { (result ≡ min a b) × (result ≤ b) }
-{
-    if a < b {
-        return a;
-    }
-    b
 }

@@ -1,6 +1,8 @@
 // Text in a lent buffer: bytes and decimal numbers, put one after the other. Each function stores into `text` from place `at` on and returns
 // the place after what it stored. What does not fit is left out, so nothing is asked of a caller; that all of an answer fits is proved where
 // the whole answer is known (crates `host_lines` and report).
+//
+// `text` and `at` stay two parameters: the public functions' contracts speak of both, so that a struct of the two would only stand beside them.
 #![tactic(auto)]
 
 ghost use Rattle.std.specs.Prelude.{◌≡◌, ◌∷◌, ◌+◌, ◌<◌};
@@ -8,6 +10,7 @@ ghost use Rattle.spec_calls.specs.Printing.{blank_byte, decimal, blanked, separa
 ghost use Rattle.host_page.specs.Page.{page, put as put_byte, puts};
 
 // Stores `byte` at place `at` of `text`, if `text` is that long.
+#[tactic(auto, unfolding(crate::specs::Page::put))]
 pub fn put(text: &mut [u8], at: usize, byte: u8) -> usize
     ensures { page result text.new ≡ put_byte byte (page at text.old) }
 {
@@ -23,10 +26,8 @@ pub fn put_all(text: &mut [u8], at: usize, bytes: &[u8]) -> usize
     ensures { page result text.new ≡ puts bytes.now (page at text.old) }
 {
     let mut place = at;
-    let mut i: usize = 0;
-    while i < bytes.len() {
-        place = put(text, place, bytes[i]);
-        i += 1;
+    for byte in bytes {
+        place = put(text, place, *byte);
     }
     place
 }
@@ -58,22 +59,13 @@ pub fn put_blanked(text: &mut [u8], at: usize, n: u64) -> usize
     put_decimal(text, next, n)
 }
 
-// Returns the number of a byte, as a wider number.
-fn wide(byte: u8) -> u64
-    ensures { result ≡ byte }
-{
-    byte as u64
-}
-
 // Stores each of `numbers` in decimal, each after a blank.
 fn put_all_blanked(text: &mut [u8], at: usize, numbers: &[u8]) -> usize
     ensures { page result text.new ≡ puts (blanked numbers.now) (page at text.old) }
 {
     let mut place = at;
-    let mut i: usize = 0;
-    while i < numbers.len() {
-        place = put_blanked(text, place, wide(numbers[i]));
-        i += 1;
+    for n in numbers {
+        place = put_blanked(text, place, u64::from(*n));
     }
     place
 }
@@ -82,9 +74,9 @@ fn put_all_blanked(text: &mut [u8], at: usize, numbers: &[u8]) -> usize
 pub fn put_separated(text: &mut [u8], at: usize, numbers: &[u8]) -> usize
     ensures { page result text.new ≡ puts (separated numbers.now) (page at text.old) }
 {
-    if numbers.len() == 0 {
+    let Some((first, rest)) = numbers.split_first() else {
         return at;
-    }
-    let next = put_decimal(text, at, wide(numbers[0]));
-    put_all_blanked(text, next, &numbers[1..])
+    };
+    let next = put_decimal(text, at, u64::from(*first));
+    put_all_blanked(text, next, rest)
 }

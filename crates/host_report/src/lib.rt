@@ -38,6 +38,7 @@ pub fn render(file: &[u8], rows: usize, old: Row, options: Options, text: &mut [
 }
 
 // Stores what the check program prints of `file` at the front of `text`, and returns its length.
+#[tactic(auto, unfolding(spec_calls::specs::Printing::program_text))]
 pub fn answer(file: &[u8], text: &mut [u8; TEXT]) -> usize
     ensures { Printed (program_text file.now) text.old text.new result }
 {

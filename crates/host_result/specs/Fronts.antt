@@ -5,8 +5,10 @@ use Rattle.spec_calls.specs.Checking.{journal_limit}
 use Rattle.spec_calls.specs.declared.Row.{Row}
 use Rattle.search_laws.specs.declared.Answer.{Answer}
 use Rattle.search_laws.specs.declared.Answer.TheVariants as answer
-use Rattle.call_check.specs.declared.Checked.{Checked}
-use Rattle.call_check.specs.declared.Checked.TheVariants as checked
+use Rattle.std.specs.declared.result.Result.{Result}
+use Rattle.spec_file.specs.declared.Refusal.{Refusal as Refused}
+use Rattle.search_laws.specs.declared.Answer.{Answer as Answered}
+use Rattle.std.specs.Prelude.{Ok, Err}
 use Rattle.host_result.specs.declared.RowToWrite.{RowToWrite}
 
 -- the rows that are lent where n are asked for: n, or none where a journal may not have n
@@ -35,6 +37,6 @@ abbrev pub name_of : Answer → ℕ → RowToWrite
 name_of (answer.Ended v n) s = unnamed
 name_of (answer.Broken i n) s = record { used = n.used; row = i; bytes = s }
 
-abbrev pub name_in : Checked → ℕ → RowToWrite
-name_in (checked.Refused r) s = unnamed
-name_in (checked.Answered a) s = name_of a s
+abbrev pub name_in : Result Answered Refused → ℕ → RowToWrite
+name_in (Err r) s = unnamed
+name_in (Ok a) s = name_of a s

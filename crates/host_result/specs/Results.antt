@@ -9,8 +9,11 @@ use Rattle.search_laws.specs.Meanings.{code_of}
 use Rattle.search_laws.specs.declared.Answer.{Answer}
 use Rattle.search_laws.specs.declared.Answer.TheVariants as answer
 use Rattle.search_laws.specs.declared.Totals.{Totals}
-use Rattle.call_check.specs.declared.Checked.{Checked}
-use Rattle.call_check.specs.declared.Checked.TheVariants as checked
+use Rattle.std.specs.declared.result.Result.{Result}
+use Rattle.spec_file.specs.Answers.{number_of}
+use Rattle.spec_file.specs.declared.Refusal.{Refusal as Refused}
+use Rattle.search_laws.specs.declared.Answer.{Answer as Answered}
+use Rattle.std.specs.Prelude.{Ok, Err}
 use Rattle.host_result.specs.declared.CheckResult.{CheckResult}
 
 -- with the sample y
@@ -27,10 +30,10 @@ abbrev pub told_of : Answer → Row → Row → ℕ → CheckResult
 told_of (answer.Ended v n) x y f = unbroken_by (code_of v) n y
 told_of (answer.Broken i n) x y f = broken_by i n x y f
 
-abbrev pub told_by : Checked → Row → Row → ℕ → CheckResult
-told_by (checked.Refused r) x y f =
-    record { code = r.number; place = r.place; joins = 0; used = 0; pass = 0; row = 0; pairs = 0; length = 0; refused = 0; head = 0; sample = y }
-told_by (checked.Answered a) x y f = told_of a x y f
+abbrev pub told_by : Result Answered Refused → Row → Row → ℕ → CheckResult
+told_by (Err r) x y f =
+    record { code = number_of r.fault; place = r.place; joins = 0; used = 0; pass = 0; row = 0; pairs = 0; length = 0; refused = 0; head = 0; sample = y }
+told_by (Ok a) x y f = told_of a x y f
 
 -- place, joins, used rows, pass, row, pairs, length, refused
 abbrev pub numbers_in : CheckResult → List ℕ

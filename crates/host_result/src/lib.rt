@@ -9,10 +9,9 @@ ghost use Rattle.host_result.specs.Fronts.{front_of, place_of, name_of, name_in}
 ghost use Rattle.spec_calls.specs.Codes.{refused_by};
 ghost use Rattle.host_result.specs.Results.{unbroken_by, broken_by, told_of, told_by};
 
-use call_check::Checked;
-use call_write::Writing;
 use search_laws::{Answer, Totals};
 use spec_calls::{ABSENT, JOURNAL_LIMIT, Row};
+use spec_file::Refusal;
 
 // The numbers of the verdicts, as wide as those of the refusals.
 pub const HOLDS: u64 = search_laws::HOLDS as u64;
@@ -95,28 +94,28 @@ fn broken_row(answer: Answer, size: usize) -> RowToWrite
 }
 
 // The same after a check; a refused one has nothing to write.
-pub fn row_to_write(checked: Checked, size: usize) -> RowToWrite
+pub fn row_to_write(checked: Result<Answer, Refusal>, size: usize) -> RowToWrite
     ensures { result ≡ name_in checked size }
 {
     match checked {
-        Checked::Refused(_) => RowToWrite {
+        Err(_) => RowToWrite {
             used: 0,
             row: 0,
             bytes: 0,
         },
-        Checked::Answered(answer) => broken_row(answer, size),
+        Ok(answer) => broken_row(answer, size),
     }
 }
 
 // ---- telling
 
 // Returns the number that refused to write the run, or 0.
-fn refused_by(writing: Writing) -> u64
+fn refused_by(writing: Result<usize, Refusal>) -> u64
     ensures { result ≡ refused_by (writing_of writing) }
 {
     match writing {
-        Writing::Refused(refusal) => refusal.number,
-        Writing::Length(_) => 0,
+        Err(refusal) => refusal.fault.number(),
+        Ok(_) => 0,
     }
 }
 
@@ -140,7 +139,13 @@ fn unbroken_result(code: u64, totals: Totals, sample: Row) -> CheckResult
 }
 
 // A broken answer with its row.
-fn broken_result(i: usize, totals: Totals, row: Row, sample: Row, writing: Writing) -> CheckResult
+fn broken_result(
+    i: usize,
+    totals: Totals,
+    row: Row,
+    sample: Row,
+    writing: Result<usize, Refusal>,
+) -> CheckResult
     ensures { result ≡ broken_by i totals row sample (refused_by (writing_of writing)) }
 {
     let relation = row.relation;
@@ -159,7 +164,12 @@ fn broken_result(i: usize, totals: Totals, row: Row, sample: Row, writing: Writi
     }
 }
 
-fn answer_result(answer: Answer, row: Row, sample: Row, writing: Writing) -> CheckResult
+fn answer_result(
+    answer: Answer,
+    row: Row,
+    sample: Row,
+    writing: Result<usize, Refusal>,
+) -> CheckResult
     ensures { result ≡ told_of answer row sample (refused_by (writing_of writing)) }
 {
     match answer {
@@ -174,12 +184,17 @@ fn answer_result(answer: Answer, row: Row, sample: Row, writing: Writing) -> Che
 
 // Builds the host's result. `row` is the journal row of a broken answer and is ignored for every other; `sample` is passed through; `writing`
 // says whether the run of a broken answer was written.
-pub fn to_result(checked: Checked, row: Row, sample: Row, writing: Writing) -> CheckResult
+pub fn to_result(
+    checked: Result<Answer, Refusal>,
+    row: Row,
+    sample: Row,
+    writing: Result<usize, Refusal>,
+) -> CheckResult
     ensures { result ≡ told_by checked row sample (refused_by (writing_of writing)) }
 {
     match checked {
-        Checked::Refused(refusal) => CheckResult {
-            code: refusal.number,
+        Err(refusal) => CheckResult {
+            code: refusal.fault.number(),
             place: refusal.place as u64,
             joins: 0,
             used: 0,
@@ -191,13 +206,13 @@ pub fn to_result(checked: Checked, row: Row, sample: Row, writing: Writing) -> C
             head: 0,
             sample,
         },
-        Checked::Answered(answer) => answer_result(answer, row, sample, writing),
+        Ok(answer) => answer_result(answer, row, sample, writing),
     }
 }
 
 // The same where no run is written, and so none is refused.
-pub fn to_unwritten(checked: Checked, row: Row) -> CheckResult
+pub fn to_unwritten(checked: Result<Answer, Refusal>, row: Row) -> CheckResult
     ensures { result ≡ told_by checked row row 0 }
 {
-    to_result(checked, row, row, Writing::Length(0))
+    to_result(checked, row, row, Ok(0))
 }

@@ -224,7 +224,7 @@ module _ (rows : List (List ℕ)) (w ends starts : List ℕ) (i j : ℕ) (low : 
   Good p = RightEnds (map entry_of rows) w i ends → RightStarts (map entry_of rows) w starts → DerivesBy (map entry_of rows) p (slice i j w)
 
   -- a rule of two symbols, by the bytes
-  by_row : (row : List ℕ) → In (entry_of row) (map entry_of rows) → splits w ends starts i j row ≡ true → Good (entry_of row).head
+  pub by_row : (row : List ℕ) → In (entry_of row) (map entry_of rows) → splits w ends starts i j row ≡ true → Good (entry_of row).head
   by_row row m e f g =
       let rules = map entry_of rows in
       let D = DerivesBy rules in

@@ -2,11 +2,13 @@
 #![tactic(auto)]
 
 ghost use Rattle.std.specs.Prelude.{◌≡◌, map, ◌<◌, ◌^◌};
+ghost use Rattle.std.specs.Fn.{FnReturnsAt};
 ghost use Rattle.spec_file.specs.Limits.{nonterminals};
 ghost use Rattle.spec_file.specs.Views.{symbol_of};
 ghost use Rattle.spec_file.specs.Entries.{entry_of};
 ghost use Rattle.member_laws.specs.Sets.{with, among, all_in, Heads, Nullable};
 ghost use Rattle.member_laws.specs.Rounds.{NullRound};
+ghost use Rattle.member_sets.specs.Gathering.{Gathered};
 
 use spec_file::{NONTERMINALS, SYMBOL_BYTES, TERMINALS};
 
@@ -48,6 +50,23 @@ pub fn among(symbol: u8, set: u64) -> bool
     (set >> place) & 1 == 1
 }
 
+// ---- the heads of rules
+
+// Returns `set` with the heads of those of the `rules` that pass `test`.
+pub fn with_heads<F: Fn(&[u8; 4]) -> bool>(rules: &[[u8; 4]], set: u64, test: F) -> u64
+    requires heads { Heads (map entry_of rules.now) }
+    requires callable { F.IsAlwaysCallable test }
+    ensures { Gathered rules.now (λ x b. FnReturnsAt F.Fn test x b) set result }
+{
+    let mut out = set;
+    for rule in rules {
+        if test(rule) {
+            out = with_one(out, rule[0]);
+        }
+    }
+    out
+}
+
 // ---- the empty word
 
 // Returns whether every symbol of the body of `rule` is in `set`; an empty body has none that is not.
@@ -71,16 +90,7 @@ fn null_round(rules: &[[u8; 4]], set: u64) -> u64
     requires { Heads (map entry_of rules.now) }
     ensures { NullRound (map entry_of rules.now) set result }
 {
-    let mut out = set;
-    let mut i: usize = 0;
-    while i < rules.len() {
-        let rule = rules[i];
-        if body_in(rule, set) {
-            out = with_one(out, rule[0]);
-        }
-        i += 1;
-    }
-    out
+    with_heads(rules, set, |rule| body_in(*rule, set))
 }
 
 // Returns the nonterminals that derive the empty word by `rules`: round after round, until one adds nothing. A set that grows is a larger

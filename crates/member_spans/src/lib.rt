@@ -22,7 +22,7 @@ fn mark(cells: &mut [u64], at: usize, place: usize)
     ensures { cells.new ≡ put cells.old at (with (get_or cells.old at 0) place) }
 {
     let bit = member_sets::digit(place);
-    cells[at] = cells[at] | bit;
+    cells[at] |= bit;
 }
 
 // Sets bit `place` of the cells of the nonterminals of `set`; the cell of nonterminal 0 is `base`.
@@ -30,12 +30,10 @@ pub fn mark_all(cells: &mut [u64], base: usize, set: u64, place: usize)
     requires { (base + nonterminals ≤ length cells.old) × (place < 64) }
     ensures { Marks base set place cells.old cells.new }
 {
-    let mut p: u8 = 0;
-    while p < NONTERMINALS {
+    for p in 0..NONTERMINALS {
         if member_sets::among(TERMINALS + p, set) {
             mark(cells, base + p as usize, place);
         }
-        p += 1;
     }
 }
 
@@ -102,14 +100,9 @@ pub fn split_heads(
     requires { Heads (map entry_of rules.now) × (i + 1 < j) × (j ≤ length word.now) × (j ≤ run_limit) × (length starts.now ≡ span_cells) }
     ensures { SplitHeads rules.now word.now ends.now starts.now i j result }
 {
-    let mut out: u64 = 0;
-    let mut k: usize = 0;
-    while k < rules.len() {
-        let rule = rules[k];
-        if rule_splits(rule, word, ends, starts, i, j) {
-            out = member_sets::with_one(out, rule[0]);
-        }
-        k += 1;
-    }
-    out
+    member_sets::with_heads(
+        rules,
+        0,
+        |rule| rule_splits(*rule, word, ends, starts, i, j),
+    )
 }

@@ -8,8 +8,8 @@ ghost use Rattle.spec_file.specs.Views.{symbol_of};
 ghost use Rattle.spec_file.specs.Entries.{entry_of};
 ghost use Rattle.member_laws.specs.Sets.{is_unit, Heads, Nullable, UnitHeads, Direct, ClosureOf, Closures, UnionOf};
 
-use member_sets::{SETS, Sets};
-use spec_file::{NONTERMINALS, TERMINALS};
+use member_sets::Sets;
+use spec_file::TERMINALS;
 
 // ---- units of one symbol
 
@@ -36,16 +36,7 @@ pub fn unit_heads(rules: &[[u8; 4]], symbol: u8, empties: u64) -> u64
     requires { Heads (map entry_of rules.now) × Nullable (map entry_of rules.now) empties }
     ensures { UnitHeads (map entry_of rules.now) empties (symbol_of symbol) result }
 {
-    let mut out: u64 = 0;
-    let mut i: usize = 0;
-    while i < rules.len() {
-        let rule = rules[i];
-        if is_unit(rule, symbol, empties) {
-            out = member_sets::with_one(out, rule[0]);
-        }
-        i += 1;
-    }
-    out
+    member_sets::with_heads(rules, 0, |rule| is_unit(*rule, symbol, empties))
 }
 
 // ---- the closure
@@ -54,14 +45,11 @@ pub fn unit_heads(rules: &[[u8; 4]], symbol: u8, empties: u64) -> u64
 pub fn union(entries: &Sets, set: u64) -> u64
     ensures { UnionOf entries.now set result }
 {
-    let mut out: u64 = 0;
-    let mut q: u8 = 0;
-    while q < NONTERMINALS {
-        if member_sets::among(TERMINALS + q, set) {
-            let at = q as usize;
-            out = out | entries[at];
+    let mut out = 0;
+    for (q, entry) in entries.iter().enumerate() {
+        if member_sets::among(TERMINALS + q as u8, set) {
+            out |= *entry;
         }
-        q += 1;
     }
     out
 }
@@ -88,12 +76,8 @@ pub fn fill_direct(rules: &[[u8; 4]], empties: u64, direct: &mut Sets)
     requires { Heads (map entry_of rules.now) × Nullable (map entry_of rules.now) empties }
     ensures { Direct (map entry_of rules.now) empties direct.new }
 {
-    *direct = [0u64; SETS];
-    let mut q: u8 = 0;
-    while q < NONTERMINALS {
-        let at = q as usize;
-        direct[at] = unit_heads(rules, TERMINALS + q, empties);
-        q += 1;
+    for (q, entry) in direct.iter_mut().enumerate() {
+        *entry = unit_heads(rules, TERMINALS + q as u8, empties);
     }
 }
 
@@ -101,11 +85,7 @@ pub fn fill_direct(rules: &[[u8; 4]], empties: u64, direct: &mut Sets)
 pub fn fill_units(direct: &Sets, units: &mut Sets)
     ensures { Closures direct.now units.new }
 {
-    *units = [0u64; SETS];
-    let mut q: u8 = 0;
-    while q < NONTERMINALS {
-        let at = q as usize;
-        units[at] = closure(direct, q);
-        q += 1;
+    for (q, entry) in units.iter_mut().enumerate() {
+        *entry = closure(direct, q as u8);
     }
 }

@@ -3,27 +3,32 @@
 // standard error says so, as it does of an answer that cannot be written.
 #![tactic(auto)]
 
-ghost use Rattle.std.specs.Prelude.{◌≡◌, ◌≤◌, length, take, OnOk};
+ghost use Rattle.std.specs.Prelude.{◌≡◌, OnOk};
 ghost use Rattle.std.specs.Io.KnownBytes.{Appends};
 ghost use Rattle.spec_calls.specs.Printing.{program_text};
 ghost use Rattle.plan_check.specs.Answering.{Answers};
 
-use host_input::Input;
-use std::io;
+use std::error::Error;
 use std::io::{Read, Write};
+use std::{fmt, io};
 
-// What became of a check: its answer was written, or the input cannot be read to its end, or the answer cannot be written.
-#[derive(Clone, Copy)]
-enum Outcome {
-    Answered,
+// Why a check did not answer: the input cannot be read to its end, or the answer cannot be written.
+#[derive(Clone, Copy, Debug, PartialEq, Eq)]
+enum CheckError {
     Unread,
     Unwritten,
 }
 
-// Writes `line` to standard error. Nothing can be done where that fails.
-fn complain(rt: &impl Eprint, line: &str) {
-    let _ = rt.eprint(line);
+impl fmt::Display for CheckError {
+    fn fmt<W: fmt::Write>(&self, f: &mut fmt::Formatter<W>) -> fmt::Result {
+        match self {
+            CheckError::Unread => write!(f, "the input cannot be read"),
+            CheckError::Unwritten => write!(f, "the answer cannot be written"),
+        }
+    }
 }
+
+impl Error for CheckError {}
 
 // Writes `text` to `output`. It is the only write there is to it, and its `requires` says that `text` is all of document 01's text for `file`,
 // and nothing else.
@@ -34,43 +39,27 @@ fn print<W: Write>(output: &mut W, file: &[u8], text: &[u8]) -> io::Result<()>
     output.write_all(text)
 }
 
-// Prints the answer for the file that is the first `n` bytes of `bytes`.
-fn answer_front<W: Write>(output: &mut W, bytes: &[u8], n: usize) -> io::Result<()>
-    requires { n ≤ length bytes.now }
-    ensures { OnOk result (Appends (W.contents output.old) (W.contents output.new) (program_text (take n bytes.now))) }
+// Prints the answer for `file`.
+fn answer<W: Write>(output: &mut W, file: &[u8]) -> io::Result<()>
+    ensures { OnOk result (Appends (W.contents output.old) (W.contents output.new) (program_text file.now)) }
 {
     let mut text = [0u8; host_report::TEXT];
-    let file = &bytes[..n];
     let size = host_report::answer(file, &mut text);
     print(output, file, &text[..size])
 }
 
-// The same of the whole buffer.
-fn answer<W: Write>(output: &mut W, bytes: &[u8; host_input::ROOM], n: usize) -> io::Result<()>
-    requires { n ≤ 10383 }
-    ensures { OnOk result (Appends (W.contents output.old) (W.contents output.new) (program_text (take n bytes.now))) }
-{
-    answer_front(output, bytes, n)
-}
-
 // Reads a file from `input`, and prints its answer to `output`.
-fn check<R: Read, W: Write>(input: &mut R, output: &mut W) -> Outcome
+fn check<R: Read, W: Write>(input: &mut R, output: &mut W) -> Result<(), CheckError>
     ensures { Answers (R.remaining input.old) (W.contents output.old) (W.contents output.new) result }
 {
     let mut bytes = [0u8; host_input::ROOM];
-    let Input::Whole(n) = host_input::read(input, &mut bytes) else {
-        return Outcome::Unread;
-    };
-    match answer(output, &bytes, n) {
-        Ok(()) => Outcome::Answered,
-        Err(_) => Outcome::Unwritten,
-    }
+    let n = host_input::read(input, &mut bytes).map_err(|_| CheckError::Unread)?;
+    answer(output, &bytes[..n]).map_err(|_| CheckError::Unwritten)
 }
 
+// A check that did not answer says so on standard error, and the status is 0 all the same. Nothing can be done where that write fails.
 fn main(rt: HostRuntime) {
-    match check(&mut rt.stdin(), &mut rt.stdout()) {
-        Outcome::Answered => {}
-        Outcome::Unread => complain(&rt, "plan_check: the input cannot be read\n"),
-        Outcome::Unwritten => complain(&rt, "plan_check: the answer cannot be written\n"),
+    if let Err(e) = check(&mut rt.stdin(), &mut rt.stdout()) {
+        let _ = eprintln!(rt; "plan_check: {e}");
     }
 }

@@ -6,8 +6,8 @@ ghost use Rattle.search_laws.specs.Meanings.{born_by, decided_in};
 ghost use Rattle.search_laws.specs.Steps.{MayRemember, Remembers, MayDecide};
 
 use search_cover::CoverAnswer;
-use search_laws::{Outcome, Stop, Unbroken};
-use search_state::{Counts, Fate, LASTS, State};
+use search_laws::{Outcome, Stop};
+use search_state::{Counts, Fate, LASTS, State, Unbroken};
 
 // Updates the hints: a covering row found through the links becomes the last-cover hint of its nonterminal and the hint of its relation; a
 // new row becomes the hint of its relation.

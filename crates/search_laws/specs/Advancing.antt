@@ -21,6 +21,7 @@ use Rattle.search_cover.specs.declared.CoverAnswer.{CoverAnswer}
 use Rattle.search_state.specs.Fates.{full_in}
 use Rattle.search_state.specs.declared.Counts.{Counts}
 use Rattle.search_state.specs.declared.Fate.{Fate}
+use Rattle.search_state.specs.Stages.{is_going}
 use Rattle.search_state.specs.declared.State.{State}
 use Rattle.search_state.specs.declared.Terms.{Terms}
 use Rattle.search_laws.specs.Clauses.{Answers, Checked}
@@ -30,7 +31,7 @@ use Rattle.search_laws.specs.Problems.{RuleBytes, Problem, algebra_of, first_row
 use Rattle.search_laws.specs.Steps.{MayAdvance, Remembers}
 use Rattle.search_laws.specs.Running.{problem_at, target, Goes, SearchAt, Running, fate_for, Considered, GoesOn, GoesOnOver, Onward, candidates_left}
 use Rattle.search_laws.specs.RunLaws.{started, stands_on, goes_on, sized, used-fits, limit}
-use Rattle.search_laws.specs.RunningLaws.{unbroken-back, stops}
+use Rattle.search_laws.specs.RunningLaws.{stops}
 use Rattle.search_laws.specs.States.{stopped_in}
 use Rattle.search_laws.specs.Passing.{pass-stopped, pass-going}
 use Rattle.search_laws.specs.Remaining.{EndsFrom}
@@ -41,7 +42,7 @@ use Rattle.search_laws.specs.declared.Stop.TheVariants as stop
 use Rattle.search_laws.specs.declared.Stop.{Stop}
 
 stopped-answer : (s : State) (p : Stop) → answer_in (stopped_in s p) ≡ answer_to s.terms.pass p
-stopped-answer s (stop.Ended v w) = unbroken-back v (totals_of w s.terms.pass)
+stopped-answer s (stop.Ended v w) = refl
 stopped-answer s (stop.Broken i w) = refl
 
 -- nothing is considered after it
@@ -192,7 +193,7 @@ module _ {E R : Type 0} {P : Problem E R} {rules : RuleBytes} {start : State} {j
   -- ---- the search stands on
 
   resumes : {r : State} {t' : List ℕ} → SearchAt Q start.terms.budget j₀ r j t' → Running P rules start j₀ r j t'
-  resumes st = record { idle = λ z. absurd (both start.going (started x.running x.going) z); sized = x.running.sized; whole = x.running.whole; stands = λ _. st }
+  resumes st = record { idle = λ z. absurd (both (is_going start.stage) (started x.running x.going) z); sized = x.running.sized; whole = x.running.whole; stands = λ _. st }
     where
       both : (b : Bool) → T b → T (not b) → ⊥
       both true y n = n
@@ -203,10 +204,10 @@ module _ {E R : Type 0} {P : Problem E R} {rules : RuleBytes} {start : State} {j
   left_is false y n = absurd y
 
   pub stopped-running : (p : Stop) → Right (outcome.Stopped p) → (t' : List ℕ)
-      → Running P rules start j₀ (stopped_in s p) j t' × (candidates_left (stopped_in s p) < candidates_left s) × (T (stopped_in s p).going → (stopped_in s p).counts.used ≡ (counts_in (decided_in s f)).used)
+      → Running P rules start j₀ (stopped_in s p) j t' × (candidates_left (stopped_in s p) < candidates_left s) × (T (is_going (stopped_in s p).stage) → (stopped_in s p).counts.used ≡ (counts_in (decided_in s f)).used)
   stopped-running p a t' = (
     resumes (record { size = x.inserted.size ∙ (stands_on x.running x.going).size; rows = rows_of p; count = count_of p; goes = λ y. absurd (ended_so p y); ends = λ _. stopped-checked p a }),
-    subst (λ (n : ℕ). candidates_left (stopped_in s p) < n) (sym (left_is s.going x.going (s.terms.budget - s.counts.joins))) (none_left p),
+    subst (λ (n : ℕ). candidates_left (stopped_in s p) < n) (sym (left_is (is_going s.stage) x.going (s.terms.budget - s.counts.joins))) (none_left p),
     λ y. absurd (ended_so p y),
   )
     where
@@ -218,7 +219,7 @@ module _ {E R : Type 0} {P : Problem E R} {rules : RuleBytes} {start : State} {j
       count_of (stop.Ended v w) = (stands_on x.running x.going).count
       count_of (stop.Broken i w) = (stands_on x.running x.going).count
 
-      ended_so : (p : Stop) → T (stopped_in s p).going → ⊥
+      ended_so : (p : Stop) → T (is_going (stopped_in s p).stage) → ⊥
       ended_so (stop.Ended v w) y = y
       ended_so (stop.Broken i w) y = y
 
@@ -238,7 +239,7 @@ module _ {E R : Type 0} {P : Problem E R} {rules : RuleBytes} {start : State} {j
       by false false false = refl
 
   pub going-running : Laws (algebra_of P) → (tn : List ℕ) → Remembers t tn → {w : Counts} → outcome.Going w ≡ became → {t' : List ℕ} {r : State} → GoesOn P rules tn s w t' r
-      → Running P rules start j₀ r j t' × (candidates_left r < candidates_left s) × (T r.going → r.counts.used ≡ (counts_in (decided_in s f)).used)
+      → Running P rules start j₀ r j t' × (candidates_left r < candidates_left s) × (T (is_going r.stage) → r.counts.used ≡ (counts_in (decided_in s f)).used)
   going-running L tn nt {w} e {t'} {r} g =
       let a = decided-right in
       let n : (counts_in became).used ≤ row_cells = omega (arith, a.0.room, limit x.running x.going) in
@@ -249,8 +250,8 @@ module _ {E R : Type 0} {P : Problem E R} {rules : RuleBytes} {start : State} {j
       in
       let m : w.joins ≡ s.counts.joins + 1 = ap (λ (o : Outcome). (counts_in o).joins) e ∙ joins-more in (
         resumes on.stands,
-        subst (λ (k : ℕ). candidates_left r < k) (sym (left_is s.going x.going (s.terms.budget - s.counts.joins)))
-            (less r.going r.terms.budget r.counts.joins (on.budget ∙ sym budget-is) (omega (arith, on.joins, m))),
+        subst (λ (k : ℕ). candidates_left r < k) (sym (left_is (is_going s.stage) x.going (s.terms.budget - s.counts.joins)))
+            (less (is_going r.stage) r.terms.budget r.counts.joins (on.budget ∙ sym budget-is) (omega (arith, on.joins, m))),
         λ _. on.used ∙ ap (λ (o : Outcome). (counts_in o).used) (e ∙ sym decided-so),
       )
     where

@@ -16,7 +16,7 @@ use Rattle.search_links.specs.RowLaws.{rows-length}
 use Rattle.search_state.specs.declared.Counts.{Counts}
 use Rattle.search_laws.specs.declared.Outcome.TheVariants.{Going, Stopped}
 use Rattle.search_laws.specs.declared.Stop.TheVariants.{Ended}
-use Rattle.search_laws.specs.declared.Unbroken.TheVariants.{Full, Spent}
+use Rattle.search_state.specs.declared.Unbroken.TheVariants.{Full, Spent}
 use Rattle.search_state.specs.declared.Terms.{Terms}
 
 module _ {E R : Type 0} (P : Problem E R) (t : Terms) (c : Candidate E) (w : Counts) (j : List R) (hu : w.used ≤ length j) (hb : w.joins ≤ t.budget) where

@@ -1,13 +1,17 @@
 -- What the code's counts, outcomes, states and answers stand for in the working order. Definitions only. Assumes nothing.
-use Rattle.std.specs.Prelude.{Bool, true, false, cond, List, ℕ, ◌+◌, eqb}
+use Rattle.std.specs.Prelude.{Bool, true, false, List, ℕ, ◌+◌}
 use Rattle.spec_order.specs.Journal.{Row, absent}
 use Rattle.spec_order.specs.Order.{Verdict, holds, broken, full, spent, empty, going, stopped}
-use Rattle.spec_calls.specs.Codes.{holds_code, broken_code, full_code, empty_code, verdict_code}
+use Rattle.spec_calls.specs.Codes.{verdict_code}
 use Rattle.spec_order.specs.Order as order
 use Rattle.search_links.specs.Rows.{rows_read}
 use Rattle.search_state.specs.declared.Counts.{Counts}
 use Rattle.search_state.specs.declared.Fate.{Fate}
+use Rattle.search_state.specs.declared.Stage.TheVariants as stage
+use Rattle.search_state.specs.declared.Stage.{Stage}
 use Rattle.search_state.specs.declared.State.{State}
+use Rattle.search_state.specs.declared.Unbroken.TheVariants as unbroken
+use Rattle.search_state.specs.declared.Unbroken.{Unbroken}
 use Rattle.search_laws.specs.declared.Answer.TheVariants as answer
 use Rattle.search_laws.specs.declared.Answer.{Answer}
 use Rattle.search_laws.specs.declared.Outcome.TheVariants as outcome
@@ -15,8 +19,6 @@ use Rattle.search_laws.specs.declared.Outcome.{Outcome}
 use Rattle.search_laws.specs.declared.Stop.TheVariants as stop
 use Rattle.search_laws.specs.declared.Stop.{Stop}
 use Rattle.search_laws.specs.declared.Totals.{Totals}
-use Rattle.search_laws.specs.declared.Unbroken.TheVariants as unbroken
-use Rattle.search_laws.specs.declared.Unbroken.{Unbroken}
 
 abbrev pub verdict_of : Unbroken → Verdict
 verdict_of unbroken.Holds = holds
@@ -108,16 +110,18 @@ abbrev pub finished_by : Bool → Unbroken
 finished_by true = unbroken.Holds
 finished_by false = unbroken.Empty
 
--- ---- the verdict of a search that has ended, by its number
+-- ---- the verdict of a search that has ended
 
+-- its number, as hosts get it
 abbrev pub code_of : Unbroken → ℕ
 code_of v = verdict_code (verdict_of v)
 
-abbrev pub unbroken_at : ℕ → Unbroken
-unbroken_at c = cond (eqb c holds_code) unbroken.Holds (cond (eqb c full_code) unbroken.Full (cond (eqb c empty_code) unbroken.Empty unbroken.Spent))
-
-abbrev pub answer_at : ℕ → ℕ → Totals → Answer
-answer_at c i n = cond (eqb c broken_code) (answer.Broken i n) (answer.Ended (unbroken_at c) n)
+-- only a search that has ended is asked
+abbrev pub answer_at : Stage → Totals → Answer
+answer_at stage.Going n = answer.Ended unbroken.Spent n
+answer_at stage.Waiting n = answer.Ended unbroken.Spent n
+answer_at (stage.Ended v) n = answer.Ended v n
+answer_at (stage.Broken i) n = answer.Broken i n
 
 abbrev pub answer_in : State → Answer
-answer_in s = answer_at s.verdict s.broken (totals_of s.counts s.terms.pass)
+answer_in s = answer_at s.stage (totals_of s.counts s.terms.pass)

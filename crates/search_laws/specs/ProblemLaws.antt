@@ -23,6 +23,7 @@ use Rattle.search_rows.specs.declared.Candidate.{Candidate}
 use Rattle.search_state.specs.Fates.{fate_in}
 use Rattle.search_state.specs.Layout.{row_cells, heads, head_cell, lists_from}
 use Rattle.search_state.specs.declared.Fate.{Fate}
+use Rattle.search_state.specs.Stages.{is_going}
 use Rattle.search_state.specs.declared.State.{State}
 use Rattle.search_state.specs.declared.Terms.{Terms}
 use Rattle.search_links.specs.RowLaws.{rows-length}
@@ -41,7 +42,7 @@ use Rattle.search_laws.specs.RunLaws.{started, may-find, stands_on, goes_on, use
 pub problem-laws : (starts finals : ℕ) (letters : Letters) (rules : RuleBytes) → Laws (algebra_of (problem_in starts finals letters rules))
 problem-laws starts finals letters rules = base-by-laws states (members_of starts) (λ c. value (relation_in letters c)) (bit finals)
 
-module _ {letters : Letters} {rules : RuleBytes} {start : State} {j₀ : Journal} {s : State} {j : Journal} {t : List ℕ} (r : Running letters rules start j₀ s j t) (g : T s.going) where
+module _ {letters : Letters} {rules : RuleBytes} {start : State} {j₀ : Journal} {s : State} {j : Journal} {t : List ℕ} (r : Running letters rules start j₀ s j t) (g : T (is_going s.stage)) where
   pub may-form : s.place.rule < length rules
   may-form = rule-inside r.search g
 

@@ -5,7 +5,6 @@ use Rattle.spec_order.specs.Algebra.{Laws}
 use Rattle.spec_order.specs.Candidates.{Candidate}
 use Rattle.spec_order.specs.Journal.{Row}
 use Rattle.spec_order.specs.Order.{has_row}
-use Rattle.spec_calls.specs.Codes.{spent_code}
 use Rattle.search_state.specs.declared.Place.{Place}
 use Rattle.search_state.specs.Layout.{row_cells, lists_in}
 use Rattle.spec_basics.specs.Lists.{each_same}
@@ -22,12 +21,15 @@ use Rattle.search_links.specs.Listing.{Gathered, gathered-listed, gathered-cover
 use Rattle.search_links.specs.RowLaws.{rows-length}
 use Rattle.search_state.specs.Budgets.{is_spent}
 use Rattle.search_state.specs.declared.Counts.{Counts}
+use Rattle.search_state.specs.declared.Stage.TheVariants as stage
 use Rattle.search_state.specs.declared.State.{State}
 use Rattle.search_state.specs.declared.Terms.{Terms}
+use Rattle.search_state.specs.declared.Unbroken.TheVariants as unbroken
+use Rattle.search_state.specs.declared.Unbroken.{Unbroken}
 use Rattle.search_laws.specs.Closing.{Again, Done, end_by, end_of}
 use Rattle.search_laws.specs.Clauses.{PassReady, Answers, Checked}
 use Rattle.search_laws.specs.Deciding.{answers-spent}
-use Rattle.search_laws.specs.Meanings.{counts_in, in_next_pass, totals_of, answer_at, finished_by, code_of, answer_in}
+use Rattle.search_laws.specs.Meanings.{counts_in, in_next_pass, totals_of, finished_by, answer_in}
 use Rattle.search_laws.specs.Problems.{RuleBytes, Problem, algebra_of, first_rows, terms_of}
 use Rattle.search_laws.specs.Passes.{AtPass, pass-done, pass-again, pass-known}
 use Rattle.search_laws.specs.Passing.{InPass, pass-start, pass-end, pass-stopped}
@@ -43,22 +45,12 @@ use Rattle.search_laws.specs.declared.Outcome.TheVariants as outcome
 use Rattle.search_laws.specs.declared.Outcome.{Outcome}
 use Rattle.search_laws.specs.declared.Reached.{Reached}
 use Rattle.search_laws.specs.declared.Stop.TheVariants as stop
-use Rattle.search_laws.specs.declared.Totals.{Totals}
-use Rattle.search_laws.specs.declared.Unbroken.TheVariants as unbroken
-use Rattle.search_laws.specs.declared.Unbroken.{Unbroken}
 
 -- the lists of the nonterminals whose words count have rows exactly where each of these has a live row
 all-linked : {E R : Type 0} (P : Problem E R) (u : ℕ) (j : List R) (t : List ℕ) → length (first_rows P u j) ≤ row_cells → Covering (first_rows P u j) t → all_linked P.starts t ≡ nonempty_in P u j
 unfolding has_row
 all-linked P u j t few c =
     each_same (λ (p : ℕ). is_linked p t) (has_row (first_rows P u j)) (members_of P.starts) (λ p m. linked-live (first_rows P u j) t few c p (omega (arith, (member-bit P.starts p m).0)))
-
--- a verdict's number gives the verdict back
-pub unbroken-back : (v : Unbroken) (n : Totals) → answer_at (code_of v) 0 n ≡ answer.Ended v n
-unbroken-back unbroken.Holds n = refl
-unbroken-back unbroken.Full n = refl
-unbroken-back unbroken.Spent n = refl
-unbroken-back unbroken.Empty n = refl
 
 -- the lists are measured, and the links as they were
 measures-covering : {E : Type 0} {A : List (Row E)} {b : ℕ} {t t' : List ℕ} → length A ≤ row_cells → MeasuresIn b t t' → Covering A t → Covering A t'
@@ -76,8 +68,8 @@ module _ {E R : Type 0} (P : Problem E R) (B : ℕ) (j₀ : List R) (s : State) 
   at k n w = terms_of P B k w.used n
 
   -- an end
-  over : (w : Counts) (b : Terms) (v i : ℕ) (j : List R) (t : List ℕ) → length j ≡ length j₀ → b.budget ≡ B → Checked P.row_of (target P B j₀) j₀ j (answer_in (ended s b w v i)) → Onward P B j₀ w (ended s b w v i) j t
-  over w b v i j t e f c = record { stands = record { size = e; rows = rows; count = count; goes = λ z. absurd z; ends = λ _. c }; joins = le_refl w.joins; used = refl; budget = f }
+  over : (w : Counts) (b : Terms) (v : Unbroken) (j : List R) (t : List ℕ) → length j ≡ length j₀ → b.budget ≡ B → Checked P.row_of (target P B j₀) j₀ j (answer_in (ended s b w (stage.Ended v))) → Onward P B j₀ w (ended s b w (stage.Ended v)) j t
+  over w b v j t e f c = record { stands = record { size = e; rows = rows; count = count; goes = λ z. absurd z; ends = λ _. c }; joins = le_refl w.joins; used = refl; budget = f }
 
   pub onward-from : {w₀ w : Counts} {r : State} {j : List R} {t : List ℕ} → w₀.joins ≤ w.joins → w.used ≡ w₀.used → Onward P B j₀ w r j t → Onward P B j₀ w₀ r j t
   onward-from h e o = record { stands = o.stands; joins = le_trans h o.joins; used = o.used ∙ e; budget = o.budget }
@@ -106,7 +98,7 @@ module _ {E R : Type 0} (P : Problem E R) (B : ℕ) (j₀ : List R) (s : State) 
       stand-there h = by (is_spent B w.joins) refl
         where
           by : (b : Bool) → is_spent B w.joins ≡ b → Onward P B j₀ w (standing_by b s (at k n first) w p) j t
-          by true e = over w (at k n first) spent_code 0 j t size refl (spent-there h (omega (arith, leb-true B w.joins e, g.left.paid)))
+          by true e = over w (at k n first) unbroken.Spent j t size refl (spent-there h (omega (arith, leb-true B w.joins e, g.left.paid)))
           by false e =
               record {
                 stands = record {
@@ -141,8 +133,7 @@ module _ {E R : Type 0} (P : Problem E R) (B : ℕ) (j₀ : List R) (s : State) 
           let fits : length (first_rows P w.used j) ≤ row_cells = omega (arith, rows-length P.row_of w.used j (omega (arith, x.room, e)), x.room, a.same, few) in
           let done : end_of nonempty k (outcome.Going w) ≡ Done (answer.Ended (finished_by nonempty) (totals_of w k)) = ap (λ (b : Bool). end_by b nonempty w k) (eq-eqb w.added 0 u) in
           subst (λ (b : Bool). Onward P B j₀ w (finished s (at k n first) w b) j t) (sym (all-linked P w.used j t fits c))
-          (over w (at k n first) (code_of (finished_by nonempty)) 0 j t (e ∙ a.same) refl
-          (subst (Checked P.row_of (target P B j₀) j₀ j) (sym (unbroken-back (finished_by nonempty) (totals_of w k))) (stops e (outcome.Going w) x done)))
+          (over w (at k n first) (finished_by nonempty) j t (e ∙ a.same) refl (stops e (outcome.Going w) x done))
 
       again : (w.added ≡ 0 → ⊥) → end_of nonempty k (outcome.Going w) ≡ Again w
       again z = ap (λ (b : Bool). end_by b nonempty w k) (ne_eqb w.added 0 z)

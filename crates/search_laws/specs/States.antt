@@ -2,28 +2,29 @@
 use Rattle.std.specs.Prelude.{Bool, true, false, List, ℕ, ltb}
 use Rattle.spec_basics.specs.Elements.{each}
 use Rattle.spec_calls.specs.Base.{members_of}
-use Rattle.spec_calls.specs.Codes.{broken_code, spent_code}
 use Rattle.search_state.specs.declared.Place.{Place}
 use Rattle.search_state.specs.Budgets.{is_spent}
 use Rattle.search_state.specs.Positions.{position_row}
 use Rattle.search_state.specs.declared.Counts.{Counts}
+use Rattle.search_state.specs.declared.Stage.TheVariants as stage
+use Rattle.search_state.specs.declared.Stage.{Stage}
 use Rattle.search_state.specs.declared.State.{State}
 use Rattle.search_state.specs.declared.Terms.{Terms}
+use Rattle.search_state.specs.declared.Unbroken.TheVariants as unbroken
 use Rattle.search_links.specs.Covers.{is_linked}
-use Rattle.search_laws.specs.Meanings.{code_of, finished_by}
+use Rattle.search_laws.specs.Meanings.{finished_by}
 use Rattle.search_laws.specs.declared.Reached.{Reached}
 use Rattle.search_laws.specs.declared.Stop.TheVariants as stop
 use Rattle.search_laws.specs.declared.Stop.{Stop}
 
-abbrev pub ended : State → Terms → Counts → ℕ → ℕ → State
-ended s t w v i =
-    record { going = false; left_row = 0; right_row = 0; terms = t; counts = w; place = s.place; rows = s.rows; rules = s.rules; verdict = v; broken = i }
+abbrev pub ended : State → Terms → Counts → Stage → State
+ended s t w g = record { stage = g; left_row = 0; right_row = 0; terms = t; counts = w; place = s.place; rows = s.rows; rules = s.rules }
 
 abbrev pub standing_by : Bool → State → Terms → Counts → Place → State
-standing_by true s t w p = ended s t w spent_code 0
+standing_by true s t w p = ended s t w (stage.Ended unbroken.Spent)
 standing_by false s t w p =
     record {
-      going = true;
+      stage = stage.Going;
       left_row = position_row p.left w.used;
       right_row = position_row p.right w.used;
       terms = t;
@@ -31,8 +32,6 @@ standing_by false s t w p =
       place = p;
       rows = s.rows;
       rules = s.rules;
-      verdict = 0;
-      broken = 0;
     }
 
 -- at a place, if the budget is not spent
@@ -50,7 +49,7 @@ all_linked starts table = each_linked table (members_of starts)
 -- after a pass that has added no row: what the working order's `finish` says, where the flag is whether each nonterminal whose words count has
 -- a live row
 abbrev pub finished : State → Terms → Counts → Bool → State
-finished s t w nonempty = ended s t w (code_of (finished_by nonempty)) 0
+finished s t w nonempty = ended s t w (stage.Ended (finished_by nonempty))
 
 abbrev pub opening_by : Bool → State → Terms → Reached → Bool → State
 opening_by true s t x nonempty = standing s t x.counts x.place
@@ -61,5 +60,5 @@ abbrev pub opening : State → Terms → Reached → Bool → State
 opening s t x nonempty = opening_by (ltb x.place.rule s.rules) s t x nonempty
 
 abbrev pub stopped_in : State → Stop → State
-stopped_in s (stop.Ended v w) = ended s s.terms w (code_of v) 0
-stopped_in s (stop.Broken i w) = ended s s.terms w broken_code i
+stopped_in s (stop.Ended v w) = ended s s.terms w (stage.Ended v)
+stopped_in s (stop.Broken i w) = ended s s.terms w (stage.Broken i)

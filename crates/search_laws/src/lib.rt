@@ -14,7 +14,7 @@
 // fate, l the cursor where looking for a cover ended.
 #![tactic(auto)]
 
-use search_state::{Counts, Place};
+use search_state::{Counts, Place, Unbroken};
 
 // What each answer carries.
 #[derive(Clone, Copy)]
@@ -24,7 +24,7 @@ pub struct Totals {
     pub pass: u64,
 }
 
-// The numbers of the verdicts, those that hosts get; a search that has ended has one, too.
+// The numbers of the verdicts, those that hosts get.
 pub const HOLDS: u8 = 100;
 
 pub const BROKEN: u8 = 101;
@@ -34,15 +34,6 @@ pub const FULL: u8 = 102;
 pub const SPENT: u8 = 103;
 
 pub const EMPTY: u8 = 104;
-
-// A verdict that shows no row.
-#[derive(Clone, Copy)]
-pub enum Unbroken {
-    Holds,
-    Full,
-    Spent,
-    Empty,
-}
 
 // The verdict with its totals; a broken answer names its row.
 #[derive(Clone, Copy)]

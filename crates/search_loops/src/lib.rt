@@ -3,12 +3,13 @@
 #![tactic(auto)]
 
 ghost use Rattle.std.specs.Prelude.{T};
+ghost use Rattle.search_state.specs.Stages.{is_going};
 ghost use Rattle.search_laws.specs.OnRelations.{NearIn, MayInsert, CandidateInserted, Running, Ran};
 
 use relation::Letter;
 use search_cover::CoverAnswer;
 use search_rows::Candidate;
-use search_state::{Fate, State};
+use search_state::{Fate, Stage, State};
 use spec_calls::Row;
 
 // Where `fate` says that no row covers `candidate` and there is room, the larger rows retire and it becomes the next row. `found` is where
@@ -24,14 +25,13 @@ fn insert(
     requires { MayInsert state candidate fate found journal.old table.old }
     ensures { CandidateInserted state candidate found journal.old table.old journal.new table.new }
 {
-    let mut cursor = search_retire::begin(table, state, fate, found);
-    while cursor.active {
+    let mut next = search_retire::begin(table, state, fate, found);
+    while let Some(cursor) = next {
         let row = cursor.row;
         let held = journal[row];
         let compared = search_rows::compare(held, candidate);
-        let new = cursor.new;
-        journal[row] = search_rows::replacement(state, candidate, new, compared, held);
-        cursor = search_retire::step(table, state, cursor, compared);
+        journal[row] = search_rows::replacement(state, candidate, cursor.new, compared, held);
+        next = search_retire::step(table, state, cursor, compared);
     }
 }
 
@@ -46,11 +46,11 @@ pub fn run(
     rules: &[[u8; 4]],
     state: State,
 ) -> State
-    requires { Running letters.now rules.now state journal.old state journal.old table.old × (T state.going → NearIn state journal.old near.old) }
+    requires { Running letters.now rules.now state journal.old state journal.old table.old × (T (is_going state.stage) → NearIn state journal.old near.old) }
     ensures { Ran letters.now rules.now state journal.old journal.new table.new result }
 {
     let mut state = state;
-    while state.going {
+    while let Stage::Going = state.stage {
         let tried = search_glance::glance(letters, rules, near, table, state);
         let here = tried.state;
         let i = here.left_row;

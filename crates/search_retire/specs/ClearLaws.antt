@@ -1,6 +1,6 @@
 -- Each step of making room keeps where it stands: the next linked row retires or stays, and after the last one the new row is added.
 -- Assumes nothing.
-use Rattle.std.specs.Prelude.{◌≡◌, refl, Bool, true, false, not, cond, ◌||◌, ℕ, ◌-◌, ◌≤◌, ◌<◌, T, eqb, ltb, length, get_or}
+use Rattle.std.specs.Prelude.{◌≡◌, refl, Bool, true, false, cond, ◌||◌, ℕ, ◌-◌, ◌≤◌, ◌<◌, eqb, ltb, length, get_or}
 use Rattle.std.proofs.Common.{sym, ap₂, ◌∙◌, inl, inr, arith, length-set, drop-set-lt, le-ltb, ltb-true, ltb-false, eqb-true}
 use Rattle.std.proofs.Math.Path.{ap, subst, subst₂}
 use Rattle.std.proofs.lemmas.Bool.{false≢true, eqb-false}
@@ -8,6 +8,8 @@ use mathlib.Core.List.{List, map}
 use Rattle.std.proofs.Math.Arith.{lt_of_le-ne}
 use Rattle.std.proofs.Math.ListN.{set}
 use Rattle.std.proofs.lemmas.List.{length-map}
+use Rattle.std.specs.declared.option.Option.{Option}
+use Rattle.std.specs.declared.option.Option.TheVariants.{None, Some}
 use Rattle.spec_order.specs.Candidates.{Candidate}
 use Rattle.spec_order.specs.Journal.{Row, live}
 use Rattle.spec_order.specs.Order.{larger, retire, born, added}
@@ -21,8 +23,8 @@ use Rattle.search_links.specs.Retirements.{replaced-set, retire-none, retiring-s
 use Rattle.search_links.specs.Rows.{rows_read}
 use Rattle.search_links.specs.RowLaws.{rows-length, stored_more}
 use Rattle.search_cover.specs.Seeking.{Finds}
-use Rattle.search_retire.specs.Clearing.{Idle, Fresh, Cleared, Added, Clears, ClearingEnd, ClearingAt, InClearing, Inserted, clears_left, MayClear}
-use Rattle.search_retire.specs.Steps.{retire_by, retire_from, idle_at, begun, ended_at, stepped, links_after}
+use Rattle.search_retire.specs.Clearing.{Idle, Fresh, Cleared, Added, Clears, ClearingAt, InClearing, Inserted, clears_left, MayClear}
+use Rattle.search_retire.specs.Steps.{retire_by, retire_from, begun, stepped, links_after}
 use Rattle.search_retire.specs.declared.RetireCursor.{RetireCursor}
 use Rattle.search_cover.specs.declared.CoverAnswer.{CoverAnswer}
 
@@ -56,33 +58,33 @@ module _ {E R : Type 0} {below : E → E → Bool} {row_of : R → Row E} {blank
     limit = omega (arith, f.room, f.limit)
 
     module _ (t₀ : List ℕ) {v cell : ℕ} {j : List R} {t : List ℕ} (r : Retiring below row_of blank k c u j₀ v cell j t) where
-      from-stands : (b : Bool) → ltb v u ≡ b → ClearingAt below row_of blank k c u l j₀ t₀ (retire_by b u v cell).active (retire_by b u v cell) j t
+      from-stands : (b : Bool) → ltb v u ≡ b → ClearingAt below row_of blank k c u l j₀ t₀ (Some (retire_by b u v cell)) j t
       from-stands true e = (f, (ltb-true v u e, r))
       from-stands false e =
           let d = retiring-done below row_of blank k c u j₀ room limit hh r (ltb-false v u e) in
           (f, (refl, record { stored = d.0; covering = d.1; last = d.2 }))
 
-      pub clears-from : lists_in t ≡ lists_in t₀ → InClearing below row_of blank k c u l j₀ t₀ (retire_from u v cell) j t
+      pub clears-from : lists_in t ≡ lists_in t₀ → InClearing below row_of blank k c u l j₀ t₀ (Some (retire_from u v cell)) j t
       clears-from e = record { size = r.size; lists = e; stands = from-stands (ltb v u) refl }
 
     from-left : (v cell : ℕ) (b : Bool) → ltb v u ≡ b → (n : ℕ) → 1 < n → 65537 - v < n
-        → clears_left (retire_by b u v cell) < n
+        → clears_left (Some (retire_by b u v cell)) < n
     from-left v cell true e n h m = m
     from-left v cell false e n h m = h
 
   -- ---- the first step
 
-  pub clears-idle : (t : List ℕ) (cl : RetireCursor) → cl.active ≡ false → Idle below row_of blank k c u l j₀ → InClearing below row_of blank k c u l j₀ t cl j₀ t
-  clears-idle t cl e i = record { size = refl; lists = refl; stands = subst (λ (b : Bool). ClearingAt below row_of blank k c u l j₀ t b cl j₀ t) (sym e) (inl (i, refl, refl)) }
+  pub clears-idle : (t : List ℕ) → Idle below row_of blank k c u l j₀ → InClearing below row_of blank k c u l j₀ t None j₀ t
+  clears-idle t i = record { size = refl; lists = refl; stands = inl (i, refl, refl) }
 
   module _ (f : Fresh below row_of blank k c u l j₀) (t : List ℕ) (g : Covering (rows_read row_of u j₀) t) where
-    pub clears-larger : InClearing below row_of blank k c u l j₀ t (retire_from u (get_or t (head_cell c.head) 0) (head_cell c.head)) j₀ t
+    pub clears-larger : InClearing below row_of blank k c u l j₀ t (Some (retire_from u (get_or t (head_cell c.head) 0) (head_cell c.head))) j₀ t
     clears-larger = clears-from f t (retiring-start below row_of blank k c u j₀ (room f) (limit f) hh t g) refl
 
-    pub clears-none : Finds below c (rows_read row_of u j₀) u t l → l.larger ≡ false → InClearing below row_of blank k c u l j₀ t (retire_from u end l.cell) j₀ t
+    pub clears-none : Finds below c (rows_read row_of u j₀) u t l → l.larger ≡ false → InClearing below row_of blank k c u l j₀ t (Some (retire_from u end l.cell)) j₀ t
     clears-none z e =
         let y : Free below c (rows_read row_of u j₀) t l.cell l.larger = z.free f.none in
-        subst (λ (b : Bool). InClearing below row_of blank k c u l j₀ t (retire_by b u end l.cell) j₀ t)
+        subst (λ (b : Bool). InClearing below row_of blank k c u l j₀ t (Some (retire_by b u end l.cell)) j₀ t)
         (sym (le-ltb end u (omega (arith, limit f))))
         (record {
           size = refl;
@@ -92,13 +94,9 @@ module _ {E R : Type 0} {below : E → E → Bool} {row_of : R → Row E} {blank
 
   -- ---- a step at a linked row
 
-  module _ {t₀ : List ℕ} {cl : RetireCursor} {j : List R} {t : List ℕ} (i : InClearing below row_of blank k c u l j₀ t₀ cl j t) (w : T cl.active) where
-    walked : (b : Bool) → cl.active ≡ b → T b → ClearingAt below row_of blank k c u l j₀ t₀ b cl j t → Fresh below row_of blank k c u l j₀ × Clears below row_of blank k c u l j₀ cl.new cl j t
-    walked true e _ s = s
-    walked false e z s = absurd z
-
+  module _ {t₀ : List ℕ} {cl : RetireCursor} {j : List R} {t : List ℕ} (i : InClearing below row_of blank k c u l j₀ t₀ (Some cl) j t) where
     now : Fresh below row_of blank k c u l j₀ × Clears below row_of blank k c u l j₀ cl.new cl j t
-    now = walked cl.active refl w i.stands
+    now = i.stands
 
     fresh : Fresh below row_of blank k c u l j₀
     fresh = now.0
@@ -119,13 +117,13 @@ module _ {E R : Type 0} {below : E → E → Bool} {row_of : R → Row E} {blank
 
       -- the row is replaced, and the next one is where the table leads
       module _ (x : R) (q : row_of x ≡ retire below k c (row_of (get_or j v blank))) where
-        next-left : (cell : ℕ) → clears_left (retire_from u (get_or t v 0) cell) < 65537 - v
+        next-left : (cell : ℕ) → clears_left (Some (retire_from u (get_or t v 0) cell)) < 65537 - v
         next-left cell =
             let m = retiring-rises below row_of blank k c u j₀ (room fresh) (limit fresh) hh linked.1 linked.0 in
             from-left fresh (get_or t v 0) cell (ltb (get_or t v 0) u) refl (65537 - v) (omega (arith, linked.0, limit fresh)) (omega (arith, m, linked.0, limit fresh))
 
         pub clears-retired : larger below c (row_of (get_or j v blank)) ≡ true
-            → InClearing below row_of blank k c u l j₀ t₀ (retire_from u (get_or t v 0) cl.cell) (set j v x) (set t cl.cell (get_or t v 0)) × (clears_left (retire_from u (get_or t v 0) cl.cell) < 65537 - v)
+            → InClearing below row_of blank k c u l j₀ t₀ (Some (retire_from u (get_or t v 0) cl.cell)) (set j v x) (set t cl.cell (get_or t v 0)) × (clears_left (Some (retire_from u (get_or t v 0) cl.cell)) < 65537 - v)
         clears-retired big = (
           clears-from fresh t₀
               (retired below row_of blank k c u j₀ (room fresh) (limit fresh) hh linked.1 linked.0 (replaced-set below row_of blank k c v j x (omega (arith, linked.0, inside)) q) fresh.pass big)
@@ -134,7 +132,7 @@ module _ {E R : Type 0} {below : E → E → Bool} {row_of : R → Row E} {blank
         )
 
         pub clears-stayed : larger below c (row_of (get_or j v blank)) ≡ false
-            → InClearing below row_of blank k c u l j₀ t₀ (retire_from u (get_or t v 0) v) (set j v x) t × (clears_left (retire_from u (get_or t v 0) v) < 65537 - v)
+            → InClearing below row_of blank k c u l j₀ t₀ (Some (retire_from u (get_or t v 0) v)) (set j v x) t × (clears_left (Some (retire_from u (get_or t v 0) v)) < 65537 - v)
         clears-stayed small = (
           clears-from fresh t₀
               (stayed below row_of blank k c u j₀ (room fresh) (limit fresh) hh linked.1 linked.0 (replaced-set below row_of blank k c v j x (omega (arith, linked.0, inside)) q) small)
@@ -174,7 +172,7 @@ module _ {E R : Type 0} {below : E → E → Bool} {row_of : R → Row E} {blank
               covering = subst₂ Covering (sym s.front) (ap (λ (n : ℕ). set (set t n end) cl.cell n) rows-size) m;
             }
 
-        pub clears-added : InClearing below row_of blank k c u l j₀ t₀ (ended_at cl) (set j cl.row x) (set (set t u end) cl.cell u)
+        pub clears-added : InClearing below row_of blank k c u l j₀ t₀ None (set j cl.row x) (set (set t u end) cl.cell u)
         clears-added =
             record {
               size = length-set j cl.row x ∙ i.size;
@@ -199,26 +197,18 @@ module _ {E R : Type 0} {below : E → E → Bool} {row_of : R → Row E} {blank
         by false e = record { size = (linked e).1.covering.size; used = omega (arith, fresh.room, fresh.limit); at = omega (arith, (linked e).0, limit fresh); cell = cell_in (linked e).1 }
 
 -- steps that are left where it stands
-pub one_left : (cl : RetireCursor) → T cl.active → cl.new ≡ true → 0 < clears_left cl
-one_left cl w e = by cl.active w
-  where
-    by : (b : Bool) → T b → 0 < cond b (cond cl.new 1 (65537 - cl.row)) 0
-    by true z = rw e (omega arith)
-    by false z = absurd z
+pub one_left : (cl : RetireCursor) → cl.new ≡ true → 0 < clears_left (Some cl)
+one_left cl e = rw e (omega arith)
 
-pub many-left : (cl : RetireCursor) → T cl.active → cl.new ≡ false → {n : ℕ} → n < 65537 - cl.row → n < clears_left cl
-many-left cl w e {n} h = by cl.active w
-  where
-    by : (b : Bool) → T b → n < cond b (cond cl.new 1 (65537 - cl.row)) 0
-    by true z = rw e h
-    by false z = absurd z
+pub many-left : (cl : RetireCursor) → cl.new ≡ false → {n : ℕ} → n < 65537 - cl.row → n < clears_left (Some cl)
+many-left cl e {n} h = rw e h
 
-pub clearing-done : {E R : Type 0} {below : E → E → Bool} {row_of : R → Row E} {blank : R} {k : ℕ} {c : Candidate E} {u : ℕ} {l : CoverAnswer} {j₀ : List R} {t₀ : List ℕ} {cl : RetireCursor} {j : List R} {t : List ℕ} → InClearing below row_of blank k c u l j₀ t₀ cl j t → T (not cl.active) → Inserted below row_of blank k c u l j₀ t₀ j t
-clearing-done {E} {R} {below} {row_of} {blank} {k} {c} {u} {l} {j₀} {t₀} {cl} {j} {t} i w = record { size = i.size; lists = i.lists; outcome = by cl.active w i.stands }
-  where
-    by : (b : Bool) → T (not b) → ClearingAt below row_of blank k c u l j₀ t₀ b cl j t → ClearingEnd below row_of blank k c u l j₀ t₀ j t
-    by true z s = absurd z
-    by false z s = s
+pub clearing-same : {E R : Type 0} {below : E → E → Bool} {row_of : R → Row E} {blank : R} {k : ℕ} {c : Candidate E} {u : ℕ} {l : CoverAnswer} {j₀ : List R} {t₀ : List ℕ} {a b : Option RetireCursor} {j : List R} {t : List ℕ}
+    → a ≡ b → InClearing below row_of blank k c u l j₀ t₀ a j t → InClearing below row_of blank k c u l j₀ t₀ b j t
+clearing-same {E} {R} {below} {row_of} {blank} {k} {c} {u} {l} {j₀} {t₀} {a} {b} {j} {t} e i = subst (λ (o : Option RetireCursor). InClearing below row_of blank k c u l j₀ t₀ o j t) e i
+
+pub clearing-done : {E R : Type 0} {below : E → E → Bool} {row_of : R → Row E} {blank : R} {k : ℕ} {c : Candidate E} {u : ℕ} {l : CoverAnswer} {j₀ : List R} {t₀ : List ℕ} {j : List R} {t : List ℕ} → InClearing below row_of blank k c u l j₀ t₀ None j t → Inserted below row_of blank k c u l j₀ t₀ j t
+clearing-done i = record { size = i.size; lists = i.lists; outcome = i.stands }
 
 -- ---- the steps, which are equations on values
 
@@ -232,27 +222,27 @@ module _ {E R : Type 0} {below : E → E → Bool} {row_of : R → Row E} {blank
       says = ap₂ (λ (a b : Bool). a || b) (sym ec) (sym ef)
 
       by : (a b : Bool) → (f.covered || f.full) ≡ a → l.larger ≡ b
-          → InClearing below row_of blank k c u l j₀ t (cond a (idle_at u) (cond b (retire_from u (get_or t (head_cell f.head) 0) (head_cell f.head)) (retire_from u end l.cell))) j₀ t
-      by true b p q = clears-idle hh t (idle_at u) refl (idle-of below row_of blank k c u l j₀ (says ∙ p))
+          → InClearing below row_of blank k c u l j₀ t (cond a None (Some (cond b (retire_from u (get_or t (head_cell f.head) 0) (head_cell f.head)) (retire_from u end l.cell)))) j₀ t
+      by true b p q = clears-idle hh t (idle-of below row_of blank k c u l j₀ (says ∙ p))
       by false true p q =
-          subst (λ (x : ℕ). InClearing below row_of blank k c u l j₀ t (retire_from u (get_or t (head_cell x) 0) (head_cell x)) j₀ t) (sym eh)
+          subst (λ (x : ℕ). InClearing below row_of blank k c u l j₀ t (Some (retire_from u (get_or t (head_cell x) 0) (head_cell x))) j₀ t) (sym eh)
           (clears-larger hh (fresh-of below row_of blank k c u l j₀ hu hl hk (says ∙ p)) t g)
       by false false p q = clears-none hh (fresh-of below row_of blank k c u l j₀ hu hl hk (says ∙ p)) t g z q
 
   -- one step, where x is stored in the place of the row at the cursor
-  pub clears-stepped : {t₀ : List ℕ} {cl : RetireCursor} {j : List R} {t : List ℕ} → InClearing below row_of blank k c u l j₀ t₀ cl j t → T cl.active
+  pub clears-stepped : {t₀ : List ℕ} {cl : RetireCursor} {j : List R} {t : List ℕ} → InClearing below row_of blank k c u l j₀ t₀ (Some cl) j t
       → (big : Bool) → big ≡ larger below c (row_of (get_or j cl.row blank)) → (x : R) → row_of x ≡ replaced_by k c cl.new big (row_of (get_or j cl.row blank))
-      → InClearing below row_of blank k c u l j₀ t₀ (stepped t u cl big) (set j cl.row x) (links_after t u cl big) × (clears_left (stepped t u cl big) < clears_left cl)
-  clears-stepped {t₀} {cl} {j} {t} i w big eb x q = by cl.new big refl eb q
+      → InClearing below row_of blank k c u l j₀ t₀ (stepped t u cl big) (set j cl.row x) (links_after t u cl big) × (clears_left (stepped t u cl big) < clears_left (Some cl))
+  clears-stepped {t₀} {cl} {j} {t} i big eb x q = by cl.new big refl eb q
     where
       by : (n b : Bool) → cl.new ≡ n → b ≡ larger below c (row_of (get_or j cl.row blank)) → row_of x ≡ replaced_by k c n b (row_of (get_or j cl.row blank))
-          → InClearing below row_of blank k c u l j₀ t₀ (cond n (ended_at cl) (cond b (retire_from u (get_or t cl.row 0) cl.cell) (retire_from u (get_or t cl.row 0) cl.row))) (set j cl.row x)
+          → InClearing below row_of blank k c u l j₀ t₀ (cond n None (Some (cond b (retire_from u (get_or t cl.row 0) cl.cell) (retire_from u (get_or t cl.row 0) cl.row)))) (set j cl.row x)
           (cond n (set (set t u end) cl.cell u) (cond b (set t cl.cell (get_or t cl.row 0)) t))
-          × (clears_left (cond n (ended_at cl) (cond b (retire_from u (get_or t cl.row 0) cl.cell) (retire_from u (get_or t cl.row 0) cl.row))) < clears_left cl)
-      by true b e p y = (clears-added hh i w e x y, one_left cl w e)
+          × (clears_left (cond n None (Some (cond b (retire_from u (get_or t cl.row 0) cl.cell) (retire_from u (get_or t cl.row 0) cl.row)))) < clears_left (Some cl))
+      by true b e p y = (clears-added hh i e x y, one_left cl e)
       by false true e p y =
-          let g = clears-retired hh i w e x (y ∙ sym (retire-yes below k c (row_of (get_or j cl.row blank)) (sym p))) (sym p) in
-          (g.0, many-left cl w e g.1)
+          let g = clears-retired hh i e x (y ∙ sym (retire-yes below k c (row_of (get_or j cl.row blank)) (sym p))) (sym p) in
+          (g.0, many-left cl e g.1)
       by false false e p y =
-          let g = clears-stayed hh i w e x (y ∙ sym (retire-no below k c (row_of (get_or j cl.row blank)) (sym p))) (sym p) in
-          (g.0, many-left cl w e g.1)
+          let g = clears-stayed hh i e x (y ∙ sym (retire-no below k c (row_of (get_or j cl.row blank)) (sym p))) (sym p) in
+          (g.0, many-left cl e g.1)

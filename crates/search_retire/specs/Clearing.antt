@@ -1,6 +1,8 @@
 -- Retiring the larger rows and adding a new one: what is known of the journal and the table at each cursor, whatever an effect is. Definitions
 -- only. Assumes nothing.
 use Rattle.std.specs.Prelude.{◌≡◌, Bool, true, false, cond, List, map, ◌⊎◌, ℕ, ◌+◌, ◌-◌, ◌≤◌, ◌<◌, length}
+use Rattle.std.specs.declared.option.Option.{Option}
+use Rattle.std.specs.declared.option.Option.TheVariants.{None, Some}
 use Rattle.spec_order.specs.Candidates.{Candidate}
 use Rattle.spec_order.specs.Journal.{Row}
 use Rattle.spec_order.specs.Order.{retire, added}
@@ -42,14 +44,14 @@ module _ {E R : Type 0} (below : E → E → Bool) (row_of : R → Row E) (blank
     abbrev pub ClearingEnd : List R → List ℕ → Type 0
     ClearingEnd j t = (Idle × (j ≡ j₀) × (t ≡ t₀)) ⊎ (Fresh × Added j t)
 
-    abbrev pub ClearingAt : Bool → RetireCursor → List R → List ℕ → Type 0
-    ClearingAt true cl j t = Fresh × Clears cl.new cl j t
-    ClearingAt false cl j t = ClearingEnd j t
+    abbrev pub ClearingAt : Option RetireCursor → List R → List ℕ → Type 0
+    ClearingAt (Some cl) j t = Fresh × Clears cl.new cl j t
+    ClearingAt None j t = ClearingEnd j t
 
-    pub record InClearing (cl : RetireCursor) (j : List R) (t : List ℕ) : Type 0 where
+    pub record InClearing (cl : Option RetireCursor) (j : List R) (t : List ℕ) : Type 0 where
       pub size : length j ≡ length j₀
       pub lists : lists_in t ≡ lists_in t₀
-      pub stands : ClearingAt cl.active cl j t
+      pub stands : ClearingAt cl j t
 
     -- when it has ended
     pub record Inserted (j : List R) (t : List ℕ) : Type 0 where
@@ -57,8 +59,9 @@ module _ {E R : Type 0} (below : E → E → Bool) (row_of : R → Row E) (blank
       pub lists : lists_in t ≡ lists_in t₀
       pub outcome : ClearingEnd j t
 
-abbrev pub clears_left : RetireCursor → ℕ
-clears_left cl = cond cl.active (cond cl.new 1 (65537 - cl.row)) 0
+abbrev pub clears_left : Option RetireCursor → ℕ
+clears_left (Some cl) = cond cl.new 1 (65537 - cl.row)
+clears_left None = 0
 
 -- what the code of a step counts on
 pub record MayClear (u : ℕ) (cl : RetireCursor) (t : List ℕ) : Type 0 where

@@ -1,6 +1,6 @@
 // A candidate that no row covers becomes a row, and the larger rows retire: a cursor over the live rows of its nonterminal and then the new
 // row, moved in steps that know neither a row nor a candidate. A step is given what comparing the row at the cursor with the candidate gave,
-// keeps the links, and returns the cursor at the row to compare next.
+// keeps the links, and returns the cursor at the row to compare next, or none after the new row.
 #![tactic(auto)]
 
 ghost use Rattle.std.specs.Prelude.{◌≡◌, length};
@@ -11,11 +11,10 @@ ghost use Rattle.search_retire.specs.Clearing.{MayClear};
 use search_cover::CoverAnswer;
 use search_state::{Comparison, END, FIRSTS, Fate, State};
 
-// While the cursor is `active`, `row` is the row to replace next: the linked row to which the link in `cell` leads, or, if `new`, the first
-// row that is not used, and `cell` is the last link of the nonterminal.
+// `row` is the row to replace next: the linked row to which the link in `cell` leads, or, if `new`, the first row that is not used, and
+// `cell` is the last link of the nonterminal.
 #[derive(Clone, Copy)]
 pub struct RetireCursor {
-    pub active: bool,
     pub new: bool,
     pub row: usize,
     pub cell: usize,
@@ -27,14 +26,12 @@ fn at_link(used: usize, row: usize, cell: usize) -> RetireCursor
 {
     if row < used {
         return RetireCursor {
-            active: true,
             new: false,
             row,
             cell,
         };
     }
     RetireCursor {
-        active: true,
         new: true,
         row: used,
         cell,
@@ -43,25 +40,19 @@ fn at_link(used: usize, row: usize, cell: usize) -> RetireCursor
 
 // The beginning. Nothing is to be done where a row covers or the journal is full, which `fate` says. Where `found`, which looking for a cover
 // gave, says that no row is larger, none retires and only the new row is left.
-pub fn begin(table: &[u32], state: State, fate: Fate, found: CoverAnswer) -> RetireCursor
+pub fn begin(table: &[u32], state: State, fate: Fate, found: CoverAnswer) -> Option<RetireCursor>
     requires { length table.now ≡ table_cells }
     ensures { result ≡ begun table.now state.counts.used fate found }
 {
-    let counts = state.counts;
-    let used = counts.used;
     if fate.covered | fate.full {
-        return RetireCursor {
-            active: false,
-            new: false,
-            row: used,
-            cell: FIRSTS,
-        };
+        return None;
     }
+    let used = state.counts.used;
     if found.larger {
         let cell = FIRSTS + fate.head as usize;
-        return at_link(used, search_order::position(table[cell]), cell);
+        return Some(at_link(used, search_order::position(table[cell]), cell));
     }
-    at_link(used, END, found.cell)
+    Some(at_link(used, END, found.cell))
 }
 
 // One step, after the row at `cursor` was replaced: a row that `compared` says is larger has retired and is linked no more, another stays
@@ -71,29 +62,23 @@ pub fn step(
     state: State,
     cursor: RetireCursor,
     compared: Comparison,
-) -> RetireCursor
+) -> Option<RetireCursor>
     requires { MayClear state.counts.used cursor table.old }
     ensures { (result ≡ stepped table.old state.counts.used cursor compared.larger) × (table.new ≡ links_after table.old state.counts.used cursor compared.larger) }
 {
-    let counts = state.counts;
-    let used = counts.used;
+    let used = state.counts.used;
     let row = cursor.row;
     let cell = cursor.cell;
     if cursor.new {
         table[used] = search_order::cell(END);
         table[cell] = search_order::cell(used);
-        return RetireCursor {
-            active: false,
-            new: true,
-            row,
-            cell,
-        };
+        return None;
     }
     let link = table[row];
     let next = search_order::position(link);
     if compared.larger {
         table[cell] = link;
-        return at_link(used, next, cell);
+        return Some(at_link(used, next, cell));
     }
-    at_link(used, next, row)
+    Some(at_link(used, next, row))
 }

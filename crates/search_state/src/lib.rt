@@ -133,12 +133,29 @@ impl Terms {
     }
 }
 
-// The search between two candidates. While `going`, `place` is the candidate to form next, and `left_row` and `right_row` are the journal rows
-// to read for it (0 if its body has no such row). Otherwise `verdict` is the verdict's number, as hosts are told it, and `broken` the row of a
-// broken one. `rows` is the journal's length, `rules` the number of rules.
+// A verdict that shows no row.
+#[derive(Clone, Copy)]
+pub enum Unbroken {
+    Holds,
+    Full,
+    Spent,
+    Empty,
+}
+
+// How far a search is: it goes on at a place, it has not begun, or it has ended with a verdict; a broken one names its row.
+#[derive(Clone, Copy)]
+pub enum Stage {
+    Going,
+    Waiting,
+    Ended(Unbroken),
+    Broken(usize),
+}
+
+// The search between two candidates. While its `stage` is `Going`, `place` is the candidate to form next, and `left_row` and `right_row` are the
+// journal rows to read for it (0 if its body has no such row). `rows` is the journal's length, `rules` the number of rules.
 #[derive(Clone, Copy)]
 pub struct State {
-    pub going: bool,
+    pub stage: Stage,
     pub left_row: usize,
     pub right_row: usize,
     pub terms: Terms,
@@ -146,8 +163,6 @@ pub struct State {
     pub place: Place,
     pub rows: usize,
     pub rules: usize,
-    pub verdict: u8,
-    pub broken: usize,
 }
 
 // What comparing a journal row with a candidate gives: the row `covers` the candidate, or is strictly `larger` than it. A row that is not

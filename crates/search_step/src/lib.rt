@@ -2,11 +2,11 @@
 #![tactic(auto)]
 
 ghost use Rattle.std.specs.Prelude.{◌≡◌};
-ghost use Rattle.search_laws.specs.Meanings.{totals_of, code_of, unbroken_at, answer_in};
+ghost use Rattle.search_laws.specs.Meanings.{totals_of, code_of, answer_in};
 ghost use Rattle.search_laws.specs.States.{ended, standing, finished, opening, stopped_in};
 
-use search_laws::{Answer, BROKEN, EMPTY, FULL, HOLDS, Reached, SPENT, Stop, Totals, Unbroken};
-use search_state::{Counts, Place, State, Terms};
+use search_laws::{Answer, EMPTY, FULL, HOLDS, Reached, SPENT, Stop, Totals};
+use search_state::{Counts, Place, Stage, State, Terms, Unbroken};
 
 // The number of a verdict that shows no row.
 pub fn code_of(unbroken: Unbroken) -> u8
@@ -20,13 +20,13 @@ pub fn code_of(unbroken: Unbroken) -> u8
     }
 }
 
-// At the end, with a verdict.
-pub fn end_with(state: State, terms: Terms, counts: Counts, verdict: u8, broken: usize) -> State
-    ensures { result ≡ ended state terms counts verdict broken }
+// At the end, with the verdict that `stage` has.
+pub fn end_with(state: State, terms: Terms, counts: Counts, stage: Stage) -> State
+    ensures { result ≡ ended state terms counts stage }
 {
     let place = state.place;
     State {
-        going: false,
+        stage,
         left_row: 0,
         right_row: 0,
         terms,
@@ -34,8 +34,6 @@ pub fn end_with(state: State, terms: Terms, counts: Counts, verdict: u8, broken:
         place,
         rows: state.rows,
         rules: state.rules,
-        verdict,
-        broken,
     }
 }
 
@@ -45,10 +43,10 @@ pub fn stand_at(state: State, terms: Terms, counts: Counts, place: Place) -> Sta
     ensures { result ≡ standing state terms counts place }
 {
     if terms.spent(counts.joins) {
-        return end_with(state, terms, counts, SPENT, 0);
+        return end_with(state, terms, counts, Stage::Ended(Unbroken::Spent));
     }
     State {
-        going: true,
+        stage: Stage::Going,
         left_row: search_state::position_row(place.left, counts.used),
         right_row: search_state::position_row(place.right, counts.used),
         terms: Terms {
@@ -63,8 +61,6 @@ pub fn stand_at(state: State, terms: Terms, counts: Counts, place: Place) -> Sta
         place,
         rows: state.rows,
         rules: state.rules,
-        verdict: 0,
-        broken: 0,
     }
 }
 
@@ -74,9 +70,9 @@ pub fn finish(state: State, terms: Terms, counts: Counts, nonempty: bool) -> Sta
     ensures { result ≡ finished state terms counts nonempty }
 {
     if nonempty {
-        return end_with(state, terms, counts, HOLDS, 0);
+        return end_with(state, terms, counts, Stage::Ended(Unbroken::Holds));
     }
-    end_with(state, terms, counts, EMPTY, 0)
+    end_with(state, terms, counts, Stage::Ended(Unbroken::Empty))
 }
 
 // At the first place of a pass that needs work. Past the last rule there is none: the pass adds no row, and `nonempty` decides the end.
@@ -97,8 +93,8 @@ pub fn stop(state: State, stop: Stop) -> State
 {
     let terms = state.terms;
     match stop {
-        Stop::Ended(unbroken, counts) => end_with(state, terms, counts, code_of(unbroken), 0),
-        Stop::Broken(row, counts) => end_with(state, terms, counts, BROKEN, row),
+        Stop::Ended(unbroken, counts) => end_with(state, terms, counts, Stage::Ended(unbroken)),
+        Stop::Broken(row, counts) => end_with(state, terms, counts, Stage::Broken(row)),
     }
 }
 
@@ -116,29 +112,14 @@ fn sum_up(state: State) -> Totals
     }
 }
 
-// The verdict other than broken that has this number.
-fn unbroken_of(code: u8) -> Unbroken
-    ensures { result ≡ unbroken_at code }
-{
-    if code == HOLDS {
-        return Unbroken::Holds;
-    }
-    if code == FULL {
-        return Unbroken::Full;
-    }
-    if code == EMPTY {
-        return Unbroken::Empty;
-    }
-    Unbroken::Spent
-}
-
-// The answer of a search that has ended.
+// The answer of a search that has ended; no other is asked.
 pub fn answer_of(state: State) -> Answer
     ensures { result ≡ answer_in state }
 {
     let totals = sum_up(state);
-    if state.verdict == BROKEN {
-        return Answer::Broken(state.broken, totals);
+    match state.stage {
+        Stage::Ended(unbroken) => Answer::Ended(unbroken, totals),
+        Stage::Broken(row) => Answer::Broken(row, totals),
+        Stage::Going | Stage::Waiting => Answer::Ended(Unbroken::Spent, totals),
     }
-    Answer::Ended(unbroken_of(state.verdict), totals)
 }

@@ -7,11 +7,12 @@ use Rattle.spec_calls.specs.Checking.{journal_limit, journal_after}
 use Rattle.spec_calls.specs.Rows.{row_of, Journal}
 use Rattle.spec_calls.specs.declared.Options.{Options}
 use Rattle.spec_calls.specs.declared.Row.{Row as LentRow}
-use Rattle.call_check.specs.declared.Checked.{Checked}
+use Rattle.std.specs.declared.result.Result.{Result}
+use Rattle.spec_file.specs.declared.Refusal.{Refusal as Refused}
+use Rattle.search_laws.specs.declared.Answer.{Answer as Answered}
 use Rattle.call_check.specs.Clauses.{settings_over, Checks}
 use Rattle.host_result.specs.Fronts.{front_of, journal_of, place_of}
 use Rattle.call_write.specs.Clauses.{Writes}
-use Rattle.call_write.specs.declared.Writing.{Writing}
 use Rattle.test_damaged.specs.Clauses.{damaged_rows, WritesDamaged}
 
 -- an element that is replaced, among the first n ones
@@ -30,8 +31,8 @@ map-set (y ∷ ys) (suc i) x = ap (λ (zs : List (Row ℕ)). row_of y ∷ zs) (m
 -- xs: the array before the check, all x. m: the rows lent. zs: its first m rows after the check, which answered c. j: the row where x was
 -- stored. w: what writing from the first m rows answered. The other letters are those of `WritesDamaged`
 pub written-damaged : (bs : List ℕ) (n : ℕ) (o : Options) (i : ℕ) (x : LentRow) (u k : ℕ) (old new : List ℕ)
-    → (xs : Journal) → xs ≡ replicate journal_limit x → (m : ℕ) → (m ≡ front_of n) × (m ≤ journal_limit) → (zs : Journal) → length zs ≡ m → (c : Checked) → Checks bs o (take m xs) zs c
-    → (j : ℕ) → j ≡ place_of i → (w : Writing) → Writes bs (map row_of (take m (set (zs ++ drop m xs) j x))) u k old new w → WritesDamaged bs n o i x u k old new w
+    → (xs : Journal) → xs ≡ replicate journal_limit x → (m : ℕ) → (m ≡ front_of n) × (m ≤ journal_limit) → (zs : Journal) → length zs ≡ m → (c : Result Answered Refused) → Checks bs o (take m xs) zs c
+    → (j : ℕ) → j ≡ place_of i → (w : Result ℕ Refused) → Writes bs (map row_of (take m (set (zs ++ drop m xs) j x))) u k old new w → WritesDamaged bs n o i x u k old new w
 unfolding journal_of
 written-damaged bs n o i x u k old new xs e m em zs l c h j ej w v =
     let before : take m xs ≡ journal_of n x = ap (take m) e ∙ ap (λ (t : ℕ). take t (replicate journal_limit x)) em.0 in

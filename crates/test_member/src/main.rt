@@ -16,34 +16,20 @@ const OLD: u64 = 9;
 
 // ---- printing
 
-fn print_cell(rt: &impl Print, i: usize, set: u64) -> io::Result<()> {
-    if set != 0 {
-        print(rt, b" ")?;
-        print_number(rt, i as u64)?;
-        print(rt, b"=")?;
-        print_number(rt, set)?;
-    }
-    Ok(())
-}
-
 fn print_cells(rt: &impl Print, table: &[u64]) -> io::Result<()> {
-    let mut i: usize = 0;
-    while i < table.len() {
-        print_cell(rt, i, table[i])?;
-        i += 1;
+    for (i, set) in table.iter().enumerate() {
+        if *set != 0 {
+            print(rt, b" ")?;
+            print_number(rt, i as u64)?;
+            print(rt, b"=")?;
+            print_number(rt, *set)?;
+        }
     }
     Ok(())
 }
 
 fn print_kept(rt: &impl Print, table: &[u64]) -> io::Result<()> {
-    let mut kept: usize = 0;
-    let mut i: usize = 0;
-    while i < table.len() {
-        if table[i] == OLD {
-            kept += 1;
-        }
-        i += 1;
-    }
+    let kept = table.iter().filter(|set| **set == OLD).count();
     print(rt, b", kept ")?;
     print_number(rt, kept as u64)
 }
@@ -68,18 +54,6 @@ fn print_recognized(rt: &impl Print, answer: Recognized, table: &[u64]) -> io::R
 
 // ---- cases
 
-fn recognized(
-    rt: &impl Print,
-    label: &[u8],
-    file: &[u8],
-    word: &[u8],
-    table: &mut [u64],
-) -> io::Result<()> {
-    print_label(rt, label)?;
-    let answer = call_member::recognize(file, word, table);
-    print_recognized(rt, answer, table)
-}
-
 fn recognize(
     rt: &impl Print,
     label: &[u8],
@@ -87,8 +61,7 @@ fn recognize(
     n: usize,
     word: &[u8],
 ) -> io::Result<()> {
-    let mut table = [OLD; STRETCH_CELLS];
-    recognized(rt, label, front(file, n), word, &mut table)
+    recognize_by(rt, label, file, n, word, STRETCH_CELLS)
 }
 
 fn recognize_by(
@@ -100,10 +73,10 @@ fn recognize_by(
     cells: usize,
 ) -> io::Result<()> {
     let mut table = [OLD; LARGER];
-    if cells <= LARGER {
-        recognized(rt, label, front(file, n), word, &mut table[..cells])?;
-    }
-    Ok(())
+    let lent = &mut table[..cells.min(LARGER)];
+    print_label(rt, label)?;
+    let answer = call_member::recognize(front(file, n), word, lent);
+    print_recognized(rt, answer, lent)
 }
 
 fn runs_of_plan_b(rt: &impl Print) -> io::Result<()> {

@@ -193,10 +193,8 @@ fn unused_byte(rt: &impl Print, label: &[u8], i: usize, j: usize) -> io::Result<
 
 // Each byte of the sample's record i from byte j on, which the record does not use.
 fn unused_from(rt: &impl Print, label: &[u8], i: usize, j: usize) -> io::Result<()> {
-    let mut at = j;
-    while at < 8 {
+    for at in j..8 {
         unused_byte(rt, label, i, at)?;
-        at += 1;
     }
     Ok(())
 }

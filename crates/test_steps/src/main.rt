@@ -58,10 +58,8 @@ fn steps(
     from: usize,
     to: usize,
 ) -> io::Result<()> {
-    let mut place = from;
-    while place < to {
+    for place in from..to {
         step(rt, label, file, n, place)?;
-        place += 1;
     }
     Ok(())
 }
@@ -156,34 +154,21 @@ fn steps_over_limits(rt: &impl Print) -> io::Result<()> {
 // ---- the walk over a whole file
 
 // How many records of each kind a walk passed.
-#[derive(Clone, Copy)]
+#[derive(Clone, Copy, Default)]
 struct Tally {
     rules: u64,
     moves: u64,
     finishing: u64,
 }
 
-fn more(x: u64) -> u64 {
-    std::num::wrapping_add_u64(x, 1)
-}
-
-fn counted(t: Tally, r: Record) -> Tally {
-    match r {
-        Record::Rule(_) => Tally {
-            rules: more(t.rules),
-            moves: t.moves,
-            finishing: t.finishing,
-        },
-        Record::Transition(_) => Tally {
-            rules: t.rules,
-            moves: more(t.moves),
-            finishing: t.finishing,
-        },
-        Record::Final(_) => Tally {
-            rules: t.rules,
-            moves: t.moves,
-            finishing: more(t.finishing),
-        },
+impl Tally {
+    fn count(&mut self, r: Record) {
+        let passed = match r {
+            Record::Rule(_) => &mut self.rules,
+            Record::Transition(_) => &mut self.moves,
+            Record::Final(_) => &mut self.finishing,
+        };
+        *passed = passed.wrapping_add(1);
     }
 }
 
@@ -202,24 +187,17 @@ fn print_stop(rt: &impl Print, t: Tally, out: Step) -> io::Result<()> {
     print(rt, b"\n")
 }
 
-// A walk from step to step. A proved loop ends, so it counts its turns.
+// A walk from step to step. A proved loop ends, so it has a number of turns.
 fn walk_file(rt: &impl Print, file: &[u8]) -> io::Result<()> {
-    let mut t = Tally {
-        rules: 0,
-        moves: 0,
-        finishing: 0,
-    };
+    let mut t = Tally::default();
     let mut place: usize = 0;
-    let mut turns: usize = 0;
-    while turns < RECORDS {
+    for _ in 0..RECORDS {
         let out = step_at(file, place);
         let Step::Gives(r, next) = out else {
-            print_stop(rt, t, out)?;
-            return Ok(());
+            return print_stop(rt, t, out);
         };
-        t = counted(t, r);
+        t.count(r);
         place = next;
-        turns += 1;
     }
     Ok(())
 }

@@ -25,14 +25,7 @@ const OLD: u8 = 255;
 // ---- printing
 
 fn print_kept(rt: &impl Print, out: &[u8]) -> io::Result<()> {
-    let mut kept: usize = 0;
-    let mut i: usize = 0;
-    while i < out.len() {
-        if out[i] == OLD {
-            kept += 1;
-        }
-        i += 1;
-    }
+    let kept = out.iter().filter(|byte| **byte == OLD).count();
     print(rt, b", kept ")?;
     print_number(rt, kept as u64)?;
     print(rt, b"\n")
@@ -60,14 +53,7 @@ fn print_differing(rt: &impl Print, a: &[u8], b: &[u8]) -> io::Result<()> {
     if b.len() < a.len() {
         return Ok(());
     }
-    let mut differing: usize = 0;
-    let mut i: usize = 0;
-    while i < a.len() {
-        if a[i] != b[i] {
-            differing += 1;
-        }
-        i += 1;
-    }
+    let differing = a.iter().zip(b).filter(|(x, y)| **x != **y).count();
     print(rt, b"  bytes that differ: ")?;
     print_number(rt, differing as u64)?;
     print(rt, b"\n")
@@ -94,13 +80,11 @@ fn unfold(rt: &impl Print, label: &[u8], file: &[u8], out: &mut [u8]) -> io::Res
 }
 
 fn narrow_all(rt: &impl Print, label: &[u8], file: &[u8; WIDE], n: usize) -> io::Result<()> {
-    let mut out = [OLD; ROOM];
-    narrow(rt, label, front(file, n), &mut out)
+    narrow_by(rt, label, file, n, ROOM)
 }
 
 fn unfold_all(rt: &impl Print, label: &[u8], file: &[u8; WIDE], n: usize) -> io::Result<()> {
-    let mut out = [OLD; ROOM];
-    unfold(rt, label, front(file, n), &mut out)
+    unfold_by(rt, label, file, n, ROOM)
 }
 
 // The same with an output of `room` bytes.
@@ -113,10 +97,7 @@ fn widen_by(
     room: usize,
 ) -> io::Result<()> {
     let mut out = [OLD; ROOM];
-    if room <= ROOM {
-        widen(rt, label, front(file, n), &mut out[..room])?;
-    }
-    Ok(())
+    widen(rt, label, front(file, n), &mut out[..room.min(ROOM)])
 }
 
 fn narrow_by(
@@ -127,10 +108,7 @@ fn narrow_by(
     room: usize,
 ) -> io::Result<()> {
     let mut out = [OLD; ROOM];
-    if room <= ROOM {
-        narrow(rt, label, front(file, n), &mut out[..room])?;
-    }
-    Ok(())
+    narrow(rt, label, front(file, n), &mut out[..room.min(ROOM)])
 }
 
 fn unfold_by(
@@ -141,10 +119,7 @@ fn unfold_by(
     room: usize,
 ) -> io::Result<()> {
     let mut out = [OLD; ROOM];
-    if room <= ROOM {
-        unfold(rt, label, front(file, n), &mut out[..room])?;
-    }
-    Ok(())
+    unfold(rt, label, front(file, n), &mut out[..room.min(ROOM)])
 }
 
 // ---- making files of sixteen-byte records
@@ -184,21 +159,18 @@ fn unfold_two(rt: &impl Print, label: &[u8], r: WideRecord, s: WideRecord) -> io
 
 // Stores a rule with an empty body for each of the first `n` procedures.
 fn put_procedures(file: &mut [u8; WIDE], n: u8) {
-    let mut i: u8 = 0;
-    while i < n {
+    for i in 0..n {
         put(
             file,
-            i as usize,
+            usize::from(i),
             [1, i, 0, 0, 0, 0, 0, 0, 0, 0, 0, 0, 0, 0, 0, 0],
         );
-        i += 1;
     }
 }
 
 // Stores `n` rules of one step code each, 128 for each procedure from 0 on.
 fn put_rules(file: &mut [u8; WIDE], n: usize) {
-    let mut i: usize = 0;
-    while i < n {
+    for i in 0..n {
         let head = (i / 128 % 64) as u8;
         let code = (i % 128) as u8;
         put(
@@ -206,7 +178,6 @@ fn put_rules(file: &mut [u8; WIDE], n: usize) {
             i,
             [1, head, 1, code, 0, 0, 0, 0, 0, 0, 0, 0, 0, 0, 0, 0],
         );
-        i += 1;
     }
 }
 

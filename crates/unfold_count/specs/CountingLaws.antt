@@ -1,5 +1,5 @@
 -- The counts are those of the file's rules. Assumes nothing.
-use Rattle.std.specs.Prelude.{◌≡◌, Bool, true, false, cond, List, [], ◌∷◌, map, ℕ, suc, ◌+◌, ◌-◌, ◌/◌, ◌≤◌, ◌<◌, max, length, drop, get_or}
+use Rattle.std.specs.Prelude.{◌≡◌, Bool, true, false, cond, List, [], ◌∷◌, map, ℕ, suc, ◌+◌, ◌-◌, ◌/◌, ◌≤◌, ◌<◌, max, length, drop, get_or, fold, refl}
 use Rattle.std.proofs.Common.{◌∙◌, add-one, arith, length-take, length-drop, lt-ltb, le-ltb}
 use Rattle.spec_file.specs.Forms.{sixteen}
 use Rattle.spec_file.specs.Records.{record_in, rule_kind}
@@ -24,6 +24,12 @@ module _ (r : List ℕ) (m j end : ℕ) where
   pub body_ended : end ≤ j → above_body above_byte m (part j end r) ≡ m
   unfolding above_body
   body_ended h = rw (part_end r j end h)
+
+-- the greatest, as the fold that goes through the body
+pub above-fold : (m : ℕ) (ss : List ℕ) → fold (λ top s. max top (above_byte s)) m ss ≡ above_body above_byte m ss
+unfolding above_body
+above-fold m [] = refl
+above-fold m (s ∷ ss) = above-fold (max m (above_byte s)) ss
 
 pub above_low : (b : ℕ) → b < 128 → 0 ≡ above_byte b
 above_low b h = rw (lt-ltb b 128 h)

@@ -3,7 +3,7 @@
 // record's bytes); their laws are in CountingLaws and PartLaws.
 #![tactic(auto)]
 
-ghost use Rattle.std.specs.Prelude.{◌≡◌, ◌+◌, ◌*◌, ◌≤◌, ◌<◌, ◌^◌, ◌/◌, max, length};
+ghost use Rattle.std.specs.Prelude.{◌≡◌, ◌+◌, ◌*◌, ◌≤◌, ◌<◌, ◌^◌, ◌/◌, length};
 ghost use Rattle.spec_records.specs.Blocks.{records_of};
 ghost use Rattle.spec_records.specs.OnRecords.{body_in};
 ghost use Rattle.spec_unfold.specs.Chains.{chains_for, above_body};
@@ -22,36 +22,18 @@ pub struct Needed {
     pub rules: usize,
 }
 
-// Returns the larger of `a` and `b`.
-fn larger(a: usize, b: usize) -> usize
-    ensures { result ≡ max a b }
-{
-    if a < b {
-        return b;
-    }
-    a
-}
-
 // Returns the place behind the body of the rule `r`, which is within the record.
 pub fn body_end(r: WideRecord) -> usize
     ensures { (3 ≤ result) × (result ≤ 16) × (part 3 result r ≡ body_in r) }
 {
-    let end = r[2] as usize + 3;
-    if end < WIDTH {
-        return end;
-    }
-    WIDTH
+    WIDTH.min(r[2] as usize + 3)
 }
 
 // Returns how many chain procedures the rule `r` takes: one for each symbol of its body past the second.
 pub fn chains_for(r: WideRecord) -> usize
     ensures { (result ≡ chains_for (byte_rule r)) × (result ≤ 11) }
 {
-    let end = body_end(r);
-    if end < 5 {
-        return 0;
-    }
-    end - 5
+    body_end(r).saturating_sub(5)
 }
 
 // Returns the first number above the nonterminal of the symbol `b`, and 0 for a terminal.
@@ -68,14 +50,9 @@ fn above_byte(b: u8) -> usize
 fn above_body(r: WideRecord, m: usize) -> usize
     ensures { result ≡ above_body above_byte m (body_in r) }
 {
-    let end = body_end(r);
-    let mut top = m;
-    let mut j: usize = 3;
-    while j < end {
-        top = larger(top, above_byte(r[j]));
-        j += 1;
-    }
-    top
+    let body = &r[3..body_end(r)];
+    body.iter()
+        .fold(m, |top, symbol| top.max(above_byte(*symbol)))
 }
 
 // Returns the counts `t` with the record `r`: a rule's head and symbols are in use, and it takes its chain procedures.
@@ -87,7 +64,7 @@ fn with_record(t: Needed, r: WideRecord) -> Needed
         return t;
     }
     let above_head = r[1] as usize + 1;
-    let first = above_body(r, larger(t.first, above_head));
+    let first = above_body(r, t.first.max(above_head));
     let chains = t.chains + chains_for(r);
     let rules = t.rules + 1;
     Needed {
@@ -101,16 +78,13 @@ fn with_record(t: Needed, r: WideRecord) -> Needed
 pub fn count_file(file: &[u8], least: usize) -> Needed
     ensures { (result ≡ with_records (none_yet least) (records_of 16 file.now)) × (result.chains ≤ length file.now / 16 * 11) × (result.rules ≤ length file.now / 16) }
 {
-    let n = file.len() / WIDTH;
     let mut t = Needed {
         first: least,
         chains: 0,
         rules: 0,
     };
-    let mut i: usize = 0;
-    while i < n {
+    for i in 0..file.len() / WIDTH {
         t = with_record(t, file_wide::record_at(file, i));
-        i += 1;
     }
     t
 }

@@ -10,10 +10,11 @@ use Rattle.spec_calls.specs.Checking.{journal_limit}
 use Rattle.spec_calls.specs.declared.Options.{Options}
 use Rattle.spec_calls.specs.declared.Row.{Row}
 use Rattle.call_check.specs.Clauses.{Checks}
-use Rattle.call_check.specs.declared.Checked.{Checked}
+use Rattle.std.specs.declared.result.Result.{Result}
+use Rattle.spec_file.specs.declared.Refusal.{Refusal as Refused}
+use Rattle.search_laws.specs.declared.Answer.{Answer as Answered}
 use Rattle.call_write.specs.Answers.{writing_of}
 use Rattle.call_write.specs.Clauses.{Writes}
-use Rattle.call_write.specs.declared.Writing.{Writing}
 use Rattle.host_result.specs.Fronts.{front_of, place_of, name_in}
 use Rattle.host_result.specs.Results.{told_by}
 use Rattle.host_result.specs.declared.CheckResult.{CheckResult}
@@ -24,9 +25,9 @@ use Rattle.host_check.proofs.check_and_write.Goals as goal
 
 -- xs: the array before the check. n: the rows lent. zs: these after it
 told : (bs : List ℕ) (rows : ℕ) (x : Row) (o : Options) (p : ℕ) (old new : List ℕ) (xs : Journal) → xs ≡ replicate journal_limit x → (n : ℕ) → (n ≡ front_of rows) × (n ≤ journal_limit)
-    → (zs : Journal) → length zs ≡ length (take n xs) → (a : Checked) → Checks bs o (take n xs) zs a
+    → (zs : Journal) → length zs ≡ length (take n xs) → (a : Result Answered Refused) → Checks bs o (take n xs) zs a
     → (d : RowToWrite) → d ≡ name_in a (length bs) → (i : ℕ) → i ≡ place_of d.row → (k : ℕ) → (k ≡ place_of p) × (k < journal_limit)
-    → (w : Writing) → Writes (take d.bytes bs) (map row_of (take n (zs ++ drop n xs))) d.used d.row old new w
+    → (w : Result ℕ Refused) → Writes (take d.bytes bs) (map row_of (take n (zs ++ drop n xs))) d.used d.row old new w
     → (r : CheckResult) → r ≡ told_by a (get_or (zs ++ drop n xs) i blank) (get_or (zs ++ drop n xs) k blank) (refused_by (writing_of w)) → ChecksAlone bs rows x o p old new r
 told bs rows x o p old new xs e n en zs ez a ea d ed i ei k ek w ew r er =
     let long : length xs ≡ journal_limit = ap length e ∙ length-replicate journal_limit x in

@@ -2,12 +2,9 @@
 use Rattle.std.proofs.Common.{arith}
 use Rattle.host_input.specs.HeldLaws.{held_on, held-over}
 use Rattle.host_input.proofs.held.Goals as goal
-use Rattle.host_input.proofs.held.Goals.{then-at-lt-HELD+else-got-at, else-at-lt-HELD}
 
-pub returns-then-got-at-clause-count : goal.returns-then-got-at-clause-count
-returns-then-got-at-clause-count c = λ n e. held_on c.args.at c.args.got n (omega arith) (omega arith) e
+pub returns-then-got-saturating_sub-clause-count : goal.returns-then-got-saturating_sub-clause-count
+returns-then-got-saturating_sub-clause-count c = λ n e. held_on c.args.at c.args.got n (omega arith) (omega arith) e
 
 pub returns-clause-count : goal.returns-clause-count
-returns-clause-count c =
-    λ n e. held-over c.args.at c.args.got n
-    (λ a. elim c.if-at-lt-HELD.branch [ then-at-lt-HELD+else-got-at w ↦ omega arith | else-at-lt-HELD w ↦ omega arith ]) e
+returns-clause-count c = λ n e. held-over c.args.at c.args.got n (λ a. omega arith) e

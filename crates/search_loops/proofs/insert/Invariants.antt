@@ -6,8 +6,8 @@ use Rattle.search_rows.specs.Meanings.{candidate_of}
 use Rattle.search_retire.specs.Clearing.{InClearing, clears_left}
 use Rattle.search_loops.proofs.insert.Given as goal
 
-abbrev pub invariant-loop-cursor : goal.invariant-loop-cursor
-invariant-loop-cursor l = InClearing contained row_of blank l.state.terms.pass (candidate_of l.candidate) l.state.counts.used l.fn.found l.fn.journal l.fn.table l.cursor l.journal l.table
+abbrev pub invariant-loop-next : goal.invariant-loop-next
+invariant-loop-next l = InClearing contained row_of blank l.state.terms.pass (candidate_of l.candidate) l.state.counts.used l.fn.found l.fn.journal l.fn.table l.next l.journal l.table
 
-abbrev pub decreases-loop-cursor : goal.decreases-loop-cursor
-decreases-loop-cursor l = clears_left l.cursor
+abbrev pub decreases-loop-next : goal.decreases-loop-next
+decreases-loop-next l = clears_left l.next

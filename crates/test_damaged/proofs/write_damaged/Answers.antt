@@ -7,9 +7,10 @@ use Rattle.spec_calls.specs.Checking.{journal_limit}
 use Rattle.spec_calls.specs.declared.Options.{Options}
 use Rattle.spec_calls.specs.declared.Row.{Row}
 use Rattle.call_check.specs.Clauses.{Checks}
-use Rattle.call_check.specs.declared.Checked.{Checked}
+use Rattle.std.specs.declared.result.Result.{Result}
+use Rattle.spec_file.specs.declared.Refusal.{Refusal as Refused}
+use Rattle.search_laws.specs.declared.Answer.{Answer as Answered}
 use Rattle.call_write.specs.Clauses.{Writes}
-use Rattle.call_write.specs.declared.Writing.{Writing}
 use Rattle.host_result.specs.Fronts.{front_of, place_of}
 use Rattle.test_damaged.specs.Clauses.{WritesDamaged}
 use Rattle.test_damaged.specs.Laws.{written-damaged}
@@ -17,8 +18,8 @@ use Rattle.test_damaged.proofs.write_damaged.Goals as goal
 
 -- xs: the array before the check. n: the rows lent. zs: these after it
 stored : (bs : List ℕ) (rows : ℕ) (o : Options) (place : ℕ) (x : Row) (u k : ℕ) (old new : List ℕ) (xs : Journal) → xs ≡ replicate journal_limit x
-    → (n : ℕ) → (n ≡ front_of rows) × (n ≤ journal_limit) → (zs : Journal) → length zs ≡ length (take n xs) → (a : Checked) → Checks bs o (take n xs) zs a
-    → (j : ℕ) → j ≡ place_of place → (w : Writing) → Writes bs (map row_of (take n (set (zs ++ drop n xs) j x))) u k old new w → WritesDamaged bs rows o place x u k old new w
+    → (n : ℕ) → (n ≡ front_of rows) × (n ≤ journal_limit) → (zs : Journal) → length zs ≡ length (take n xs) → (a : Result Answered Refused) → Checks bs o (take n xs) zs a
+    → (j : ℕ) → j ≡ place_of place → (w : Result ℕ Refused) → Writes bs (map row_of (take n (set (zs ++ drop n xs) j x))) u k old new w → WritesDamaged bs rows o place x u k old new w
 stored bs rows o place x u k old new xs e n en zs ez =
     let long : length xs ≡ journal_limit = ap length e ∙ length-replicate journal_limit x in
     written-damaged bs rows o place x u k old new xs e n en zs (ez ∙ length-take-le n xs (omega (arith, en.1)))

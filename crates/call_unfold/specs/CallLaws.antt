@@ -4,6 +4,8 @@ use Rattle.std.proofs.Math.Path.{sym, ap₂}
 use Rattle.std.proofs.Common.{ap, ◌∙◌, subst, arith}
 use borrow.Author.Tests.{ltb-false}
 use Rattle.spec_basics.specs.Tests.{or-neither}
+use Rattle.std.specs.declared.result.Result.{Result}
+use Rattle.spec_file.specs.declared.Refusal.{Refusal}
 use Rattle.spec_file.specs.Forms.{sixteen}
 use Rattle.spec_file.specs.Limits.{rule_limit, nonterminals}
 use Rattle.spec_file.specs.Refusals.{refuse, fault_in, first_of}
@@ -20,7 +22,6 @@ use Rattle.spec_unfold.specs.Calls.{output_fault, chain_fault, unfold_refusals, 
 use Rattle.spec_unfold.proofs.CallLaws.{unfold-answers}
 use Rattle.spec_unfold.specs.UnfoldingMeans.{UnfoldMeans}
 use Rattle.spec_unfold.proofs.UnfoldingTruth.{unfold-means}
-use Rattle.call_move.specs.declared.Moved.{Moved}
 use Rattle.call_move.specs.Answers.{moved_of}
 use Rattle.call_move.specs.ReplyLaws.{Replied}
 use Rattle.unfold_count.specs.declared.Needed.{Needed}
@@ -104,7 +105,7 @@ pub file-refuses : (least : ℕ) (bs : List ℕ) (room : ℕ) → ((fault_in six
 file-refuses least bs room n =
     sym (number-some (fault_in sixteen bs) (first_of (refuse (chain_fault least bs) 0 ∷ refuse (output_fault (unfolded_file least bs) room) 0 ∷ [])) (fault_in sixteen bs).number n)
 
-pub unfolds : (least : ℕ) (bs old new : List ℕ) (r : Moved) → Replied (unfold_refusals least bs (length old)) (unfolded_file least bs) old (moved_of r) new → Unfolds least bs old new r
+pub unfolds : (least : ℕ) (bs old new : List ℕ) (r : Result ℕ Refusal) → Replied (unfold_refusals least bs (length old)) (unfolded_file least bs) old (moved_of r) new → Unfolds least bs old new r
 unfolding unfold_of unfold_after
 unfolds least bs old new r p =
     let a : moved_of r ≡ unfold_of least bs (length old) = p.answer in
@@ -116,5 +117,5 @@ unfolds least bs old new r p =
     }
 
 -- the same call, with the least number under another name
-pub unfolds-at : {m n : ℕ} {bs old new : List ℕ} {r : Moved} → m ≡ n → Unfolds m bs old new r → Unfolds n bs old new r
+pub unfolds-at : {m n : ℕ} {bs old new : List ℕ} {r : Result ℕ Refusal} → m ≡ n → Unfolds m bs old new r → Unfolds n bs old new r
 unfolds-at {m} {n} {bs} {old} {new} {r} e h = subst (λ (k : ℕ). Unfolds k bs old new r) e h

@@ -4,10 +4,10 @@
 // CallLaws.
 #![tactic(auto)]
 
-ghost use Rattle.std.specs.Prelude.{◌≡◌, map, ◌*◌, ◌≤◌, length, take};
-ghost use Rattle.spec_file.specs.Answers.{refusal_of};
+ghost use Rattle.std.specs.Prelude.{◌≡◌, map, ◌*◌, ◌≤◌, length};
+ghost use Rattle.spec_file.specs.Answers.{tested_of};
 ghost use Rattle.spec_file.specs.Forms.{sixteen};
-ghost use Rattle.spec_file.specs.Limits.{rule_limit, nonterminals};
+ghost use Rattle.spec_file.specs.Limits.{nonterminals};
 ghost use Rattle.spec_file.specs.Refusals.{fault_in, first_of};
 ghost use Rattle.spec_records.specs.Blocks.{bytes_of};
 ghost use Rattle.call_move.specs.Fronts.{over};
@@ -16,24 +16,22 @@ ghost use Rattle.spec_unfold.specs.Unfolding.{least_for};
 ghost use Rattle.call_unfold.specs.Answers.{Unfolds};
 ghost use Rattle.call_unfold.specs.Results.{unfolded_bytes, Fits, needed_bytes, needed_refusals, Bounded};
 
-use call_move::Moved;
 use file_wide_checks::WIDTH;
-use spec_file::{NONTERMINALS, RULE_LIMIT, Refusal};
+use spec_file::{Fault, NONTERMINALS, RULE_LIMIT, Refusal, refuse_if};
 use unfold_count::Needed;
 use unfold_order::Keys;
 
 // ---- writing
 
-// Writes the records of which the first `count` of `keys` are the numbers to the front of `out`.
-fn put_rules(keys: &Keys, count: usize, out: &mut [u8])
-    requires { (count ≤ rule_limit) × (count * 8 ≤ length out.old) × (length keys.now ≡ rule_limit) }
-    ensures { out.new ≡ over (bytes_of (map (digits_of 256 8) (take count keys.now))) out.old }
+// Writes the records of which `keys` are the numbers to the front of `out`.
+fn put_rules(keys: &[u64], out: &mut [u8])
+    requires { length keys.now * 8 ≤ length out.old }
+    ensures { out.new ≡ over (bytes_of (map (digits_of 256 8) keys.now)) out.old }
 {
-    let mut i: usize = 0;
-    while i < count {
-        let r = unfold_order::record_of(keys[i]);
+    // The records of the keys before `key` are written, and the bytes behind them are the old ones.
+    for (i, key) in keys.iter().enumerate() {
+        let r = unfold_order::record_of(*key);
         call_move::put(out, i * 8, &r);
-        i += 1;
     }
 }
 
@@ -45,7 +43,7 @@ fn put_unfolded(file: &[u8], first: usize, rules: usize, out: &mut [u8])
 {
     let mut keys: Keys = [0u64; RULE_LIMIT];
     let count = unfold_chains::add_rules(file, first, &mut keys);
-    put_rules(&keys, count, out);
+    put_rules(&keys[..count], out);
     let from = rules * WIDTH;
     let at = count * 8;
     call_move::put_narrower(&file[from..], &mut out[at..]);
@@ -62,72 +60,55 @@ fn result_bytes(t: Needed, records: usize) -> usize
     (records + t.chains) * 8
 }
 
-// Returns the first refusal of unfolding a file of `records` records, of which the rules need `t`, to an output of `room` bytes: 18 for a
-// procedure or a rule too many, then 10 for too little room. Number 0: none.
-fn refusal_for(t: Needed, records: usize, room: usize) -> Refusal
+// Refuses to unfold a file of `records` records, of which the rules need `t`, to an output of `room` bytes: with 18 for a procedure or a rule
+// too many, then with 10 for too little room.
+fn refusal_for(t: Needed, records: usize, room: usize) -> Result<(), Refusal>
     requires { Bounded t records }
-    ensures { refusal_of result ≡ first_of (needed_refusals t records room) }
+    ensures { tested_of result ≡ first_of (needed_refusals t records room) }
 {
     let procedures = t.first + t.chains;
     let rules = t.rules + t.chains;
-    let of_chains = Refusal::when(
-        18,
-        ((NONTERMINALS as usize) < procedures) | (RULE_LIMIT < rules),
-    );
-    let of_room = Refusal::when(10, room < result_bytes(t, records));
-    of_chains.or(of_room)
+    let many = ((NONTERMINALS as usize) < procedures) | (RULE_LIMIT < rules);
+    refuse_if(many, Fault::TooManyChains)?;
+    refuse_if(room < result_bytes(t, records), Fault::NoRoom)?;
+    Ok(())
 }
 
 // ---- the call
 
 // Unfolds `file`, which no file check refuses, to the front of `out`; the chain procedures are not to be below `least`.
-fn unfold_passed(file: &[u8], least: usize, out: &mut [u8]) -> Moved
+fn unfold_passed(file: &[u8], least: usize, out: &mut [u8]) -> Result<usize, Refusal>
     requires { ((fault_in sixteen file.now).number ≡ 0) × (least ≤ nonterminals) }
     ensures { Unfolds least file.now out.old out.new result }
 {
     let records = file.len() / WIDTH;
     let t = unfold_count::count_file(file, least);
-    let refusal = refusal_for(t, records, out.len());
-    if refusal.number != 0 {
-        return Moved::Refused(refusal);
-    }
+    refusal_for(t, records, out.len())?;
     put_unfolded(file, t.first, t.rules, out);
-    Moved::Length(result_bytes(t, records))
+    Ok(result_bytes(t, records))
 }
 
 // Returns one above the highest procedure of the set `starts`, and 0 where it has none: the least number that a chain procedure may have.
 fn least_for(starts: u64) -> usize
     ensures { (result ≡ least_for starts) × (result ≤ nonterminals) }
 {
-    let mut least: usize = 0;
-    let mut p: u8 = 0;
-    while p < NONTERMINALS {
+    let mut least = 0;
+    // `least` is one above the highest procedure of the set below `p`.
+    for p in 0..NONTERMINALS {
         if spec_calls::is_member(starts, p) {
             least = p as usize + 1;
         }
-        p += 1;
     }
     least
 }
 
-// Unfolds `file` to the front of `out`, where the chain procedures are not to be below `least`.
-fn unfold_from(file: &[u8], least: usize, out: &mut [u8]) -> Moved
-    requires { least ≤ nonterminals }
-    ensures { Unfolds least file.now out.old out.new result }
-{
-    let refusal = file_wide::file_refusal(file);
-    if refusal.number != 0 {
-        return Moved::Refused(refusal);
-    }
-    unfold_passed(file, least, out)
-}
-
 // Unfolds `file`, of sixteen-byte records, into a file of eight-byte records at the front of `out`, for a check of the set `starts` of starting
-// procedures: none of them becomes a chain procedure. Returns the result's length. The other bytes of `out` keep their values; a refused call
-// leaves all of them.
-pub fn unfold(file: &[u8], starts: u64, out: &mut [u8]) -> Moved
+// procedures: none of them becomes a chain procedure. Returns the result's length in bytes. The other bytes of `out` keep their values. A
+// refusal has one of a file's numbers, or 10 or 18; a refused call leaves all bytes.
+pub fn unfold(file: &[u8], starts: u64, out: &mut [u8]) -> Result<usize, Refusal>
     ensures { Unfolds (least_for starts) file.now out.old out.new result }
 {
     let least = least_for(starts);
-    unfold_from(file, least, out)
+    file_wide::file_refusal(file)?;
+    unfold_passed(file, least, out)
 }

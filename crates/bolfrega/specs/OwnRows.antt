@@ -77,8 +77,8 @@ told-run x y q = let e = ap writing_of (sym q) in record { code = ap (code_by wr
 
 -- what is told so
 pub run-told : (x : Result ℕ Refused) (r i n : ℕ) → ToldSize written_code x r i n → ToldRun (writing_of x) r i n
-run-told (Ok k) r i n t = record { code = t.told.0; place = t.told.1.0; size = t.told.1.1 }
-run-told (Err y) r i n t = record { code = t.told.0; place = t.told.1.0; size = t.told.1.1 }
+run-told (Ok k) r i n t = record { code = t.told.0; place = t.told.1; size = t.told.2 }
+run-told (Err y) r i n t = record { code = t.told.0; place = t.told.1; size = t.told.2 }
 
 pub writes-run : (bs : List ℕ) (rows : Journal) (used k : ℕ) (old new : List ℕ) (x : Result ℕ Refused) → Writes bs (map row_of rows) used k old new x → (r i n : ℕ) → ToldRun (writing_of x) r i n → WritesRun bs rows used k old new r i n
 writes-run bs rows used k old new x w r i n t = record { told = subst (λ (y : Reply ℕ). ToldRun y r i n) w.answer t; buffer = w.buffer; meaning = w.meaning }

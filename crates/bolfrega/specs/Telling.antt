@@ -71,15 +71,15 @@ lists-gaps bs old new x y j q =
 
 -- a list that is told so
 pub lists-told : (bs old new : List ℕ) (x : Result ℕ RefusalAnswer) → Lists bs old new x → (r i n : ℕ) → ToldSize listed_code x r i n → ListsGaps bs old new r i n
-lists-told bs old new (Ok k) j r i n t = lists-gaps-by bs old new (Ok k) j r i n t.told.0 t.told.1.0 t.told.1.1
-lists-told bs old new (Err y) j r i n t = lists-gaps-by bs old new (Err y) j r i n t.told.0 t.told.1.0 t.told.1.1
+lists-told bs old new (Ok k) j r i n t = lists-gaps-by bs old new (Ok k) j r i n t.told.0 t.told.1 t.told.2
+lists-told bs old new (Err y) j r i n t = lists-gaps-by bs old new (Err y) j r i n t.told.0 t.told.1 t.told.2
 
 -- ---- a file that is converted
 
 -- what is told so
 pub move-told : (x : Result ℕ RefusalAnswer) (r i n : ℕ) → ToldSize converted_code x r i n → ToldMove (moved_of x) r i n
-move-told (Ok k) r i n t = record { code = t.told.0; place = t.told.1.0; size = t.told.1.1 }
-move-told (Err y) r i n t = record { code = t.told.0; place = t.told.1.0; size = t.told.1.1 }
+move-told (Ok k) r i n t = record { code = t.told.0; place = t.told.1; size = t.told.2 }
+move-told (Err y) r i n t = record { code = t.told.0; place = t.told.1; size = t.told.2 }
 
 -- the answer x, which is y
 pub told_move : (x y : Result ℕ RefusalAnswer) → x ≡ y → ToldMove (moved_of x) (code_by conversion_code (moved_of y)) (place_in (moved_of y)) (size_in (moved_of y))

@@ -213,10 +213,10 @@ fn tell_size(answer: Result<usize, Refusal>, code: u64, place: &mut u64, size: &
             *size = n as u64;
             code
         }
-        Err(refused) => {
-            *place = refused.place as u64;
+        Err(why) => {
+            *place = why.place as u64;
             *size = 0;
-            refused.fault.number()
+            why.fault.number()
         }
     }
 }

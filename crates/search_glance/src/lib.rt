@@ -156,7 +156,7 @@ fn over_known(
     let mut covers = tried.covers;
     let mut slot = tried.slot;
     // The candidates of the rights before `right` are known to be covered, and counted in `joins`; `effect` is that of its own candidate, of which
-    // `covers` and `slot` are what the hints say; `next` comes after it.
+    // `covers` and `slot` are what the hints say; `next` comes after it. (What ends the loop was found by the turn before, so this is no `for`.)
     while may_pass(terms, joins, covers, next) {
         joins += 1;
         right = next;

@@ -125,13 +125,7 @@ fn list_span(lists: &[u32], old: usize, x: usize) -> Span
     ensures { Spans old lists.now (some (nonterminal x)) result }
 {
     let first = search_order::position(lists[FIRSTS + x]);
-    if PROCEDURES <= x {
-        return alone(first);
-    }
-    if old <= first {
-        return alone(first);
-    }
-    if old <= search_order::after(lists, first) {
+    if PROCEDURES <= x || old <= first || old <= search_order::after(lists, first) {
         return alone(first);
     }
     let steps = number(lists[STEPS + x]);

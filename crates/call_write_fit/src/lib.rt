@@ -17,11 +17,7 @@ use spec_file::TERMINALS;
 fn lower(pointer: u64, i: usize) -> usize
     ensures { result ≡ lower_of pointer i }
 {
-    let named = pointer as usize;
-    if named < i {
-        return named;
-    }
-    i
+    i.min(pointer as usize)
 }
 
 // Tests the `pointer` of `symbol` in row `i`: at a terminal it is ABSENT, at a nonterminal a lower row of that nonterminal. `named` is the row
@@ -90,7 +86,8 @@ fn row_fits(rules: &[[u8; 4]], i: usize, row: Row, left: Row, right: Row) -> boo
     false
 }
 
-// The test so far: `fits` says whether all rows tested fit, and `len` is the length in the last of them.
+// The test so far: `fits` says whether all rows tested fit, and `len` is the length in the last of them. No `Option`: `rows_fit` promises the
+// length also where a row does not fit.
 #[derive(Clone, Copy)]
 pub struct Fit {
     pub fits: bool,
@@ -116,15 +113,10 @@ pub fn rows_fit(journal: &[Row], rules: &[[u8; 4]], rows: usize) -> Fit
         × (result.len ≡ last_len (map row_of journal.now) rows) }
 {
     let mut fit = Fit { fits: true, len: 0 };
-    let mut i: usize = 0;
-    while i < rows {
-        let row = journal[i];
-        let l = lower(row.left, i);
-        let left = journal[l];
-        let r = lower(row.right, i);
-        let right = journal[r];
-        fit = fit_after(fit, rules, i, row, left, right);
-        i += 1;
+    for (i, row) in journal[..rows].iter().enumerate() {
+        let left = journal[lower(row.left, i)];
+        let right = journal[lower(row.right, i)];
+        fit = fit_after(fit, rules, i, *row, left, right);
     }
     fit
 }

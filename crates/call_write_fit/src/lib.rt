@@ -2,7 +2,7 @@
 // rows by value. A rule is four bytes: its head, its body's length, its two symbols.
 #![tactic(auto)]
 
-ghost use Rattle.std.specs.Prelude.{◌&&◌, ◌≡◌, eqb, map, ◌≤◌, length};
+ghost use Rattle.std.specs.Prelude.{◌&&◌, ◌≡◌, map, ◌≤◌, length};
 ghost use Rattle.spec_file.specs.Views.{symbol_of};
 ghost use Rattle.spec_order.specs.Fitting.{all_rows_fit};
 ghost use Rattle.spec_file.specs.Entries.{entry_of};
@@ -17,11 +17,7 @@ use spec_file::TERMINALS;
 fn lower(pointer: u64, i: usize) -> usize
     ensures { result ≡ lower_of pointer i }
 {
-    let named = pointer as usize;
-    if named < i {
-        return named;
-    }
-    i
+    i.min(pointer as usize)
 }
 
 // Tests the `pointer` of `symbol` in row `i`: at a terminal it is ABSENT, at a nonterminal a lower row of that nonterminal. `named` is the row
@@ -54,27 +50,22 @@ fn symbol_length(symbol: u8, named: Row) -> u64
 fn body_fits(i: usize, rule: [u8; 4], row: Row, left: Row, right: Row) -> bool
     ensures { result ≡ body_by i (entry_of rule).body (row_of row) (row_of left) (row_of right) }
 {
-    let symbols = rule[1];
-    if symbols == 0 {
-        return ((row.left == ABSENT) & (row.right == ABSENT)) & (row.len == 0);
+    let [_, size, a, b] = rule;
+    match size {
+        0 => ((row.left == ABSENT) & (row.right == ABSENT)) & (row.len == 0),
+        1 => {
+            let first = pointer_fits(i, a, row.left, left);
+            let n = symbol_length(a, left);
+            (first & (row.right == ABSENT)) & (row.len == spec_calls::capped_sum(n, 0))
+        }
+        _ => {
+            let first = pointer_fits(i, a, row.left, left);
+            let second = pointer_fits(i, b, row.right, right);
+            let n = symbol_length(a, left);
+            let m = symbol_length(b, right);
+            (first & second) & (row.len == spec_calls::capped_sum(n, m))
+        }
     }
-    let a = rule[2];
-    let first = pointer_fits(i, a, row.left, left);
-    let n = symbol_length(a, left);
-    if symbols == 1 {
-        return (first & (row.right == ABSENT)) & (row.len == spec_calls::capped_sum(n, 0));
-    }
-    let b = rule[3];
-    let second = pointer_fits(i, b, row.right, right);
-    let m = symbol_length(b, right);
-    (first & second) & (row.len == spec_calls::capped_sum(n, m))
-}
-
-// Compares the `head` of a rule with a row's `nonterminal`, which is wider.
-fn of_head(head: u8, nonterminal: u64) -> bool
-    ensures { result ≡ eqb head nonterminal }
-{
-    head as u64 == nonterminal
 }
 
 // Tests `row`, which is row `i`: its rule is there and has its head, and its body fits. `left` and `right` are the rows that its pointers
@@ -82,15 +73,14 @@ fn of_head(head: u8, nonterminal: u64) -> bool
 fn row_fits(rules: &[[u8; 4]], i: usize, row: Row, left: Row, right: Row) -> bool
     ensures { result ≡ row_by (map entry_of rules.now) i (row_of row) (row_of left) (row_of right) }
 {
-    let k = row.rule as usize;
-    if k < rules.len() {
-        let rule = rules[k];
-        return of_head(rule[0], row.head) & body_fits(i, rule, row, left, right);
+    match rules.get(row.rule as usize) {
+        Some(rule) => (u64::from(rule[0]) == row.head) & body_fits(i, *rule, row, left, right),
+        None => false,
     }
-    false
 }
 
-// The test so far: `fits` says whether all rows tested fit, and `len` is the length in the last of them.
+// The test so far: `fits` says whether all rows tested fit, and `len` is the length in the last of them. No `Option`: `rows_fit` promises the
+// length also where a row does not fit.
 #[derive(Clone, Copy)]
 pub struct Fit {
     pub fits: bool,
@@ -116,15 +106,10 @@ pub fn rows_fit(journal: &[Row], rules: &[[u8; 4]], rows: usize) -> Fit
         × (result.len ≡ last_len (map row_of journal.now) rows) }
 {
     let mut fit = Fit { fits: true, len: 0 };
-    let mut i: usize = 0;
-    while i < rows {
-        let row = journal[i];
-        let l = lower(row.left, i);
-        let left = journal[l];
-        let r = lower(row.right, i);
-        let right = journal[r];
-        fit = fit_after(fit, rules, i, row, left, right);
-        i += 1;
+    for (i, row) in journal[..rows].iter().enumerate() {
+        let left = journal[lower(row.left, i)];
+        let right = journal[lower(row.right, i)];
+        fit = fit_after(fit, rules, i, *row, left, right);
     }
     fit
 }

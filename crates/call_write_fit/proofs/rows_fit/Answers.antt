@@ -1,49 +1,49 @@
 -- A turn of the loop adds row i to the test; a row that is named is inside. Assumes nothing.
-use Rattle.std.proofs.Common.{rules, arith, ◌≡◌, map, ℕ, ◌<◌, length, refl, subst}
+use Rattle.std.proofs.Common.{rules, arith, ◌≡◌, ◌<◌, map, length, refl, take}
+use Rattle.std.proofs.lemmas.List.{get_or-take, length-take-le}
 use Rattle.relation.specs.Representation.{none}
 use Rattle.spec_order.specs.Fitting.{all_rows_fit}
 use Rattle.spec_file.specs.Entries.{entry_of}
-use Rattle.spec_calls.specs.Rows.{row_of}
-use Rattle.call_write_fit.specs.Forms.{no_forms}
-use Rattle.call_write_fit.specs.ByValue.{last_len}
+use Rattle.spec_calls.specs.Rows.{blank}
 use Rattle.call_write_fit.proofs.Turn.{fits_on, len-on, inside}
 use Rattle.call_write_fit.proofs.rows_fit.Goals as goal
 
 pub loop-i-init : goal.loop-i-init
 unfolding all_rows_fit
-loop-i-init c = record { low = omega arith; fits = refl; len = refl }
+loop-i-init c = record { fits = refl; len = refl }
 
-pub bounds-journal-l : goal.bounds-journal-l
-unfolding none
-bounds-journal-l c = inside c.args.journal.now (map entry_of c.args.rules.now) c.loop-i.i c.lower-l.result _ c.lower-l.ensures (omega arith)
+pub bounds-journal-lower : goal.bounds-journal-lower
+bounds-journal-lower c =
+    let tested : length (take c.args.rows c.args.journal.now) ≡ c.args.rows = length-take-le c.args.rows c.args.journal.now c.requires in
+    inside (length c.args.journal.now) c.loop-i.i c.lower.result _ c.lower.ensures (omega arith)
 
-pub offset_bounds-journal-l : goal.offset_bounds-journal-l
-unfolding none
-offset_bounds-journal-l c =
-    let h : c.lower-l.result < length c.args.journal.now = inside c.args.journal.now (map entry_of c.args.rules.now) c.loop-i.i c.lower-l.result _ c.lower-l.ensures (omega arith) in
+pub offset_bounds-journal-lower : goal.offset_bounds-journal-lower
+offset_bounds-journal-lower c =
+    let tested : length (take c.args.rows c.args.journal.now) ≡ c.args.rows = length-take-le c.args.rows c.args.journal.now c.requires in
+    let h : c.lower.result < length c.args.journal.now = inside (length c.args.journal.now) c.loop-i.i c.lower.result _ c.lower.ensures (omega arith) in
     search rules
 
-pub bounds-journal-r : goal.bounds-journal-r
-unfolding none
-bounds-journal-r c = inside c.args.journal.now (map entry_of c.args.rules.now) c.loop-i.i c.lower-r.result _ c.lower-r.ensures (omega arith)
+pub bounds-journal-lower-in-loop-i : goal.bounds-journal-lower-in-loop-i
+bounds-journal-lower-in-loop-i c =
+    let tested : length (take c.args.rows c.args.journal.now) ≡ c.args.rows = length-take-le c.args.rows c.args.journal.now c.requires in
+    inside (length c.args.journal.now) c.loop-i.i c.lower-in-loop-i.result _ c.lower-in-loop-i.ensures (omega arith)
 
-pub offset_bounds-journal-r : goal.offset_bounds-journal-r
-unfolding none
-offset_bounds-journal-r c =
-    let h : c.lower-r.result < length c.args.journal.now = inside c.args.journal.now (map entry_of c.args.rules.now) c.loop-i.i c.lower-r.result _ c.lower-r.ensures (omega arith) in
+pub offset_bounds-journal-lower-in-loop-i : goal.offset_bounds-journal-lower-in-loop-i
+offset_bounds-journal-lower-in-loop-i c =
+    let tested : length (take c.args.rows c.args.journal.now) ≡ c.args.rows = length-take-le c.args.rows c.args.journal.now c.requires in
+    let h : c.lower-in-loop-i.result < length c.args.journal.now =
+    inside (length c.args.journal.now) c.loop-i.i c.lower-in-loop-i.result _ c.lower-in-loop-i.ensures (omega arith) in
     search rules
 
 pub loop-i-preserved : goal.loop-i-preserved
 unfolding none
-loop-i-preserved c = record {
-  low = omega arith;
-  fits = fits_on c.args.journal.now (map entry_of c.args.rules.now) c.loop-i.i c.lower-l.result c.lower-r.result c.lower-l.ensures c.lower-r.ensures c.loop-i.fit.fits _ c.loop-i.invariant.fits c.fit_after-fit.ensures.0;
-  len = len-on c.args.journal.now (map entry_of c.args.rules.now) c.loop-i.i _ c.fit_after-fit.ensures.1;
-}
-
-pub returns : goal.returns
-returns c =
-    let e : c.loop-i.i ≡ c.args.rows = omega arith in (
-      subst (λ (k : ℕ). c.loop-i.fit.fits ≡ all_rows_fit no_forms (map row_of c.args.journal.now) (map entry_of c.args.rules.now) k) e c.loop-i.invariant.fits,
-      subst (λ (k : ℕ). c.loop-i.fit.len ≡ last_len (map row_of c.args.journal.now) k) e c.loop-i.invariant.len,
-    )
+loop-i-preserved c =
+    let J = c.args.journal.now in
+    let rules = map entry_of c.args.rules.now in
+    let l = c.loop-i in
+    let tested : length (take c.args.rows J) ≡ c.args.rows = length-take-le c.args.rows J c.requires in
+    let same = get_or-take c.args.rows J l.i blank (omega arith) in record {
+      fits = fits_on J rules l.i _ same c.lower.result c.lower-in-loop-i.result c.lower.ensures c.lower-in-loop-i.ensures l.fit.fits _ l.invariant.fits
+          c.fit_after-fit.ensures.0;
+      len = len-on J rules l.i _ same _ c.fit_after-fit.ensures.1;
+    }

@@ -1,5 +1,5 @@
 -- The rows below i have been tested, and the length is that of the last of them. Assumes nothing.
-use Rattle.std.proofs.Common.{◌-◌, ◌≡◌, map, ◌≤◌}
+use Rattle.std.proofs.Common.{◌≡◌, map}
 use Rattle.spec_order.specs.Fitting.{all_rows_fit}
 use Rattle.spec_file.specs.Entries.{entry_of}
 use Rattle.spec_calls.specs.Rows.{row_of}
@@ -9,10 +9,6 @@ use Rattle.call_write_fit.proofs.rows_fit.Given as goal
 
 abbrev pub invariant-loop-i : goal.invariant-loop-i
 invariant-loop-i l = record {
-  low : l.i ≤ l.rows;
   fits : l.fit.fits ≡ all_rows_fit no_forms (map row_of l.journal) (map entry_of l.rules) l.i;
   len : l.fit.len ≡ last_len (map row_of l.journal) l.i;
 }
-
-abbrev pub decreases-loop-i : goal.decreases-loop-i
-decreases-loop-i l = l.rows - l.i

@@ -90,7 +90,13 @@ fn long_runs(rt: &impl Print) -> io::Result<()> {
     judge(rt, b"65,535 steps", &file, SHEET, front(&word, 65535))?;
     judge(rt, b"65,536 steps", &file, SHEET, front(&word, 65536))?;
     word[65532] = 3;
-    judge(rt, b"65,533 steps, the last 3", &file, SHEET, front(&word, 65533))?;
+    judge(
+        rt,
+        b"65,533 steps, the last 3",
+        &file,
+        SHEET,
+        front(&word, 65533),
+    )?;
     word[65533] = 128;
     judge(
         rt,
@@ -150,7 +156,13 @@ fn long_runs_on_refused(rt: &impl Print) -> io::Result<()> {
         SAMPLE,
         front(&word, 65535),
     )?;
-    judge(rt, b"65,535 steps on 71 bytes", &file, 71, front(&word, 65535))?;
+    judge(
+        rt,
+        b"65,535 steps on 71 bytes",
+        &file,
+        71,
+        front(&word, 65535),
+    )?;
     judge(
         rt,
         b"65,535 steps on 1,298 records",

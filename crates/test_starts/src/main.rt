@@ -20,9 +20,9 @@ const BUDGET: u64 = 1000000;
 // The set of no procedure, of procedure 63 alone, and of all 64.
 const NONE: u64 = 0;
 
-const LAST: u64 = 9223372036854775808;
+const LAST: u64 = 1 << 63;
 
-const ALL: u64 = 18446744073709551615;
+const ALL: u64 = u64::MAX;
 
 // The bytes of plan A with sheet S.
 const PLAN_A: usize = 64;
@@ -34,22 +34,18 @@ const EACH: usize = 528;
 
 // Prints the verdict with this `code`, or the number that refuses the check.
 fn print_code(rt: &impl Print, code: u64) -> io::Result<()> {
-    if code == HOLDS {
-        print(rt, b"holds ")?;
-    } else if code == BROKEN {
-        print(rt, b"broken ")?;
-    } else if code == FULL {
-        print(rt, b"full ")?;
-    } else if code == SPENT {
-        print(rt, b"spent ")?;
-    } else if code == EMPTY {
-        print(rt, b"empty ")?;
-    } else {
-        print(rt, b"refused ")?;
-        print_number(rt, code)?;
-        print(rt, b", ")?;
+    match code {
+        HOLDS => print(rt, b"holds "),
+        BROKEN => print(rt, b"broken "),
+        FULL => print(rt, b"full "),
+        SPENT => print(rt, b"spent "),
+        EMPTY => print(rt, b"empty "),
+        refusal => {
+            print(rt, b"refused ")?;
+            print_number(rt, refusal)?;
+            print(rt, b", ")
+        }
     }
-    Ok(())
 }
 
 fn print_counts(rt: &impl Print, told: CheckResult) -> io::Result<()> {
@@ -114,19 +110,7 @@ fn check_by(
     print_told(rt, told, &run)
 }
 
-// The same of the first `n` bytes of `file`.
-fn check_front(
-    rt: &impl Print,
-    label: &[u8],
-    file: &[u8; HELD],
-    n: usize,
-    starts: u64,
-    rows: usize,
-    budget: u64,
-) -> io::Result<()> {
-    check_by(rt, label, front(file, n), starts, rows, budget)
-}
-
+// The same of the first `n` bytes of `file`, with the rows and the budget of most checks.
 fn check(
     rt: &impl Print,
     label: &[u8],
@@ -134,7 +118,7 @@ fn check(
     n: usize,
     starts: u64,
 ) -> io::Result<()> {
-    check_front(rt, label, file, n, starts, ROWS, BUDGET)
+    check_by(rt, label, front(file, n), starts, ROWS, BUDGET)
 }
 
 fn unfold(rt: &impl Print, label: &[u8], file: &[u8], starts: u64) -> io::Result<()> {
@@ -183,7 +167,7 @@ fn plan_a_by(
 ) -> io::Result<()> {
     let mut file = [0u8; HELD];
     plan_a(&mut file);
-    check_front(rt, label, &file, PLAN_A, starts, rows, budget)
+    check_by(rt, label, front(&file, PLAN_A), starts, rows, budget)
 }
 
 // Full and spent come before empty and holds.
@@ -212,10 +196,8 @@ fn members_of_plan_b(rt: &impl Print) -> io::Result<()> {
 
 // Stores for each of the first `n` procedures the rule that it gives step 1.
 fn put_procedures(file: &mut [u8; HELD], n: u8) {
-    let mut i: u8 = 0;
-    while i < n {
-        put(file, i as usize, [1, i, 1, 1, 0, 0, 0, 0]);
-        i += 1;
+    for i in 0..n {
+        put(file, usize::from(i), [1, i, 1, 1, 0, 0, 0, 0]);
     }
 }
 

@@ -55,72 +55,52 @@ fn entered(head: u64, rule: u64, left: u64, right: u64, len: u64) -> Row {
     }
 }
 
-// The fields of a row by number, in document 01's order.
-const PROCEDURE: u64 = 0;
-
-const RULE: u64 = 1;
-
-const EFFECT: u64 = 2;
-
-const LEFT: u64 = 3;
-
-const RIGHT: u64 = 4;
-
-const LENGTH: u64 = 5;
-
-const BIRTH: u64 = 6;
-
-const RETIRED: u64 = 7;
-
-fn print_field(rt: &impl Print, field: u64) -> io::Result<()> {
-    if field == PROCEDURE {
-        print(rt, b"procedure ")?;
-    } else if field == RULE {
-        print(rt, b"rule ")?;
-    } else if field == EFFECT {
-        print(rt, b"effect ")?;
-    } else if field == LEFT {
-        print(rt, b"left ")?;
-    } else if field == RIGHT {
-        print(rt, b"right ")?;
-    } else if field == LENGTH {
-        print(rt, b"length ")?;
-    } else if field == BIRTH {
-        print(rt, b"birth ")?;
-    } else {
-        print(rt, b"retired ")?;
-    }
-    Ok(())
+// The fields of a row, in document 01's order.
+#[derive(Clone, Copy)]
+enum Field {
+    Procedure,
+    Rule,
+    Effect,
+    Left,
+    Right,
+    Length,
+    Birth,
+    Retired,
 }
 
-// Returns `x` if the two fields are the same, else `old`.
-fn either(field: u64, other: u64, x: u64, old: u64) -> u64 {
-    if field == other {
-        return x;
+fn print_field(rt: &impl Print, field: Field) -> io::Result<()> {
+    match field {
+        Field::Procedure => print(rt, b"procedure "),
+        Field::Rule => print(rt, b"rule "),
+        Field::Effect => print(rt, b"effect "),
+        Field::Left => print(rt, b"left "),
+        Field::Right => print(rt, b"right "),
+        Field::Length => print(rt, b"length "),
+        Field::Birth => print(rt, b"birth "),
+        Field::Retired => print(rt, b"retired "),
     }
-    old
 }
 
-// Returns the relation of which each word is `x` if `field` is the effect, else `old`.
-fn effect_or(field: u64, x: u64, old: Relation) -> Relation {
-    if field == EFFECT {
-        let words = [x; relation::WORDS];
-        return Relation::read(&words, 0);
-    }
-    old
+// Returns the relation of which each word is `x`.
+fn effect_of(x: u64) -> Relation {
+    let words = [x; relation::WORDS];
+    Relation::read(&words, 0)
 }
 
-// Returns `row` with `x` in the field `field`.
-fn with(row: Row, field: u64, x: u64) -> Row {
-    Row {
-        head: either(field, PROCEDURE, x, row.head),
-        rule: either(field, RULE, x, row.rule),
-        relation: effect_or(field, x, row.relation),
-        left: either(field, LEFT, x, row.left),
-        right: either(field, RIGHT, x, row.right),
-        len: either(field, LENGTH, x, row.len),
-        birth: either(field, BIRTH, x, row.birth),
-        retired: either(field, RETIRED, x, row.retired),
+// Returns `row` with `x` in the field `field`; of an effect each word is `x`.
+fn with(row: Row, field: Field, x: u64) -> Row {
+    match field {
+        Field::Procedure => Row { head: x, ..row },
+        Field::Rule => Row { rule: x, ..row },
+        Field::Effect => Row {
+            relation: effect_of(x),
+            ..row
+        },
+        Field::Left => Row { left: x, ..row },
+        Field::Right => Row { right: x, ..row },
+        Field::Length => Row { len: x, ..row },
+        Field::Birth => Row { birth: x, ..row },
+        Field::Retired => Row { retired: x, ..row },
     }
 }
 
@@ -129,22 +109,7 @@ fn with(row: Row, field: u64, x: u64) -> Row {
 // Stores `row` as row `place` of the journal after a check, and writes as `asked`. It lends as many bytes of `buffer` as are asked for, or
 // all.
 fn written(file: &[u8], place: usize, row: Row, asked: Asked, buffer: &mut [u8]) -> Writing {
-    let n = asked.room;
-    if n <= buffer.len() {
-        return write_damaged(
-            file,
-            asked.lent,
-            Options {
-                budget: BUDGET,
-                starts: INITIAL_ALONE,
-            },
-            place,
-            row,
-            asked.used,
-            asked.named,
-            &mut buffer[..n],
-        );
-    }
+    let lent = asked.room.min(buffer.len());
     write_damaged(
         file,
         asked.lent,
@@ -156,43 +121,19 @@ fn written(file: &[u8], place: usize, row: Row, asked: Asked, buffer: &mut [u8])
         row,
         asked.used,
         asked.named,
-        buffer,
+        &mut buffer[..lent],
     )
-}
-
-// Returns `count`, or one more if the byte `x` has been written.
-fn counted(count: u64, x: u8) -> u64 {
-    if x != MARK {
-        return std::num::wrapping_add_u64(count, 1);
-    }
-    count
 }
 
 // Counts the bytes of `buffer` that have been written.
 fn changed(buffer: &[u8]) -> u64 {
-    let mut count: u64 = 0;
-    let mut i: usize = 0;
-    while i < buffer.len() {
-        count = counted(count, buffer[i]);
-        i += 1;
-    }
-    count
-}
-
-// Prints the byte `x`, if it has been written.
-fn print_written(rt: &impl Print, x: u8) -> io::Result<()> {
-    if x != MARK {
-        print_byte(rt, x)?;
-    }
-    Ok(())
+    buffer.iter().filter(|x| **x != MARK).count() as u64
 }
 
 // Prints the steps at the front of `buffer`, up to eight.
 fn print_front(rt: &impl Print, buffer: &[u8; BUFFER]) -> io::Result<()> {
-    let mut i: usize = 0;
-    while i < 8 {
-        print_written(rt, buffer[i])?;
-        i += 1;
+    for x in buffer.iter().take(8).filter(|x| **x != MARK) {
+        print_byte(rt, *x)?;
     }
     Ok(())
 }
@@ -243,36 +184,36 @@ fn sound(rt: &impl Print, file: &[u8], asked: Asked) -> io::Result<()> {
 
 // Asks each case: rows lent, rows used, the row that is named, bytes of the buffer.
 fn sounds(rt: &impl Print, file: &[u8], cases: &[[usize; 4]]) -> io::Result<()> {
-    let mut i: usize = 0;
-    while i < cases.len() {
-        sound(rt, file, asked_in(cases[i]))?;
-        i += 1;
+    for case in cases {
+        sound(rt, file, asked_in(*case))?;
     }
     Ok(())
 }
 
 fn asked_in(case: [usize; 4]) -> Asked {
+    let [lent, used, named, room] = case;
     Asked {
-        lent: case[0],
-        used: case[1],
-        named: case[2],
-        room: case[3],
+        lent,
+        used,
+        named,
+        room,
     }
 }
+
+// A row's place, its field, what is stored there, and the row that is named.
+type Damage = (usize, Field, u64, usize);
 
 // Asks of the journal with one field of one row replaced.
 fn damage(
     rt: &impl Print,
     file: &[u8],
-    case: [u64; 4],
+    case: Damage,
     lent: usize,
     used: usize,
     room: usize,
 ) -> io::Result<()> {
-    let place = case[0] as usize;
-    let field = case[1];
-    let x = case[2];
-    let asked = asked_in([lent, used, case[3] as usize, room]);
+    let (place, field, x, named) = case;
+    let asked = asked_in([lent, used, named, room]);
     print(rt, b"row ")?;
     print_number(rt, place as u64)?;
     print(rt, b" with ")?;
@@ -288,19 +229,16 @@ fn damage(
     )
 }
 
-// Each case: the place, the field, what is stored there, and the row that is named.
 fn damages(
     rt: &impl Print,
     file: &[u8],
-    cases: &[[u64; 4]],
+    cases: &[Damage],
     lent: usize,
     used: usize,
     room: usize,
 ) -> io::Result<()> {
-    let mut i: usize = 0;
-    while i < cases.len() {
-        damage(rt, file, cases[i], lent, used, room)?;
-        i += 1;
+    for case in cases {
+        damage(rt, file, *case, lent, used, room)?;
     }
     Ok(())
 }
@@ -308,14 +246,15 @@ fn damages(
 // Another row at place 2: procedure, rule, left, right, length, and the row that is named.
 fn replace(rt: &impl Print, file: &[u8], case: [u64; 6]) -> io::Result<()> {
     print(rt, b"row 2 as")?;
-    print_next(rt, case[0])?;
-    print_next(rt, case[1])?;
-    print_next(rt, case[2])?;
-    print_next(rt, case[3])?;
-    print_next(rt, case[4])?;
+    let [head, rule, left, right, len, named] = case;
+    print_next(rt, head)?;
+    print_next(rt, rule)?;
+    print_next(rt, left)?;
+    print_next(rt, right)?;
+    print_next(rt, len)?;
     print(rt, b", ")?;
-    let row = entered(case[0], case[1], case[2], case[3], case[4]);
-    ask(rt, file, 2, row, asked_in([16, 8, case[5] as usize, 8]))
+    let row = entered(head, rule, left, right, len);
+    ask(rt, file, 2, row, asked_in([16, 8, named as usize, 8]))
 }
 
 fn print_next(rt: &impl Print, x: u64) -> io::Result<()> {
@@ -324,10 +263,8 @@ fn print_next(rt: &impl Print, x: u64) -> io::Result<()> {
 }
 
 fn replaces(rt: &impl Print, file: &[u8], cases: &[[u64; 6]]) -> io::Result<()> {
-    let mut i: usize = 0;
-    while i < cases.len() {
-        replace(rt, file, cases[i])?;
-        i += 1;
+    for case in cases {
+        replace(rt, file, *case)?;
     }
     Ok(())
 }
@@ -389,24 +326,24 @@ fn plan_b_rooms(rt: &impl Print, file: &[u8]) -> io::Result<()> {
 fn plan_b_last(rt: &impl Print, file: &[u8]) -> io::Result<()> {
     print(rt, b"plan B, row 6 damaged\n")?;
     let cases = [
-        [6, PROCEDURE, 1, 6],
-        [6, PROCEDURE, 256, 6],
-        [6, RULE, 1, 6],
-        [6, RULE, 5, 6],
-        [6, RULE, 256, 6],
-        [6, RULE, u64::MAX, 6],
-        [6, LEFT, 0, 6],
-        [6, LEFT, 3, 6],
-        [6, LEFT, 5, 6],
-        [6, LEFT, 6, 6],
-        [6, LEFT, 7, 6],
-        [6, LEFT, ABSENT, 6],
-        [6, RIGHT, 0, 6],
-        [6, RIGHT, 65534, 6],
-        [6, RIGHT, 65536, 6],
-        [6, LENGTH, 1, 6],
-        [6, LENGTH, 3, 6],
-        [6, LENGTH, ABSENT, 6],
+        (6, Field::Procedure, 1, 6),
+        (6, Field::Procedure, 256, 6),
+        (6, Field::Rule, 1, 6),
+        (6, Field::Rule, 5, 6),
+        (6, Field::Rule, 256, 6),
+        (6, Field::Rule, u64::MAX, 6),
+        (6, Field::Left, 0, 6),
+        (6, Field::Left, 3, 6),
+        (6, Field::Left, 5, 6),
+        (6, Field::Left, 6, 6),
+        (6, Field::Left, 7, 6),
+        (6, Field::Left, ABSENT, 6),
+        (6, Field::Right, 0, 6),
+        (6, Field::Right, 65534, 6),
+        (6, Field::Right, 65536, 6),
+        (6, Field::Length, 1, 6),
+        (6, Field::Length, 3, 6),
+        (6, Field::Length, ABSENT, 6),
     ];
     damages(rt, file, &cases, 16, 7, 8)
 }
@@ -415,21 +352,21 @@ fn plan_b_last(rt: &impl Print, file: &[u8]) -> io::Result<()> {
 fn plan_b_bodies(rt: &impl Print, file: &[u8]) -> io::Result<()> {
     print(rt, b"plan B, other bodies damaged\n")?;
     let cases = [
-        [0, LEFT, 0, 0],
-        [0, RIGHT, 0, 0],
-        [0, LENGTH, 1, 0],
-        [2, PROCEDURE, 1, 2],
-        [2, LEFT, 1, 2],
-        [2, LEFT, 2, 2],
-        [2, LEFT, 4, 2],
-        [2, RIGHT, 0, 2],
-        [2, LENGTH, 1, 2],
-        [4, LEFT, 0, 4],
-        [4, LEFT, 2, 4],
-        [4, RIGHT, 0, 4],
-        [4, RIGHT, 3, 4],
-        [4, RIGHT, ABSENT, 4],
-        [4, LENGTH, 0, 4],
+        (0, Field::Left, 0, 0),
+        (0, Field::Right, 0, 0),
+        (0, Field::Length, 1, 0),
+        (2, Field::Procedure, 1, 2),
+        (2, Field::Left, 1, 2),
+        (2, Field::Left, 2, 2),
+        (2, Field::Left, 4, 2),
+        (2, Field::Right, 0, 2),
+        (2, Field::Length, 1, 2),
+        (4, Field::Left, 0, 4),
+        (4, Field::Left, 2, 4),
+        (4, Field::Right, 0, 4),
+        (4, Field::Right, 3, 4),
+        (4, Field::Right, ABSENT, 4),
+        (4, Field::Length, 0, 4),
     ];
     damages(rt, file, &cases, 16, 7, 8)
 }
@@ -438,23 +375,23 @@ fn plan_b_bodies(rt: &impl Print, file: &[u8]) -> io::Result<()> {
 fn plan_b_others(rt: &impl Print, file: &[u8]) -> io::Result<()> {
     print(rt, b"plan B, other rows, fields and numbers\n")?;
     let cases = [
-        [0, LENGTH, 1, 6],
-        [3, PROCEDURE, 1, 6],
-        [3, PROCEDURE, 1, 3],
-        [3, PROCEDURE, 1, 2],
-        [6, PROCEDURE, 1, 5],
-        [9, PROCEDURE, 1, 6],
-        [16, PROCEDURE, 1, 6],
-        [6, EFFECT, u64::MAX, 6],
-        [4, EFFECT, 0, 6],
-        [6, BIRTH, 0, 6],
-        [6, RETIRED, 1, 6],
-        [4, RETIRED, 1, 6],
+        (0, Field::Length, 1, 6),
+        (3, Field::Procedure, 1, 6),
+        (3, Field::Procedure, 1, 3),
+        (3, Field::Procedure, 1, 2),
+        (6, Field::Procedure, 1, 5),
+        (9, Field::Procedure, 1, 6),
+        (16, Field::Procedure, 1, 6),
+        (6, Field::Effect, u64::MAX, 6),
+        (4, Field::Effect, 0, 6),
+        (6, Field::Birth, 0, 6),
+        (6, Field::Retired, 1, 6),
+        (4, Field::Retired, 1, 6),
     ];
     damages(rt, file, &cases, 16, 7, 8)?;
-    damage(rt, file, [6, RIGHT, 0, 6], 16, 7, 0)?;
-    damage(rt, file, [6, LENGTH, 3, 6], 16, 7, 2)?;
-    damage(rt, file, [6, RIGHT, 0, 6], 0, 7, 0)
+    damage(rt, file, (6, Field::Right, 0, 6), 16, 7, 0)?;
+    damage(rt, file, (6, Field::Length, 3, 6), 16, 7, 2)?;
+    damage(rt, file, (6, Field::Right, 0, 6), 0, 7, 0)
 }
 
 fn over_plan_b(rt: &impl Print, file: &[u8; HELD]) -> io::Result<()> {
@@ -505,10 +442,8 @@ fn put_rotations(file: &mut [u8; HELD]) {
     put(file, 1, [1, 0, 1, 5, 0, 0, 0, 0]);
     put(file, 2, [1, 0, 1, 128, 0, 0, 0, 0]);
     put(file, 3, [1, 0, 2, 128, 128, 0, 0, 0]);
-    let mut i: usize = 0;
-    while i < 16 {
+    for i in 0..16 {
         put(file, i + 4, rotation(i));
-        i += 1;
     }
 }
 
@@ -564,10 +499,8 @@ fn doubling(i: usize) -> [u8; 8] {
 }
 
 fn put_doublings(file: &mut [u8; HELD]) {
-    let mut i: usize = 0;
-    while i < 32 {
+    for i in 0..32 {
         put(file, i, doubling(i));
-        i += 1;
     }
 }
 
@@ -584,11 +517,11 @@ fn over_doublings(rt: &impl Print, file: &[u8; HELD]) -> io::Result<()> {
     ];
     sounds(rt, whole, &rows)?;
     let cases = [
-        [29, LENGTH, 65533, 29],
-        [30, LENGTH, 65534, 30],
-        [30, LENGTH, 65536, 30],
-        [31, LENGTH, 65534, 31],
-        [31, LENGTH, 131070, 31],
+        (29, Field::Length, 65533, 29),
+        (30, Field::Length, 65534, 30),
+        (30, Field::Length, 65536, 30),
+        (31, Field::Length, 65534, 31),
+        (31, Field::Length, 131070, 31),
     ];
     damages(rt, whole, &cases, 64, 32, BUFFER)
 }

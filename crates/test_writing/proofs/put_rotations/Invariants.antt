@@ -1,9 +1,0 @@
--- The invariant: `i` is at most 16. The measure is 16 - i, which falls by 1 at each turn.
-use Rattle.std.proofs.Common.{◌-◌, ◌≤◌}
-use Rattle.test_writing.proofs.put_rotations.Given as goal
-
-abbrev pub invariant-loop-i : goal.invariant-loop-i
-invariant-loop-i l = l.i ≤ 16
-
-abbrev pub decreases-loop-i : goal.decreases-loop-i
-decreases-loop-i l = 16 - l.i

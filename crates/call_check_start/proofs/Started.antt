@@ -27,7 +27,7 @@ use Rattle.search_links.specs.Covers.{Covering, Unlinked}
 use Rattle.search_links.specs.RowLaws.{rows_none}
 use Rattle.search_links.specs.Rows.{rows_read}
 use Rattle.search_cover.specs.Near.{near_words, Beside}
-use Rattle.search_state.specs.Stages.{is_going}
+use Rattle.search_state.specs.Phases.{is_going}
 use Rattle.search_state.specs.declared.State.{State}
 use Rattle.search_state.specs.declared.Terms.{Terms}
 use Rattle.search_laws.specs.Passes.{pass-first}
@@ -63,7 +63,7 @@ module _ (bs : List ℕ) (g : Settings) where
 
   -- ---- at the ends
   pub starts-refused : (letters : Letters) (rules : RuleBytes) (t near : List ℕ) (r : Refusal) → refusal_of r ≡ first_of (check_refusals bs J) → (r.number ≡ 0 → ⊥) → (s : State) → s ≡ waiting g 0 0 → Starts bs g letters rules t near (record { refusal = r; state = s })
-  starts-refused letters rules t near r e z s w = record { refusal = e; refused = λ _. ap (λ (x : State). is_going x.stage) w; begins = λ q. absurd (z q) }
+  starts-refused letters rules t near r e z s w = record { refusal = e; refused = λ _. ap (λ (x : State). is_going x.phase) w; begins = λ q. absurd (z q) }
 
   pub may-open : (finals : ℕ) (before rules : RuleBytes) (n : ℕ) → RuleTable bs before rules n → (t : List ℕ) → Unlinked t → (w : State) → w ≡ waiting g n finals → MayOpen rules n w.terms w.counts t
   may-open finals before rules n en t et w ew =
@@ -127,11 +127,11 @@ module _ (bs : List ℕ) (g : Settings) where
               };
             }
         by (suc k) z =
-            let none : T (is_going s.stage) → ⊥ = λ g. subst T (h.refused (λ q. let y : ⊥ = omega (arith, sym z ∙ q) in y)) g in
+            let none : T (is_going s.phase) → ⊥ = λ g. subst T (h.refused (λ q. let y : ⊥ = omega (arith, sym z ∙ q) in y)) g in
             record { all = λ g. absurd (none g); search = record { idle = λ _. (refl, refl); sized = λ g. absurd (none g); whole = λ g. absurd (none g); stands = λ g. absurd (none g) } }
 
     -- and no effect stands in the words yet
-    pub may-look : T (is_going s.stage) → NearIn s j near
+    pub may-look : T (is_going s.phase) → NearIn s j near
     may-look g = by r.refusal.number refl
       where
         by : (k : ℕ) → r.refusal.number ≡ k → NearIn s j near

@@ -10,8 +10,8 @@ use Rattle.spec_calls.specs.Checking.{Settings, check_refusals}
 use Rattle.spec_file.specs.Entries.{entry_of}
 use Rattle.spec_calls.specs.Rows.{Journal}
 use Rattle.spec_calls.specs.declared.Row.{Row}
-use Rattle.search_state.specs.Stages.{is_going}
-use Rattle.search_state.specs.declared.Stage.TheVariants.{Waiting}
+use Rattle.search_state.specs.Phases.{is_going}
+use Rattle.search_state.specs.declared.Phase.TheVariants.{Waiting}
 use Rattle.search_state.specs.declared.State.{State}
 use Rattle.search_cover.specs.Near.{Beside}
 use Rattle.search_laws.specs.OnRelations.{Letters, problem_in}
@@ -24,7 +24,7 @@ use Rattle.call_check_start.specs.declared.Start.{Start}
 abbrev pub waiting : Settings → ℕ → ℕ → State
 waiting g n finals =
     record {
-      stage = Waiting;
+      phase = Waiting;
       left_row = 0;
       right_row = 0;
       terms = record { budget = g.budget; starts = g.starts; finals = finals; pass = 1; present = 0; old = 0 };
@@ -50,5 +50,5 @@ pub record FirstPass (bs : List ℕ) (g : Settings) (letters : Letters) (rules :
 pub record Starts (bs : List ℕ) (g : Settings) (letters : Letters) (rules : RuleBytes) (t w : List ℕ) (r : Start) : Type 0 where
   pub refusal : refusal_of r.refusal ≡ first_of (check_refusals bs g.rows)
   -- nothing is done where something refuses
-  pub refused : (r.refusal.number ≡ 0 → ⊥) → is_going r.state.stage ≡ false
+  pub refused : (r.refusal.number ≡ 0 → ⊥) → is_going r.state.phase ≡ false
   pub begins : r.refusal.number ≡ 0 → FirstPass bs g letters rules t w r.state

@@ -18,7 +18,7 @@ use Rattle.spec_file.proofs.RefusalLaws.{number-some, fault-some}
 use Rattle.spec_calls.specs.Replies.{Reply, refused, answered, unless}
 use Rattle.spec_calls.specs.Rows.{row_of, Journal}
 use Rattle.spec_calls.specs.declared.Row.{Row as LentRow}
-use Rattle.search_state.specs.Stages.{is_going}
+use Rattle.search_state.specs.Phases.{is_going}
 use Rattle.search_state.specs.declared.State.{State}
 use Rattle.search_state.specs.declared.Terms.{Terms}
 use Rattle.search_links.specs.Rows.{rows_read}
@@ -102,15 +102,15 @@ module _ (bs : List ℕ) (o : Options) (old : Journal) where
 
     -- it ended, or it did not begin
     ended : search.Checked row_of (order_of P g.rows g.budget) old new (answer_in last)
-    ended = by (is_going s.stage) refl
+    ended = by (is_going s.phase) refl
       where
-        by : (b : Bool) → is_going s.stage ≡ b → search.Checked row_of (order_of P g.rows g.budget) old new (answer_in last)
+        by : (b : Bool) → is_going s.phase ≡ b → search.Checked row_of (order_of P g.rows g.budget) old new (answer_in last)
         by true e =
-            let on : T (is_going s.stage) = subst T (sym e) tt in
+            let on : T (is_going s.phase) = subst T (sym e) tt in
             let stood = h.1.stands old refl in
             subst (λ (x : Terms). search.Checked row_of (order_of (problem_in x.starts x.finals letters (take s.rules rules)) g.rows x.budget) old new (answer_in last)) (stood.goes on).begun.terms ((ran.1.search.stands on).ends ran.0)
         by false e =
-            let off : T (not (is_going s.stage)) = subst (λ (b : Bool). T (not b)) (sym e) tt in
+            let off : T (not (is_going s.phase)) = subst (λ (b : Bool). T (not b)) (sym e) tt in
             let i = ran.1.search.idle off in
             subst₂ (λ (x : State) (j : Journal). search.Checked row_of (order_of P g.rows g.budget) old j (answer_in x)) (sym i.0) (sym i.1) ((h.1.stands old refl).ends off)
 

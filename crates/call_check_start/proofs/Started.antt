@@ -25,7 +25,7 @@ use Rattle.search_links.specs.Covers.{Covering, Unlinked}
 use Rattle.search_links.specs.RowLaws.{rows_none}
 use Rattle.search_links.specs.Rows.{rows_read}
 use Rattle.search_cover.specs.Near.{near_words, Beside}
-use Rattle.search_state.specs.Stages.{is_going}
+use Rattle.search_state.specs.Phases.{is_going}
 use Rattle.search_state.specs.declared.State.{State}
 use Rattle.search_state.specs.declared.Terms.{Terms}
 use Rattle.search_laws.specs.Passes.{pass-first}
@@ -116,5 +116,5 @@ module _ (bs : List ℕ) (g : Settings) where
         }
 
     -- and no effect stands in the words yet
-    pub may-look : T (is_going s.stage) → NearIn s j near
+    pub may-look : T (is_going s.phase) → NearIn s j near
     may-look g = subst (λ (rows : List Row). Beside rows near) (sym (ap (λ (u : ℕ). rows_read row_of u j) h.1.none-used ∙ rows_none row_of j)) h.1.none-near

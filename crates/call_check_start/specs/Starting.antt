@@ -12,7 +12,7 @@ use Rattle.spec_calls.specs.Checking.{Settings, check_refusals}
 use Rattle.spec_file.specs.Entries.{entry_of}
 use Rattle.spec_calls.specs.Rows.{Journal}
 use Rattle.spec_calls.specs.declared.Row.{Row}
-use Rattle.search_state.specs.declared.Stage.TheVariants.{Waiting}
+use Rattle.search_state.specs.declared.Phase.TheVariants.{Waiting}
 use Rattle.search_state.specs.declared.State.{State}
 use Rattle.search_cover.specs.Near.{Beside}
 use Rattle.search_laws.specs.OnRelations.{Letters, problem_in}
@@ -24,7 +24,7 @@ use Rattle.file_tables.specs.Tables.{letter_table}
 abbrev pub waiting : Settings → ℕ → ℕ → State
 waiting g n finals =
     record {
-      stage = Waiting;
+      phase = Waiting;
       left_row = 0;
       right_row = 0;
       terms = record { budget = g.budget; starts = g.starts; finals = finals; pass = 1; present = 0; old = 0 };

@@ -8,7 +8,7 @@ ghost use Rattle.search_cover.specs.Near.{near_words};
 ghost use Rattle.call_check_start.specs.Starting.{waiting, Starts};
 
 use relation::{Letter, StateSet};
-use search_state::{Counts, Place, Stage, State, Terms};
+use search_state::{Counts, Phase, Place, State, Terms};
 use spec_calls::Options;
 use spec_file::{Letters, RULE_LIMIT, Refusal};
 
@@ -17,7 +17,7 @@ fn wait(rows: usize, rules: usize, options: Options, finals: StateSet) -> State
     ensures { result ≡ waiting (settings_of rows options) rules finals }
 {
     State {
-        stage: Stage::Waiting,
+        phase: Phase::Waiting,
         left_row: 0,
         right_row: 0,
         terms: Terms {

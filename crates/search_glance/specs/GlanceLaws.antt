@@ -22,7 +22,7 @@ use Rattle.search_state.specs.Forming.{left_part, right_part, entry_at, symbol_c
 use Rattle.search_state.specs.Layout.{heads, head_cell, lists_from, lists_in}
 use Rattle.search_state.specs.Positions.{first_at}
 use Rattle.search_state.specs.declared.Place.{Place}
-use Rattle.search_state.specs.Stages.{is_going}
+use Rattle.search_state.specs.Phases.{is_going}
 use Rattle.search_state.specs.declared.State.{State}
 use Rattle.search_state.specs.declared.Terms.{Terms}
 use Rattle.search_cover.specs.Near.{row_effect_at, as_candidate, RowsIn, Beside}
@@ -138,7 +138,7 @@ module _ (letters w : List ℕ) (u : ℕ) (rows : List (Row ℕ)) (size : length
 
 -- ---- the candidate at which a search stands
 
-module _ {letters : List ℕ} {rules : RuleBytes} {start : State} {j₀ : Journal} {s : State} {j : Journal} {t w : List ℕ} (r : Running letters rules start j₀ s j t) (going : T (is_going s.stage)) (near : NearIn s j w) where
+module _ {letters : List ℕ} {rules : RuleBytes} {start : State} {j₀ : Journal} {s : State} {j : Journal} {t w : List ℕ} (r : Running letters rules start j₀ s j t) (going : T (is_going s.phase)) (near : NearIn s j w) where
   size_is : length (rows_read row_of s.counts.used j) ≡ s.counts.used
   size_is = rows-length row_of s.counts.used j (used-fits r.search going)
 
@@ -159,7 +159,7 @@ module _ {letters : List ℕ} {rules : RuleBytes} {start : State} {j₀ : Journa
 
 -- ---- the search after a glance
 
-module _ {letters : List ℕ} {rules : RuleBytes} {start : State} {j₀ : Journal} {s : State} {j : Journal} {t w : List ℕ} (r : Running letters rules start j₀ s j t) (going : T (is_going s.stage)) (near : NearIn s j w) where
+module _ {letters : List ℕ} {rules : RuleBytes} {start : State} {j₀ : Journal} {s : State} {j : Journal} {t w : List ℕ} (r : Running letters rules start j₀ s j t) (going : T (is_going s.phase)) (near : NearIn s j w) where
   abbrev P : Problem ℕ LentRow
   P = problem_in start.terms.starts start.terms.finals letters rules
 
@@ -227,7 +227,7 @@ module _ {letters : List ℕ} {rules : RuleBytes} {start : State} {j₀ : Journa
           all = r.all;
           search =
               record {
-                idle = λ z. absurd (both (is_going start.stage) (started r.search going) z);
+                idle = λ z. absurd (both (is_going start.phase) (started r.search going) z);
                 sized = r.search.sized;
                 whole = r.search.whole;
                 stands = λ _. subst (λ (v : State). SearchAt Q start.terms.budget j₀ v j t) (sym x.is) on.stands;
@@ -240,7 +240,7 @@ module _ {letters : List ℕ} {rules : RuleBytes} {start : State} {j₀ : Journa
 
     passed-left : candidates_left r' ≤ candidates_left s
     passed-left =
-        subst (λ (v : State). candidates_left v ≤ candidates_left s) (sym (passed-state x)) (by (is_going s.stage) going)
+        subst (λ (v : State). candidates_left v ≤ candidates_left s) (sym (passed-state x)) (by (is_going s.phase) going)
       where
         by : (b : Bool) → T b → suc (s.terms.budget - x.joins) ≤ cond b (suc (s.terms.budget - s.counts.joins)) 0
         by true y = omega (arith, reached.joins)
@@ -249,7 +249,7 @@ module _ {letters : List ℕ} {rules : RuleBytes} {start : State} {j₀ : Journa
   -- the search goes on after a glance, at the same rule, with no row more and no more candidates left
   record Onwards (v : State) : Type 0 where
     runs : Running letters rules start j₀ v j t
-    goes : T (is_going v.stage)
+    goes : T (is_going v.phase)
     fewer : candidates_left v ≤ candidates_left s
     used : v.counts.used ≡ s.counts.used
     rule : v.place.rule ≡ s.place.rule
@@ -259,7 +259,7 @@ module _ {letters : List ℕ} {rules : RuleBytes} {start : State} {j₀ : Journa
   onwards v (inr x) =
       record {
         runs = passed-running x;
-        goes = subst (λ (z : State). T (is_going z.stage)) (sym (passed-state x)) tt;
+        goes = subst (λ (z : State). T (is_going z.phase)) (sym (passed-state x)) tt;
         fewer = passed-left x;
         used = ap (λ (z : State). z.counts.used) (passed-state x);
         rule = ap (λ (z : State). z.place.rule) (passed-state x);
@@ -268,7 +268,7 @@ module _ {letters : List ℕ} {rules : RuleBytes} {start : State} {j₀ : Journa
   -- and what is returned is the effect of the candidate there, which a live row covers where the hints say so, and a cell of the hints
   pub record Glanced (r' : Tried) : Type 0 where
     pub runs : Running letters rules start j₀ r'.state j t
-    pub goes : T (is_going r'.state.stage)
+    pub goes : T (is_going r'.state.phase)
     pub beside : NearIn r'.state j w
     pub fewer : candidates_left r'.state ≤ candidates_left s
     pub effect : value r'.effect ≡ (formed_in letters rules r'.state (get_or j r'.state.left_row blank) (get_or j r'.state.right_row blank)).effect

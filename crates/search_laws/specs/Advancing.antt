@@ -21,12 +21,12 @@ use Rattle.search_cover.specs.declared.CoverAnswer.{CoverAnswer}
 use Rattle.search_state.specs.Fates.{full_in}
 use Rattle.search_state.specs.declared.Counts.{Counts}
 use Rattle.search_state.specs.declared.Fate.{Fate}
-use Rattle.search_state.specs.Stages.{is_going}
+use Rattle.search_state.specs.Phases.{is_going}
 use Rattle.search_state.specs.declared.State.{State}
 use Rattle.search_state.specs.declared.Terms.{Terms}
 use Rattle.search_laws.specs.Clauses.{Answers, Checked}
 use Rattle.search_laws.specs.Deciding.{answers-dropped, answers-full, answers-new}
-use Rattle.search_laws.specs.Meanings.{progress_of, counts_in, with_join, with_row, born_by, full_by, decided_by, decided_in, totals_of, answer_to, answer_in}
+use Rattle.search_laws.specs.Meanings.{progress_of, counts_in, with_join, with_row, born_by, full_by, decided_by, decided_in, answer_to, answer_in}
 use Rattle.search_laws.specs.Problems.{RuleBytes, Problem, algebra_of, first_rows, terms_of}
 use Rattle.search_laws.specs.Steps.{MayAdvance, Remembers}
 use Rattle.search_laws.specs.Running.{problem_at, target, Goes, SearchAt, Running, fate_for, Considered, GoesOn, GoesOnOver, Onward, candidates_left}
@@ -193,7 +193,7 @@ module _ {E R : Type 0} {P : Problem E R} {rules : RuleBytes} {start : State} {j
   -- ---- the search stands on
 
   resumes : {r : State} {t' : List ℕ} → SearchAt Q start.terms.budget j₀ r j t' → Running P rules start j₀ r j t'
-  resumes st = record { idle = λ z. absurd (both (is_going start.stage) (started x.running x.going) z); sized = x.running.sized; whole = x.running.whole; stands = λ _. st }
+  resumes st = record { idle = λ z. absurd (both (is_going start.phase) (started x.running x.going) z); sized = x.running.sized; whole = x.running.whole; stands = λ _. st }
     where
       both : (b : Bool) → T b → T (not b) → ⊥
       both true y n = n
@@ -204,10 +204,10 @@ module _ {E R : Type 0} {P : Problem E R} {rules : RuleBytes} {start : State} {j
   left_is false y n = absurd y
 
   pub stopped-running : (p : Stop) → Right (outcome.Stopped p) → (t' : List ℕ)
-      → Running P rules start j₀ (stopped_in s p) j t' × (candidates_left (stopped_in s p) < candidates_left s) × (T (is_going (stopped_in s p).stage) → (stopped_in s p).counts.used ≡ (counts_in (decided_in s f)).used)
+      → Running P rules start j₀ (stopped_in s p) j t' × (candidates_left (stopped_in s p) < candidates_left s) × (T (is_going (stopped_in s p).phase) → (stopped_in s p).counts.used ≡ (counts_in (decided_in s f)).used)
   stopped-running p a t' = (
     resumes (record { size = x.inserted.size ∙ (stands_on x.running x.going).size; rows = rows_of p; count = count_of p; goes = λ y. absurd (ended_so p y); ends = λ _. stopped-checked p a }),
-    subst (λ (n : ℕ). candidates_left (stopped_in s p) < n) (sym (left_is (is_going s.stage) x.going (s.terms.budget - s.counts.joins))) (none_left p),
+    subst (λ (n : ℕ). candidates_left (stopped_in s p) < n) (sym (left_is (is_going s.phase) x.going (s.terms.budget - s.counts.joins))) (none_left p),
     λ y. absurd (ended_so p y),
   )
     where
@@ -219,7 +219,7 @@ module _ {E R : Type 0} {P : Problem E R} {rules : RuleBytes} {start : State} {j
       count_of (stop.Ended v w) = (stands_on x.running x.going).count
       count_of (stop.Broken i w) = (stands_on x.running x.going).count
 
-      ended_so : (p : Stop) → T (is_going (stopped_in s p).stage) → ⊥
+      ended_so : (p : Stop) → T (is_going (stopped_in s p).phase) → ⊥
       ended_so (stop.Ended v w) y = y
       ended_so (stop.Broken i w) y = y
 
@@ -239,7 +239,7 @@ module _ {E R : Type 0} {P : Problem E R} {rules : RuleBytes} {start : State} {j
       by false false false = refl
 
   pub going-running : Laws (algebra_of P) → (tn : List ℕ) → Remembers t tn → {w : Counts} → outcome.Going w ≡ became → {t' : List ℕ} {r : State} → GoesOn P rules tn s w t' r
-      → Running P rules start j₀ r j t' × (candidates_left r < candidates_left s) × (T (is_going r.stage) → r.counts.used ≡ (counts_in (decided_in s f)).used)
+      → Running P rules start j₀ r j t' × (candidates_left r < candidates_left s) × (T (is_going r.phase) → r.counts.used ≡ (counts_in (decided_in s f)).used)
   going-running L tn nt {w} e {t'} {r} g =
       let a = decided-right in
       let n : (counts_in became).used ≤ row_cells = omega (arith, a.0.room, limit x.running x.going) in
@@ -250,8 +250,8 @@ module _ {E R : Type 0} {P : Problem E R} {rules : RuleBytes} {start : State} {j
       in
       let m : w.joins ≡ s.counts.joins + 1 = ap (λ (o : Outcome). (counts_in o).joins) e ∙ joins-more in (
         resumes on.stands,
-        subst (λ (k : ℕ). candidates_left r < k) (sym (left_is (is_going s.stage) x.going (s.terms.budget - s.counts.joins)))
-            (less (is_going r.stage) r.terms.budget r.counts.joins (on.budget ∙ sym budget-is) (omega (arith, on.joins, m))),
+        subst (λ (k : ℕ). candidates_left r < k) (sym (left_is (is_going s.phase) x.going (s.terms.budget - s.counts.joins)))
+            (less (is_going r.phase) r.terms.budget r.counts.joins (on.budget ∙ sym budget-is) (omega (arith, on.joins, m))),
         λ _. on.used ∙ ap (λ (o : Outcome). (counts_in o).used) (e ∙ sym decided-so),
       )
     where

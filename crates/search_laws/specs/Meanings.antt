@@ -7,8 +7,8 @@ use Rattle.spec_order.specs.Order as order
 use Rattle.search_links.specs.Rows.{rows_read}
 use Rattle.search_state.specs.declared.Counts.{Counts}
 use Rattle.search_state.specs.declared.Fate.{Fate}
-use Rattle.search_state.specs.declared.Stage.TheVariants as stage
-use Rattle.search_state.specs.declared.Stage.{Stage}
+use Rattle.search_state.specs.declared.Phase.TheVariants as phase
+use Rattle.search_state.specs.declared.Phase.{Phase}
 use Rattle.search_state.specs.declared.State.{State}
 use Rattle.search_state.specs.declared.Unbroken.TheVariants as unbroken
 use Rattle.search_state.specs.declared.Unbroken.{Unbroken}
@@ -117,11 +117,11 @@ abbrev pub code_of : Unbroken → ℕ
 code_of v = verdict_code (verdict_of v)
 
 -- only a search that has ended is asked
-abbrev pub answer_at : Stage → Totals → Answer
-answer_at stage.Going n = answer.Ended unbroken.Spent n
-answer_at stage.Waiting n = answer.Ended unbroken.Spent n
-answer_at (stage.Ended v) n = answer.Ended v n
-answer_at (stage.Broken i) n = answer.Broken i n
+abbrev pub answer_at : Phase → Totals → Answer
+answer_at phase.Going n = answer.Ended unbroken.Spent n
+answer_at phase.Waiting n = answer.Ended unbroken.Spent n
+answer_at (phase.Ended v) n = answer.Ended v n
+answer_at (phase.Broken i) n = answer.Broken i n
 
 abbrev pub answer_in : State → Answer
-answer_in s = answer_at s.stage (totals_of s.counts s.terms.pass)
+answer_in s = answer_at s.phase (totals_of s.counts s.terms.pass)

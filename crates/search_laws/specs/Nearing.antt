@@ -4,25 +4,25 @@ use Rattle.std.proofs.Math.Path.{refl, sym, ap, subst}
 use Rattle.std.proofs.Common.{ap₂, ◌∙◌, true≢false, inl, inr, arith, length-set, get_or-set_same}
 use Rattle.std.proofs.Math.Bool.{true, false}
 use Rattle.std.proofs.lemmas.Bool.{false≢true}
-use mathlib.Core.List.{List, [], ◌∷◌, ◌++◌, map}
+use mathlib.Core.List.{List, [], ◌∷◌, map}
 use Prim.Native.Nat.{ℕ, suc, ◌+◌, ◌*◌, ◌≤◌, ◌<◌, ◌^◌}
 use Rattle.std.proofs.Math.Dec.{ltb}
 use Rattle.std.proofs.Math.ListN.{length, length-map, length-append, get_or-append}
 use Rattle.std.proofs.Math.Seq.{get_or_at}
 use borrow.Author.Tests.{eqb-true, eq-eqb, ne_eqb, ltb-true, ltb-false}
 use Rattle.spec_basics.specs.Lists.{get_d_map}
-use Rattle.spec_basics.specs.Tests.{and_intro, and-fst, and-snd, or_right}
+use Rattle.spec_basics.specs.Tests.{and_intro, and-snd, or_right}
 use Rattle.relation.specs.Relation.{states, contained}
 use Rattle.spec_order.specs.Candidates.{Candidate}
 use Rattle.spec_order.specs.Journal.{Row, live, live_of}
 use Rattle.spec_order.specs.Order.{dropped, larger, born, retire, added}
 use Rattle.search_state.specs.Layout.{row_cells, heads}
-use Rattle.search_links.specs.Covers.{live_at, Cell}
+use Rattle.search_links.specs.Covers.{live_at}
 use Rattle.search_links.specs.CoverLaws.{live_inside}
 use Rattle.search_links.specs.RowLaws.{rows-length, is_at, holds-any}
 use Rattle.search_links.specs.Rows.{rows_read}
-use Rattle.search_cover.specs.Near.{near_words, head_of, count_of, link_of, is_near, row_effect_at, row_head_at, number_at, effect_at, as_candidate, Numbers, Among, NearTo, RowsIn, Beside}
-use Rattle.search_cover.specs.NearLaws.{rows_same, above_rows, above-among, above-numbers, numbers-wider, numbers_more, among-old, among-new, with_rows, last-length, last-head, last-count, last-link, last-above, last-rows, row-length, row_other, row_before, row_here, row-numbers, row-among}
+use Rattle.search_cover.specs.Near.{near_words, count_of, is_near, row_effect_at, row_head_at, effect_at, as_candidate, Numbers, Among, NearTo, RowsIn, Beside}
+use Rattle.search_cover.specs.NearLaws.{rows_same, above-among, above-numbers, numbers-wider, numbers_more, among-old, among-new, last-length, last-head, last-count, last-link, last-above, last-rows, row_other, row_before, row_here, row-numbers, row-among}
 use Rattle.search_cover.specs.Seeking.{Finds}
 use Rattle.search_cover.specs.Steps.{with_number, with_row, with_last, Drops, Stays}
 use Rattle.search_cover.specs.declared.CoverAnswer.{CoverAnswer}

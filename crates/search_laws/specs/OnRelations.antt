@@ -12,7 +12,7 @@ use Rattle.search_rows.specs.Meanings.{composing_of, candidate_of}
 use Rattle.search_rows.specs.declared.Candidate.{Candidate}
 use Rattle.search_state.specs.declared.Counts.{Counts}
 use Rattle.search_state.specs.declared.Fate.{Fate}
-use Rattle.search_state.specs.Stages.{is_going}
+use Rattle.search_state.specs.Phases.{is_going}
 use Rattle.search_state.specs.declared.State.{State}
 use Rattle.search_state.specs.declared.Terms.{Terms}
 use Rattle.search_links.specs.Rows.{rows_read}
@@ -69,12 +69,12 @@ CandidateInserted s c l j t j' t' = running.CandidateInserted (problem_in s.term
 
 -- the invariant of the loop; the table of letters is whole
 pub record Running (letters : Letters) (rules : RuleBytes) (start : State) (j₀ : Journal) (s : State) (j : Journal) (t : List ℕ) : Type 0 where
-  pub all : T (is_going start.stage) → letter_words ≤ length letters
+  pub all : T (is_going start.phase) → letter_words ≤ length letters
   pub search : running.Running (problem_in start.terms.starts start.terms.finals letters rules) rules start j₀ s j t
 
 -- the search has run to its end
 abbrev pub Ran : Letters → RuleBytes → State → Journal → Journal → List ℕ → State → Type 0
-Ran letters rules start j₀ j t r = T (not (is_going r.stage)) × Running letters rules start j₀ r j t
+Ran letters rules start j₀ j t r = T (not (is_going r.phase)) × Running letters rules start j₀ r j t
 
 abbrev pub Considered : Letters → RuleBytes → State → Journal → State → Candidate → Fate → CoverAnswer → Journal → List ℕ → Type 0
 Considered letters rules start j₀ s c f l j t = running.Considered (problem_in start.terms.starts start.terms.finals letters rules) rules start j₀ s (candidate_of c) f l j t

@@ -9,7 +9,6 @@ use Rattle.relation.specs.Digits.{bit}
 use Rattle.relation.specs.Relation.{states, contained}
 use Rattle.relation.specs.Representation.{value}
 use Rattle.relation.specs.Stored.{relation_in}
-use Rattle.spec_file.specs.Limits.{letter_words}
 use Rattle.spec_order.specs.Algebra.{Algebra, Laws}
 use Rattle.spec_order.proofs.Coverage.{Covered, covered-dropped, added-covered, dropped-added}
 use Rattle.spec_order.specs.Journal.{Row}
@@ -23,10 +22,9 @@ use Rattle.search_rows.specs.declared.Candidate.{Candidate}
 use Rattle.search_state.specs.Fates.{fate_in}
 use Rattle.search_state.specs.Layout.{row_cells, heads, head_cell, lists_from}
 use Rattle.search_state.specs.declared.Fate.{Fate}
-use Rattle.search_state.specs.Stages.{is_going}
+use Rattle.search_state.specs.Phases.{is_going}
 use Rattle.search_state.specs.declared.State.{State}
 use Rattle.search_state.specs.declared.Terms.{Terms}
-use Rattle.search_links.specs.RowLaws.{rows-length}
 use Rattle.search_links.specs.Rows.{rows_read}
 use Rattle.search_cover.specs.Near.{near_words, Beside}
 use Rattle.search_cover.specs.Seeking.{MayLook, FindsIn}
@@ -37,12 +35,12 @@ use Rattle.search_laws.specs.Meanings.{counts_in, with_join, decided_by, decided
 use Rattle.search_laws.specs.Nearing.{beside-after}
 use Rattle.search_laws.specs.OnRelations.{Letters, problem_in, CoverFound, NearIn, Looked, fate_for, MayInsert, CandidateInserted, Running, Considered}
 use Rattle.search_laws.specs.Problems.{RuleBytes, algebra_of}
-use Rattle.search_laws.specs.RunLaws.{started, may-find, stands_on, goes_on, used-fits, limit, pass-some, rule-inside, formed-there}
+use Rattle.search_laws.specs.RunLaws.{may-find, stands_on, goes_on, used-fits, limit, pass-some, rule-inside, formed-there}
 
 pub problem-laws : (starts finals : ℕ) (letters : Letters) (rules : RuleBytes) → Laws (algebra_of (problem_in starts finals letters rules))
 problem-laws starts finals letters rules = base-by-laws states (members_of starts) (λ c. value (relation_in letters c)) (bit finals)
 
-module _ {letters : Letters} {rules : RuleBytes} {start : State} {j₀ : Journal} {s : State} {j : Journal} {t : List ℕ} (r : Running letters rules start j₀ s j t) (g : T (is_going s.stage)) where
+module _ {letters : Letters} {rules : RuleBytes} {start : State} {j₀ : Journal} {s : State} {j : Journal} {t : List ℕ} (r : Running letters rules start j₀ s j t) (g : T (is_going s.phase)) where
   pub may-form : s.place.rule < length rules
   may-form = rule-inside r.search g
 

@@ -8,23 +8,23 @@ use Rattle.search_state.specs.Layout.{row_cells}
 use Rattle.search_links.specs.RowLaws.{rows-length, among-row}
 use Rattle.search_state.specs.PositionLaws.{position-inside, position-row}
 use Rattle.search_state.specs.Positions.{position_row}
-use Rattle.search_state.specs.Stages.{is_going}
+use Rattle.search_state.specs.Phases.{is_going}
 use Rattle.search_state.specs.declared.State.{State}
 use Rattle.search_laws.specs.Problems.{RuleBytes, Problem, first_rows, unread}
 use Rattle.search_laws.specs.Walks.{candidate_in}
 use Rattle.search_laws.specs.Running.{InLimits, Goes, SearchAt, MayFind, problem_at, Running}
 
-module _ {E R : Type 0} {P : Problem E R} {rules : RuleBytes} {start : State} {j₀ : List R} {s : State} {j : List R} {t : List ℕ} (r : Running P rules start j₀ s j t) (g : T (is_going s.stage)) where
+module _ {E R : Type 0} {P : Problem E R} {rules : RuleBytes} {start : State} {j₀ : List R} {s : State} {j : List R} {t : List ℕ} (r : Running P rules start j₀ s j t) (g : T (is_going s.phase)) where
   -- what it works on
   abbrev pub works-on : Problem E R
   works-on = problem_at P rules start
 
-  pub started : T (is_going start.stage)
-  started = by (is_going start.stage) refl
+  pub started : T (is_going start.phase)
+  started = by (is_going start.phase) refl
     where
-      by : (b : Bool) → is_going start.stage ≡ b → T b
+      by : (b : Bool) → is_going start.phase ≡ b → T b
       by true e = tt
-      by false e = subst T (ap (λ (x : State). is_going x.stage) (r.idle (subst (λ (b : Bool). T (not b)) (sym e) tt)).0 ∙ e) g
+      by false e = subst T (ap (λ (x : State). is_going x.phase) (r.idle (subst (λ (b : Bool). T (not b)) (sym e) tt)).0 ∙ e) g
 
   pub stands_on : SearchAt works-on start.terms.budget j₀ s j t
   stands_on = r.stands started

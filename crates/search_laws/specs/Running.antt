@@ -14,7 +14,7 @@ use Rattle.search_state.specs.Fates.{fate_in}
 use Rattle.search_state.specs.Positions.{position_row}
 use Rattle.search_state.specs.declared.Counts.{Counts}
 use Rattle.search_state.specs.declared.Fate.{Fate}
-use Rattle.search_state.specs.Stages.{is_going}
+use Rattle.search_state.specs.Phases.{is_going}
 use Rattle.search_state.specs.declared.State.{State}
 use Rattle.search_state.specs.declared.Terms.{Terms}
 use Rattle.search_laws.specs.Clauses.{Answers, Checked, order_of}
@@ -66,8 +66,8 @@ module _ {E R : Type 0} (P : Problem E R) (B : ℕ) (j₀ : List R) where
     pub size : length j ≡ length j₀
     pub rows : s.rows ≡ length j₀
     pub count : s.rules ≡ length P.rules
-    pub goes : T (is_going s.stage) → Goes s j t
-    pub ends : T (not (is_going s.stage)) → Checked P.row_of target j₀ j (answer_in s)
+    pub goes : T (is_going s.phase) → Goes s j t
+    pub ends : T (not (is_going s.phase)) → Checked P.row_of target j₀ j (answer_in s)
 
   -- what every step between candidates keeps: the invariant `SearchAt`, at least the joins of `w`, its rows, the same budget
   pub record Onward (w : Counts) (r : State) (j : List R) (t : List ℕ) : Type 0 where
@@ -108,7 +108,7 @@ module _ {E R : Type 0} (P : Problem E R) where
 
 -- the measure of the loop: at most this many candidates are left, since each is one join
 abbrev pub candidates_left : State → ℕ
-candidates_left s = cond (is_going s.stage) (suc (s.terms.budget - s.counts.joins)) 0
+candidates_left s = cond (is_going s.phase) (suc (s.terms.budget - s.counts.joins)) 0
 
 -- ---- the loop
 
@@ -120,17 +120,17 @@ module _ {E R : Type 0} (P : Problem E R) (rules : RuleBytes) where
   -- the invariant of the loop: the search that began in the state `start` over the journal j₀ is now in s, over j and t
   pub record Running (start : State) (j₀ : List R) (s : State) (j : List R) (t : List ℕ) : Type 0 where
     -- a search that had ended before it began leaves all as it is
-    pub idle : T (not (is_going start.stage)) → (s ≡ start) × (j ≡ j₀)
-    pub sized : T (is_going start.stage) → InLimits j₀
-    pub whole : T (is_going start.stage) → start.rules ≤ length rules
-    pub stands : T (is_going start.stage) → SearchAt (problem_at start) start.terms.budget j₀ s j t
+    pub idle : T (not (is_going start.phase)) → (s ≡ start) × (j ≡ j₀)
+    pub sized : T (is_going start.phase) → InLimits j₀
+    pub whole : T (is_going start.phase) → start.rules ≤ length rules
+    pub stands : T (is_going start.phase) → SearchAt (problem_at start) start.terms.budget j₀ s j t
 
   -- the candidate c of the place has been looked for, and inserted where no row covers it and there is room
   pub record Considered (start : State) (j₀ : List R) (s : State) (c : Candidate E) (f : Fate) (l : CoverAnswer) (j : List R) (t : List ℕ) : Type 0 where
     pub before : List R
     pub table : List ℕ
     pub running : Running start j₀ s before table
-    pub going : T (is_going s.stage)
+    pub going : T (is_going s.phase)
     pub formed : c ≡ candidate_in (problem_at start) (first_rows P s.counts.used before) s.place
     pub found : CoverFound P s c before table l
     pub fate : f ≡ fate_for P s c l.covers
@@ -180,4 +180,4 @@ module _ {E R : Type 0} (P : Problem E R) where
   abbrev pub Advances : RuleBytes → List ℕ → State → Fate → CoverAnswer → List ℕ → State → Type 0
   Advances rules t s f l t' r =
       (start : State) (j₀ j : List R) (c : Candidate E) → Considered P rules start j₀ s c f l j t
-      → Running P rules start j₀ r j t' × (candidates_left r < candidates_left s) × (T (is_going r.stage) → r.counts.used ≡ (counts_in (decided_in s f)).used)
+      → Running P rules start j₀ r j t' × (candidates_left r < candidates_left s) × (T (is_going r.phase) → r.counts.used ≡ (counts_in (decided_in s f)).used)

@@ -21,7 +21,7 @@ use Rattle.search_links.specs.Listing.{Gathered, gathered-listed, gathered-cover
 use Rattle.search_links.specs.RowLaws.{rows-length}
 use Rattle.search_state.specs.Budgets.{is_spent}
 use Rattle.search_state.specs.declared.Counts.{Counts}
-use Rattle.search_state.specs.declared.Stage.TheVariants as stage
+use Rattle.search_state.specs.declared.Phase.TheVariants as phase
 use Rattle.search_state.specs.declared.State.{State}
 use Rattle.search_state.specs.declared.Terms.{Terms}
 use Rattle.search_state.specs.declared.Unbroken.TheVariants as unbroken
@@ -68,7 +68,7 @@ module _ {E R : Type 0} (P : Problem E R) (B : ℕ) (j₀ : List R) (s : State) 
   at k n w = terms_of P B k w.used n
 
   -- an end
-  over : (w : Counts) (b : Terms) (v : Unbroken) (j : List R) (t : List ℕ) → length j ≡ length j₀ → b.budget ≡ B → Checked P.row_of (target P B j₀) j₀ j (answer_in (ended s b w (stage.Ended v))) → Onward P B j₀ w (ended s b w (stage.Ended v)) j t
+  over : (w : Counts) (b : Terms) (v : Unbroken) (j : List R) (t : List ℕ) → length j ≡ length j₀ → b.budget ≡ B → Checked P.row_of (target P B j₀) j₀ j (answer_in (ended s b w (phase.Ended v))) → Onward P B j₀ w (ended s b w (phase.Ended v)) j t
   over w b v j t e f c = record { stands = record { size = e; rows = rows; count = count; goes = λ z. absurd z; ends = λ _. c }; joins = le_refl w.joins; used = refl; budget = f }
 
   pub onward-from : {w₀ w : Counts} {r : State} {j : List R} {t : List ℕ} → w₀.joins ≤ w.joins → w.used ≡ w₀.used → Onward P B j₀ w r j t → Onward P B j₀ w₀ r j t

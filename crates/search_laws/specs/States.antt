@@ -6,8 +6,8 @@ use Rattle.search_state.specs.declared.Place.{Place}
 use Rattle.search_state.specs.Budgets.{is_spent}
 use Rattle.search_state.specs.Positions.{position_row}
 use Rattle.search_state.specs.declared.Counts.{Counts}
-use Rattle.search_state.specs.declared.Stage.TheVariants as stage
-use Rattle.search_state.specs.declared.Stage.{Stage}
+use Rattle.search_state.specs.declared.Phase.TheVariants as phase
+use Rattle.search_state.specs.declared.Phase.{Phase}
 use Rattle.search_state.specs.declared.State.{State}
 use Rattle.search_state.specs.declared.Terms.{Terms}
 use Rattle.search_state.specs.declared.Unbroken.TheVariants as unbroken
@@ -17,14 +17,14 @@ use Rattle.search_laws.specs.declared.Reached.{Reached}
 use Rattle.search_laws.specs.declared.Stop.TheVariants as stop
 use Rattle.search_laws.specs.declared.Stop.{Stop}
 
-abbrev pub ended : State → Terms → Counts → Stage → State
-ended s t w g = record { stage = g; left_row = 0; right_row = 0; terms = t; counts = w; place = s.place; rows = s.rows; rules = s.rules }
+abbrev pub ended : State → Terms → Counts → Phase → State
+ended s t w g = record { phase = g; left_row = 0; right_row = 0; terms = t; counts = w; place = s.place; rows = s.rows; rules = s.rules }
 
 abbrev pub standing_by : Bool → State → Terms → Counts → Place → State
-standing_by true s t w p = ended s t w (stage.Ended unbroken.Spent)
+standing_by true s t w p = ended s t w (phase.Ended unbroken.Spent)
 standing_by false s t w p =
     record {
-      stage = stage.Going;
+      phase = phase.Going;
       left_row = position_row p.left w.used;
       right_row = position_row p.right w.used;
       terms = t;
@@ -49,7 +49,7 @@ all_linked starts table = each_linked table (members_of starts)
 -- after a pass that has added no row: what the working order's `finish` says, where the flag is whether each nonterminal whose words count has
 -- a live row
 abbrev pub finished : State → Terms → Counts → Bool → State
-finished s t w nonempty = ended s t w (stage.Ended (finished_by nonempty))
+finished s t w nonempty = ended s t w (phase.Ended (finished_by nonempty))
 
 abbrev pub opening_by : Bool → State → Terms → Reached → Bool → State
 opening_by true s t x nonempty = standing s t x.counts x.place
@@ -60,5 +60,5 @@ abbrev pub opening : State → Terms → Reached → Bool → State
 opening s t x nonempty = opening_by (ltb x.place.rule s.rules) s t x nonempty
 
 abbrev pub stopped_in : State → Stop → State
-stopped_in s (stop.Ended v w) = ended s s.terms w (stage.Ended v)
-stopped_in s (stop.Broken i w) = ended s s.terms w (stage.Broken i)
+stopped_in s (stop.Ended v w) = ended s s.terms w (phase.Ended v)
+stopped_in s (stop.Broken i w) = ended s s.terms w (phase.Broken i)

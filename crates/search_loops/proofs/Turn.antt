@@ -12,9 +12,9 @@ use Rattle.search_rows.specs.Meanings.{candidate_of}
 use Rattle.search_rows.specs.declared.Candidate.{Candidate}
 use Rattle.search_state.specs.Layout.{heads}
 use Rattle.search_state.specs.declared.Fate.{Fate}
-use Rattle.search_state.specs.Stages.{is_going}
-use Rattle.search_state.specs.declared.Stage.TheVariants.{Going, Waiting, Ended, Broken}
-use Rattle.search_state.specs.declared.Stage.{Stage}
+use Rattle.search_state.specs.Phases.{is_going}
+use Rattle.search_state.specs.declared.Phase.TheVariants.{Going, Waiting, Ended, Broken}
+use Rattle.search_state.specs.declared.Phase.{Phase}
 use Rattle.search_state.specs.declared.State.{State}
 use Rattle.search_links.specs.Rows.{rows_read}
 use Rattle.search_cover.specs.Seeking.{FindsIn}
@@ -29,17 +29,17 @@ use Rattle.search_glance.specs.GlanceLaws.{Glanced, glanced}
 use Rattle.search_glance.specs.Glancing.{Tries}
 use Rattle.search_glance.specs.declared.Tried.{Tried}
 
--- the loop goes on at one stage alone
-pub at-going : {g : Stage} → g ≡ Going → T (is_going g)
-at-going e = subst (λ (x : Stage). T (is_going x)) (sym e) tt
+-- the loop goes on at one phase alone
+pub at-going : {g : Phase} → g ≡ Going → T (is_going g)
+at-going e = subst (λ (x : Phase). T (is_going x)) (sym e) tt
 
-pub not-going : (g : Stage) → (g ≡ Going → ⊥) → T (not (is_going g))
+pub not-going : (g : Phase) → (g ≡ Going → ⊥) → T (not (is_going g))
 not-going Going n = n refl
 not-going Waiting n = tt
 not-going (Ended v) n = tt
 not-going (Broken i) n = tt
 
-module _ {letters : List ℕ} {rules : List (List ℕ)} {s₀ : State} {j₀ : Journal} {s : State} {j : Journal} {t n : List ℕ} (runs : Running letters rules s₀ j₀ s j t) (y : T (is_going s.stage)) (near : NearIn s j n) (r : Tried) (h : Tries letters rules t n s r) where
+module _ {letters : List ℕ} {rules : List (List ℕ)} {s₀ : State} {j₀ : Journal} {s : State} {j : Journal} {t n : List ℕ} (runs : Running letters rules s₀ j₀ s j t) (y : T (is_going s.phase)) (near : NearIn s j n) (r : Tried) (h : Tries letters rules t n s r) where
   pub seen : Glanced runs y near r
   seen = glanced runs y near r h
 
@@ -62,7 +62,7 @@ module _ {letters : List ℕ} {rules : List (List ℕ)} {s₀ : State} {j₀ : J
 
       -- and left behind
       module _ {t' : List ℕ} {r' : State} (h₃ : Advances rules t₁ r.state w l t' r') where
-        advanced : running.Running (problem_in s₀.terms.starts s₀.terms.finals letters rules) rules s₀ j₀ r' j' t' × (candidates_left r' < candidates_left r.state) × (T (is_going r'.stage) → r'.counts.used ≡ (counts_in (decided_in r.state w)).used)
+        advanced : running.Running (problem_in s₀.terms.starts s₀.terms.finals letters rules) rules s₀ j₀ r' j' t' × (candidates_left r' < candidates_left r.state) × (T (is_going r'.phase) → r'.counts.used ≡ (counts_in (decided_in r.state w)).used)
         advanced = h₃ (problem_in s₀.terms.starts s₀.terms.finals letters rules) (problem-laws s₀.terms.starts s₀.terms.finals letters rules) s₀ j₀ j' (candidate_of c) considered-here
 
         pub fewer : candidates_left r' < candidates_left s
@@ -71,5 +71,5 @@ module _ {letters : List ℕ} {rules : List (List ℕ)} {s₀ : State} {j₀ : J
         pub runs-on : Running letters rules s₀ j₀ r' j' t'
         runs-on = record { all = runs.all; search = advanced.0 }
 
-        pub near-then : c.head < heads → value_of c.relation < 2 ^ (states * states) → {n₂ : List ℕ} → Stays n₁ r.state.counts.used c.head (candidate_of c).effect (w.covered || w.full) n₂ → T (is_going r'.stage) → NearIn r' j' n₂
+        pub near-then : c.head < heads → value_of c.relation < 2 ^ (states * states) → {n₂ : List ℕ} → Stays n₁ r.state.counts.used c.head (candidate_of c).effect (w.covered || w.full) n₂ → T (is_going r'.phase) → NearIn r' j' n₂
         near-then hh fits e₂ z = near-after seen.runs seen.goes c (looked f) hw hh fits h₂ e₂ r' (advanced.2 z)

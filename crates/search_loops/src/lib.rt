@@ -3,13 +3,13 @@
 #![tactic(auto)]
 
 ghost use Rattle.std.specs.Prelude.{T};
-ghost use Rattle.search_state.specs.Stages.{is_going};
+ghost use Rattle.search_state.specs.Phases.{is_going};
 ghost use Rattle.search_laws.specs.OnRelations.{NearIn, MayInsert, CandidateInserted, Running, Ran};
 
 use relation::Letter;
 use search_cover::CoverAnswer;
 use search_rows::Candidate;
-use search_state::{Fate, Stage, State};
+use search_state::{Fate, Phase, State};
 use spec_calls::Row;
 
 // Where `fate` says that no row covers `candidate` and there is room, the larger rows retire and it becomes the next row. `found` is where
@@ -46,11 +46,11 @@ pub fn run(
     rules: &[[u8; 4]],
     state: State,
 ) -> State
-    requires { Running letters.now rules.now state journal.old state journal.old table.old × (T (is_going state.stage) → NearIn state journal.old near.old) }
+    requires { Running letters.now rules.now state journal.old state journal.old table.old × (T (is_going state.phase) → NearIn state journal.old near.old) }
     ensures { Ran letters.now rules.now state journal.old journal.new table.new result }
 {
     let mut state = state;
-    while let Stage::Going = state.stage {
+    while let Phase::Going = state.phase {
         let tried = search_glance::glance(letters, rules, near, table, state);
         let here = tried.state;
         let i = here.left_row;

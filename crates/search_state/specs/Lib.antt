@@ -1,6 +1,6 @@
 pub mod Layout
 pub mod Budgets
-pub mod Stages
+pub mod Phases
 pub mod Positions
 pub mod PositionLaws
 pub mod Fates

@@ -144,18 +144,18 @@ pub enum Unbroken {
 
 // How far a search is: it goes on at a place, it has not begun, or it has ended with a verdict; a broken one names its row.
 #[derive(Clone, Copy)]
-pub enum Stage {
+pub enum Phase {
     Going,
     Waiting,
     Ended(Unbroken),
     Broken(usize),
 }
 
-// The search between two candidates. While its `stage` is `Going`, `place` is the candidate to form next, and `left_row` and `right_row` are the
+// The search between two candidates. While its `phase` is `Going`, `place` is the candidate to form next, and `left_row` and `right_row` are the
 // journal rows to read for it (0 if its body has no such row). `rows` is the journal's length, `rules` the number of rules.
 #[derive(Clone, Copy)]
 pub struct State {
-    pub stage: Stage,
+    pub phase: Phase,
     pub left_row: usize,
     pub right_row: usize,
     pub terms: Terms,

@@ -6,7 +6,7 @@ ghost use Rattle.search_laws.specs.Meanings.{totals_of, code_of, answer_in};
 ghost use Rattle.search_laws.specs.States.{ended, standing, finished, opening, stopped_in};
 
 use search_laws::{Answer, EMPTY, FULL, HOLDS, Reached, SPENT, Stop, Totals};
-use search_state::{Counts, Place, Stage, State, Terms, Unbroken};
+use search_state::{Counts, Phase, Place, State, Terms, Unbroken};
 
 // The number of a verdict that shows no row.
 pub fn code_of(unbroken: Unbroken) -> u8
@@ -20,13 +20,13 @@ pub fn code_of(unbroken: Unbroken) -> u8
     }
 }
 
-// At the end, with the verdict that `stage` has.
-pub fn end_with(state: State, terms: Terms, counts: Counts, stage: Stage) -> State
-    ensures { result ≡ ended state terms counts stage }
+// At the end, with the verdict that `phase` has.
+pub fn end_with(state: State, terms: Terms, counts: Counts, phase: Phase) -> State
+    ensures { result ≡ ended state terms counts phase }
 {
     let place = state.place;
     State {
-        stage,
+        phase,
         left_row: 0,
         right_row: 0,
         terms,
@@ -43,10 +43,10 @@ pub fn stand_at(state: State, terms: Terms, counts: Counts, place: Place) -> Sta
     ensures { result ≡ standing state terms counts place }
 {
     if terms.spent(counts.joins) {
-        return end_with(state, terms, counts, Stage::Ended(Unbroken::Spent));
+        return end_with(state, terms, counts, Phase::Ended(Unbroken::Spent));
     }
     State {
-        stage: Stage::Going,
+        phase: Phase::Going,
         left_row: search_state::position_row(place.left, counts.used),
         right_row: search_state::position_row(place.right, counts.used),
         terms: Terms {
@@ -70,9 +70,9 @@ pub fn finish(state: State, terms: Terms, counts: Counts, nonempty: bool) -> Sta
     ensures { result ≡ finished state terms counts nonempty }
 {
     if nonempty {
-        return end_with(state, terms, counts, Stage::Ended(Unbroken::Holds));
+        return end_with(state, terms, counts, Phase::Ended(Unbroken::Holds));
     }
-    end_with(state, terms, counts, Stage::Ended(Unbroken::Empty))
+    end_with(state, terms, counts, Phase::Ended(Unbroken::Empty))
 }
 
 // At the first place of a pass that needs work. Past the last rule there is none: the pass adds no row, and `nonempty` decides the end.
@@ -93,8 +93,8 @@ pub fn stop(state: State, stop: Stop) -> State
 {
     let terms = state.terms;
     match stop {
-        Stop::Ended(unbroken, counts) => end_with(state, terms, counts, Stage::Ended(unbroken)),
-        Stop::Broken(row, counts) => end_with(state, terms, counts, Stage::Broken(row)),
+        Stop::Ended(unbroken, counts) => end_with(state, terms, counts, Phase::Ended(unbroken)),
+        Stop::Broken(row, counts) => end_with(state, terms, counts, Phase::Broken(row)),
     }
 }
 
@@ -117,9 +117,9 @@ pub fn answer_of(state: State) -> Answer
     ensures { result ≡ answer_in state }
 {
     let totals = sum_up(state);
-    match state.stage {
-        Stage::Ended(unbroken) => Answer::Ended(unbroken, totals),
-        Stage::Broken(row) => Answer::Broken(row, totals),
-        Stage::Going | Stage::Waiting => Answer::Ended(Unbroken::Spent, totals),
+    match state.phase {
+        Phase::Ended(unbroken) => Answer::Ended(unbroken, totals),
+        Phase::Broken(row) => Answer::Broken(row, totals),
+        Phase::Going | Phase::Waiting => Answer::Ended(Unbroken::Spent, totals),
     }
 }

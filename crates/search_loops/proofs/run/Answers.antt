@@ -10,7 +10,7 @@ use Rattle.search_laws.specs.Advancing.{may-advance}
 use Rattle.search_glance.specs.GlanceLaws.{may-glance}
 use Rattle.search_loops.proofs.Turn.{at-going, not-going, seen, looked, considered-here, fewer, runs-on, near-then}
 use Rattle.search_loops.proofs.run.Goals as goal
-use Rattle.search_state.specs.Stages.{is_going}
+use Rattle.search_state.specs.Phases.{is_going}
 
 pub loop-state-init : goal.loop-state-init
 loop-state-init c = record { runs = c.requires.0; near = c.requires.1 }
@@ -18,13 +18,13 @@ loop-state-init c = record { runs = c.requires.0; near = c.requires.1 }
 pub glance-tried-requires : goal.glance-tried-requires
 glance-tried-requires c =
     let i = c.loop-state.invariant in
-    let y : T (is_going c.loop-state.state.stage) = at-going c.in-Going.is in
+    let y : T (is_going c.loop-state.state.phase) = at-going c.in-Going.is in
     may-glance i.runs y (i.near y)
 
 pub slice_copy_out-left : goal.slice_copy_out-left
 slice_copy_out-left c =
     let i = c.loop-state.invariant in
-    let y : T (is_going c.loop-state.state.stage) = at-going c.in-Going.is in
+    let y : T (is_going c.loop-state.state.phase) = at-going c.in-Going.is in
     let z = seen i.runs y (i.near y) c.glance-tried.result c.glance-tried.ensures in
     left-inside z.runs.search z.goes
 
@@ -36,7 +36,7 @@ offset_bounds-journal-i c =
 pub slice_copy_out-right : goal.slice_copy_out-right
 slice_copy_out-right c =
     let i = c.loop-state.invariant in
-    let y : T (is_going c.loop-state.state.stage) = at-going c.in-Going.is in
+    let y : T (is_going c.loop-state.state.phase) = at-going c.in-Going.is in
     let z = seen i.runs y (i.near y) c.glance-tried.result c.glance-tried.ensures in
     right-inside z.runs.search z.goes
 
@@ -48,14 +48,14 @@ offset_bounds-journal-k c =
 pub form-candidate-requires : goal.form-candidate-requires
 form-candidate-requires c =
     let i = c.loop-state.invariant in
-    let y : T (is_going c.loop-state.state.stage) = at-going c.in-Going.is in
+    let y : T (is_going c.loop-state.state.phase) = at-going c.in-Going.is in
     let z = seen i.runs y (i.near y) c.glance-tried.result c.glance-tried.ensures in
     may-form z.runs z.goes
 
 pub find-found-requires : goal.find-found-requires
 find-found-requires c =
     let i = c.loop-state.invariant in
-    let y : T (is_going c.loop-state.state.stage) = at-going c.in-Going.is in
+    let y : T (is_going c.loop-state.state.phase) = at-going c.in-Going.is in
     let z = seen i.runs y (i.near y) c.glance-tried.result c.glance-tried.ensures in
     may-look z.runs z.goes z.beside
 
@@ -63,7 +63,7 @@ pub insert-requires : goal.insert-requires
 unfolding none
 insert-requires c =
     let i = c.loop-state.invariant in
-    let y : T (is_going c.loop-state.state.stage) = at-going c.in-Going.is in
+    let y : T (is_going c.loop-state.state.phase) = at-going c.in-Going.is in
     let r = c.glance-tried.result in
     let z = seen i.runs y (i.near y) r c.glance-tried.ensures in
     let k = c.form-candidate.result in
@@ -73,7 +73,7 @@ pub keep_near-requires : goal.keep_near-requires
 unfolding none
 keep_near-requires c =
     let i = c.loop-state.invariant in
-    let y : T (is_going c.loop-state.state.stage) = at-going c.in-Going.is in
+    let y : T (is_going c.loop-state.state.phase) = at-going c.in-Going.is in
     let r = c.glance-tried.result in
     let z = seen i.runs y (i.near y) r c.glance-tried.ensures in
     let k = c.form-candidate.result in
@@ -85,21 +85,21 @@ pub advance-state-requires : goal.advance-state-requires
 unfolding none
 advance-state-requires c =
     let i = c.loop-state.invariant in
-    let y : T (is_going c.loop-state.state.stage) = at-going c.in-Going.is in
+    let y : T (is_going c.loop-state.state.phase) = at-going c.in-Going.is in
     may-advance (considered-here i.runs y (i.near y) c.glance-tried.result c.glance-tried.ensures c.form-candidate.result c.form-candidate.ensures c.find-found.ensures c.fate-fate.ensures c.insert.ensures)
 
 pub loop-state-smaller : goal.loop-state-smaller
 unfolding none
 loop-state-smaller c =
     let i = c.loop-state.invariant in
-    let y : T (is_going c.loop-state.state.stage) = at-going c.in-Going.is in
+    let y : T (is_going c.loop-state.state.phase) = at-going c.in-Going.is in
     fewer i.runs y (i.near y) c.glance-tried.result c.glance-tried.ensures c.form-candidate.result c.form-candidate.ensures c.find-found.ensures c.fate-fate.ensures c.insert.ensures c.advance-state.ensures
 
 pub loop-state-preserved : goal.loop-state-preserved
 unfolding none
 loop-state-preserved c =
     let i = c.loop-state.invariant in
-    let y : T (is_going c.loop-state.state.stage) = at-going c.in-Going.is in
+    let y : T (is_going c.loop-state.state.phase) = at-going c.in-Going.is in
     let r = c.glance-tried.result in
     let k = c.form-candidate.result in
     let hh : k.head < heads = omega arith in
@@ -110,4 +110,4 @@ loop-state-preserved c =
     }
 
 pub returns : goal.returns
-returns c = (not-going c.loop-state.state.stage c.in_default.not-Going, c.loop-state.invariant.runs)
+returns c = (not-going c.loop-state.state.phase c.in_default.not-Going, c.loop-state.invariant.runs)

@@ -1,9 +1,9 @@
 -- Whether a search is at a place. Definitions only. Assumes nothing.
 use Rattle.std.specs.Prelude.{Bool, true, false}
-use Rattle.search_state.specs.declared.Stage.{Stage}
-use Rattle.search_state.specs.declared.Stage.TheVariants.{Going, Waiting, Ended, Broken}
+use Rattle.search_state.specs.declared.Phase.{Phase}
+use Rattle.search_state.specs.declared.Phase.TheVariants.{Going, Waiting, Ended, Broken}
 
-abbrev pub is_going : Stage → Bool
+abbrev pub is_going : Phase → Bool
 is_going Going = true
 is_going Waiting = false
 is_going (Ended v) = false

@@ -2,7 +2,7 @@
 // over to sixteen bytes, and `narrow` moves them back. `put` and `put_narrower` write a part of an output; unfolding uses them too.
 #![tactic(auto)]
 
-ghost use Rattle.std.specs.Prelude.{◌≡◌, ◌+◌, ◌*◌, ◌≤◌, ◌/◌, length};
+ghost use Rattle.std.specs.Prelude.{◌≡◌, ◌+◌, ◌*◌, ◌<◌, ◌≤◌, ◌/◌, length};
 ghost use Rattle.std.proofs.Math.Seq.{paste};
 ghost use Rattle.spec_file.specs.Answers.{tested_of};
 ghost use Rattle.spec_file.specs.Refusals.{first_of};
@@ -10,6 +10,7 @@ ghost use Rattle.spec_unfold.specs.Calls.{widen_refusals, narrow_refusals};
 ghost use Rattle.spec_unfold.specs.Moving.{widened, narrowed, has_long};
 ghost use Rattle.call_move.specs.Answers.{Widens, Narrows};
 ghost use Rattle.call_move.specs.Fronts.{over};
+ghost use Rattle.call_move.specs.LongLaws.{long_at};
 
 use file_wide_checks::WIDTH;
 use spec_file::{Fault, RULE_KIND, Refusal, refuse_if};
@@ -52,15 +53,22 @@ pub fn put_narrower(file: &[u8], out: &mut [u8])
 
 // ---- what refuses a move
 
-// Returns whether a record of `file`, of sixteen bytes each, is a rule with a body above two symbols.
+// Returns whether record `i` of `file`, of sixteen bytes each, is a rule with a body above two symbols.
+fn long_at(file: &[u8], i: usize) -> bool
+    requires { i < length file.now / 16 }
+    ensures { result ≡ long_at file.now i }
+{
+    let from = i * WIDTH;
+    file[from] == RULE_KIND && 2 < file[from + 2]
+}
+
+// Returns whether a record of `file` is such a rule.
 fn has_long(file: &[u8]) -> bool
     ensures { result ≡ has_long file.now }
 {
-    // No record before `i` is such a rule.
+    // No record before `i` is one.
     for i in 0..file.len() / WIDTH {
-        let from = i * WIDTH;
-        let long = (file[from] == RULE_KIND) & (2 < file[from + 2]);
-        if long {
+        if long_at(file, i) {
             return true;
         }
     }

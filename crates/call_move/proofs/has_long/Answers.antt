@@ -6,11 +6,11 @@ use Rattle.call_move.proofs.has_long.Goals as goal
 pub loop-i-init : goal.loop-i-init
 loop-i-init c = long-start c.args.file.now
 
-pub returns-then-long : goal.returns-then-long
-returns-then-long c = sym (long-here c.args.file.now c.loop-i.i (omega arith) c.if-long.true) ∙ c.loop-i.invariant
+pub returns-then-long_at : goal.returns-then-long_at
+returns-then-long_at c = sym (long-here c.args.file.now c.loop-i.i (omega arith) (sym c.long_at.ensures ∙ c.if-long_at.true)) ∙ c.loop-i.invariant
 
 pub loop-i-preserved : goal.loop-i-preserved
-loop-i-preserved c = sym (long-next c.args.file.now c.loop-i.i (omega arith) c.if-long.false) ∙ c.loop-i.invariant
+loop-i-preserved c = sym (long-next c.args.file.now c.loop-i.i (omega arith) (sym c.long_at.ensures ∙ c.if-long_at.false)) ∙ c.loop-i.invariant
 
 pub returns : goal.returns
 returns c = sym (long-end c.args.file.now c.loop-i.i (omega arith)) ∙ c.loop-i.invariant

@@ -82,18 +82,11 @@ fn ask(file: &[u8], rows: usize, old: Row, budget: u64, sample_row: usize) -> Ch
     )
 }
 
-fn put(journal: &mut [Numbers], i: usize, row: Numbers) {
-    if i < journal.len() {
-        journal[i] = row;
-    }
-}
-
 // Stores the first `count` rows that a check leaves in `journal`, each from a check of its own.
 fn collect(file: &[u8], rows: usize, old: Row, budget: u64, count: usize, journal: &mut [Numbers]) {
-    for i in 0..count {
+    for (i, row) in journal.iter_mut().take(count).enumerate() {
         let told = ask(file, rows, old, budget, i);
-        let row = numbers(told.sample);
-        put(journal, i, row);
+        *row = numbers(told.sample);
     }
 }
 
@@ -280,54 +273,24 @@ fn check_from(file: &[u8], found: &Found, count: usize, verdict: Verdict, starts
 
 // ---- a file
 
-// Returns 6 unless the check of `file` is refused with 12 at record `record`, its first move on a remark; 0 if it is.
-pub fn refusal(file: &[u8], record: usize) -> u64 {
+// Returns 6, the number of this comparison, unless the check of `file` is refused with 12 at record `record`, its first move on a remark.
+pub fn refusal(file: &[u8], record: usize) -> Option<u64> {
     let told = ask(file, ROWS, Row::blank(), BUDGET, 0);
     if (told.code == ON_REMARK) & (told.place == record as u64) {
-        return 0;
+        return None;
     }
-    6
+    Some(6)
 }
 
-// Returns the number of the first comparison that fails; 0 if none does.
-fn first_failing(
-    verdict: bool,
-    relations: bool,
-    more: bool,
-    old: bool,
-    less: bool,
-    from_set: bool,
-) -> u64 {
-    if !verdict {
-        return 1;
-    }
-    if !relations {
-        return 2;
-    }
-    if !more {
-        return 3;
-    }
-    if !old {
-        return 4;
-    }
-    if !less {
-        return 5;
-    }
-    if !from_set {
-        return 7;
-    }
-    0
-}
-
-// The result for one file: the verdict and the used rows, the verdict with few rows and a small budget, the verdict from a set, and the first
-// comparison that failed.
+// The result for one file: the verdict and the used rows, the verdict with few rows and a small budget, the verdict from a set, and the number
+// of the first comparison that failed.
 #[derive(Clone, Copy)]
 pub struct Outcome {
     pub verdict: u64,
     pub used: u64,
     pub small: u64,
     pub from_set: u64,
-    pub failing: u64,
+    pub failing: Option<u64>,
 }
 
 // Makes the comparisons of `file`, of which the unpruned search has listed the first `count` pairs of `found` and given `verdict`.
@@ -358,19 +321,20 @@ pub fn compare(
     let other = trial.old;
     let starts = tried(trial.set, trial.budget % 4, verdict);
     let from_set = check_from(file, found, count, verdict, starts);
-    let failing = first_failing(
-        right(file, &journal, told, &buffer, verdict),
-        accounted(&journal, told, found, count),
-        same_with_more(file, &journal, told),
-        same_with_old(file, &journal, told, other),
-        fair(told, small, trial.few, trial.budget),
-        from_set.right,
-    );
+    let comparisons = [
+        (1, right(file, &journal, told, &buffer, verdict)),
+        (2, accounted(&journal, told, found, count)),
+        (3, same_with_more(file, &journal, told)),
+        (4, same_with_old(file, &journal, told, other)),
+        (5, fair(told, small, trial.few, trial.budget)),
+        (7, from_set.right),
+    ];
+    let failing = comparisons.iter().find(|(_, right)| !*right);
     Outcome {
         verdict: told.code,
         used: told.used,
         small: small.code,
         from_set: from_set.code,
-        failing,
+        failing: failing.map(|(number, _)| *number),
     }
 }

@@ -23,48 +23,33 @@
 mod comparison;
 
 use comparison::Outcome;
+use host_result::{BROKEN, EMPTY, FULL, HOLDS, SPENT};
 use std::io;
 use test_random::Trial;
 use test_unpruned::Verdict;
 
 const FILES: u64 = 10000;
 
-// What is counted: the places in the tally.
-const HOLDS: usize = 0;
+// What is counted.
+#[derive(Clone, Copy, Default)]
+struct Tally {
+    holds: u64,
+    empty: u64,
+    pruned: u64,
+    broken: u64,
+    full: u64,
+    spent: u64,
+    neither: u64,
+    from_holds: u64,
+    from_empty: u64,
+    from_broken: u64,
+    refused: u64,
+    skipped: u64,
+    mismatches: u64,
+}
 
-const EMPTY: usize = 1;
-
-const PRUNED: usize = 2;
-
-const BROKEN: usize = 3;
-
-const FULL: usize = 4;
-
-const SPENT: usize = 5;
-
-const NEITHER: usize = 6;
-
-const FROM_HOLDS: usize = 7;
-
-const FROM_EMPTY: usize = 8;
-
-const FROM_BROKEN: usize = 9;
-
-const REFUSED: usize = 10;
-
-const SKIPPED: usize = 11;
-
-const MISMATCHES: usize = 12;
-
-const COUNTS: usize = 13;
-
-type Tally = [u64; COUNTS];
-
-fn count_one(tally: &mut Tally, i: usize) {
-    if i < COUNTS {
-        let n = tally[i];
-        tally[i] = std::num::wrapping_add_u64(n, 1);
-    }
+fn count_one(n: &mut u64) {
+    *n = n.wrapping_add(1);
 }
 
 fn line(rt: &impl Print, name: &[u8], n: u64) -> io::Result<()> {
@@ -74,75 +59,65 @@ fn line(rt: &impl Print, name: &[u8], n: u64) -> io::Result<()> {
 
 // Counts the verdict with ample rows and joins.
 fn count_verdict(tally: &mut Tally, outcome: Outcome, verdict: Verdict) {
-    if outcome.verdict == host_result::BROKEN {
-        count_one(tally, BROKEN);
-        return;
-    }
-    if outcome.verdict == host_result::EMPTY {
-        count_one(tally, EMPTY);
-    } else {
-        count_one(tally, HOLDS);
-    }
-    if outcome.used < verdict.relations {
-        count_one(tally, PRUNED);
+    count_one(match outcome.verdict {
+        BROKEN => &mut tally.broken,
+        EMPTY => &mut tally.empty,
+        _ => &mut tally.holds,
+    });
+    if outcome.verdict != BROKEN && outcome.used < verdict.relations {
+        count_one(&mut tally.pruned);
     }
 }
 
 // Counts the verdict with few rows and a small budget.
 fn count_small(tally: &mut Tally, verdict: u64) {
-    if verdict == host_result::FULL {
-        count_one(tally, FULL);
-    } else if verdict == host_result::SPENT {
-        count_one(tally, SPENT);
-    } else {
-        count_one(tally, NEITHER);
-    }
+    count_one(match verdict {
+        FULL => &mut tally.full,
+        SPENT => &mut tally.spent,
+        _ => &mut tally.neither,
+    });
 }
 
 // Counts the verdict from a set.
 fn count_from_set(tally: &mut Tally, verdict: u64) {
-    if verdict == host_result::HOLDS {
-        count_one(tally, FROM_HOLDS);
-    } else if verdict == host_result::EMPTY {
-        count_one(tally, FROM_EMPTY);
-    } else {
-        count_one(tally, FROM_BROKEN);
-    }
+    count_one(match verdict {
+        HOLDS => &mut tally.from_holds,
+        EMPTY => &mut tally.from_empty,
+        _ => &mut tally.from_broken,
+    });
 }
 
-fn count_mismatch(rt: &impl Print, tally: &mut Tally, number: u64, failing: u64) -> io::Result<()> {
-    if failing != 0 {
-        count_one(tally, MISMATCHES);
+fn count_mismatch(
+    rt: &impl Print,
+    tally: &mut Tally,
+    number: u64,
+    failing: Option<u64>,
+) -> io::Result<()> {
+    if let Some(failing) = failing {
+        count_one(&mut tally.mismatches);
         line(rt, b"file ", number)?;
         line(rt, b"fails ", failing)?;
     }
     Ok(())
 }
 
-// Searches the file that is the first `size` bytes of `buffer`, and compares.
+// Searches `file`, and compares.
 fn try_file(
     rt: &impl Print,
     number: u64,
-    buffer: &[u8; 192],
-    size: usize,
+    file: &[u8],
     trial: Trial,
     tally: &mut Tally,
 ) -> io::Result<()> {
-    let whole: &[u8] = buffer;
-    if whole.len() < size {
-        return Ok(());
-    }
-    let file = &whole[0..size];
     let remark = test_unpruned::remark_transition(file);
     if remark < test_unpruned::RECORDS {
-        count_one(tally, REFUSED);
-        count_mismatch(rt, tally, number, comparison::refusal(file, remark))?;
-        return Ok(());
+        count_one(&mut tally.refused);
+        return count_mismatch(rt, tally, number, comparison::refusal(file, remark));
     }
     let mut found = [test_unpruned::BLANK; test_unpruned::LIMIT];
     let count = test_unpruned::search(file, &mut found);
     if count == test_unpruned::LIMIT {
-        count_one(tally, SKIPPED);
+        count_one(&mut tally.skipped);
         return Ok(());
     }
     let verdict = test_unpruned::decide(file, &found, count);
@@ -158,7 +133,7 @@ fn try_next(rt: &impl Print, number: u64, seed: &mut u64, tally: &mut Tally) -> 
     let mut buffer = [0u8; 192];
     let size = test_random::next(seed, &mut buffer);
     let trial = test_random::draw_trial(seed);
-    try_file(rt, number, &buffer, size, trial, tally)
+    try_file(rt, number, &buffer[..size.min(192)], trial, tally)
 }
 
 fn try_all(rt: &impl Print, tally: &mut Tally) -> io::Result<()> {
@@ -171,32 +146,32 @@ fn try_all(rt: &impl Print, tally: &mut Tally) -> io::Result<()> {
 
 fn report_checks(rt: &impl Print, tally: Tally) -> io::Result<()> {
     line(rt, b"files ", FILES)?;
-    line(rt, b"holds ", tally[HOLDS])?;
-    line(rt, b"empty ", tally[EMPTY])?;
-    line(rt, b"pruned ", tally[PRUNED])?;
-    line(rt, b"broken ", tally[BROKEN])
+    line(rt, b"holds ", tally.holds)?;
+    line(rt, b"empty ", tally.empty)?;
+    line(rt, b"pruned ", tally.pruned)?;
+    line(rt, b"broken ", tally.broken)
 }
 
 fn report_trials(rt: &impl Print, tally: Tally) -> io::Result<()> {
-    line(rt, b"full ", tally[FULL])?;
-    line(rt, b"spent ", tally[SPENT])?;
-    line(rt, b"neither ", tally[NEITHER])
+    line(rt, b"full ", tally.full)?;
+    line(rt, b"spent ", tally.spent)?;
+    line(rt, b"neither ", tally.neither)
 }
 
 fn report_sets(rt: &impl Print, tally: Tally) -> io::Result<()> {
-    line(rt, b"from a set holds ", tally[FROM_HOLDS])?;
-    line(rt, b"from a set empty ", tally[FROM_EMPTY])?;
-    line(rt, b"from a set broken ", tally[FROM_BROKEN])
+    line(rt, b"from a set holds ", tally.from_holds)?;
+    line(rt, b"from a set empty ", tally.from_empty)?;
+    line(rt, b"from a set broken ", tally.from_broken)
 }
 
 fn report_rest(rt: &impl Print, tally: Tally) -> io::Result<()> {
-    line(rt, b"refused ", tally[REFUSED])?;
-    line(rt, b"skipped ", tally[SKIPPED])?;
-    line(rt, b"mismatches ", tally[MISMATCHES])
+    line(rt, b"refused ", tally.refused)?;
+    line(rt, b"skipped ", tally.skipped)?;
+    line(rt, b"mismatches ", tally.mismatches)
 }
 
 fn main(rt: HostRuntime) -> io::Result<()> {
-    let mut tally = [0u64; COUNTS];
+    let mut tally = Tally::default();
     try_all(&rt, &mut tally)?;
     report_checks(&rt, tally)?;
     report_trials(&rt, tally)?;

@@ -51,7 +51,7 @@ pub fn print_label(rt: &impl Print, label: &[u8]) -> io::Result<()> {
 
 pub fn print_refused(rt: &impl Print, r: Refusal) -> io::Result<()> {
     print(rt, b"refused ")?;
-    print_number(rt, r.number)?;
+    print_number(rt, r.fault.number())?;
     print(rt, b" at ")?;
     print_number(rt, r.place as u64)
 }

@@ -2,7 +2,8 @@
 // the buffer are as they were. The stored output is what document 02, C-16, asks for.
 #![tactic(auto)]
 
-use call_gaps::{LIST_BYTES, Listed};
+use call_gaps::LIST_BYTES;
+use spec_file::Refusal;
 use std::io;
 use test_files::{
     HELD, LARGEST, SAMPLE, fill, front, print, print_byte, print_label, print_number,
@@ -31,16 +32,16 @@ fn print_kept(rt: &impl Print, list: &[u8]) -> io::Result<()> {
 }
 
 // Prints the entries too, where they are few.
-fn print_listed(rt: &impl Print, answer: Listed, list: &[u8]) -> io::Result<()> {
+fn print_listed(rt: &impl Print, answer: Result<usize, Refusal>, list: &[u8]) -> io::Result<()> {
     match answer {
-        Listed::Entries(n) => {
+        Ok(n) => {
             print_number(rt, n as u64)?;
             print(rt, b" entries")?;
             if n < 10 {
                 print_entries(rt, list)?;
             }
         }
-        Listed::Refused(refusal) => {
+        Err(refusal) => {
             print_refused(rt, refusal)?;
         }
     }

@@ -103,12 +103,7 @@ fn turned_away(file: &[u8], buffer: &[u8], size: usize) -> bool {
     if buffer.len() < size {
         return false;
     }
-    let judged = call_judge::judge(file, &buffer[0..size]);
-    match judged {
-        Judged::TurnedAway => true,
-        Judged::Accepted => false,
-        Judged::Refused(_) => false,
-    }
+    call_judge::judge(file, &buffer[0..size]) == Ok(Judged::TurnedAway)
 }
 
 // Tests whether the word in `buffer` is as long as the broken row says, is turned away, and has the row's relation.

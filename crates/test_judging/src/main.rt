@@ -3,6 +3,7 @@
 #![tactic(auto)]
 
 use call_judge::Judged;
+use spec_file::Refusal;
 use std::io;
 use test_files::{
     HELD, SAMPLE, SHEET, front, print, print_label, print_refused, put, sample, sheet,
@@ -10,11 +11,11 @@ use test_files::{
 
 const WORD: usize = 65536;
 
-fn print_judged(rt: &impl Print, judged: Judged) -> io::Result<()> {
+fn print_judged(rt: &impl Print, judged: Result<Judged, Refusal>) -> io::Result<()> {
     match judged {
-        Judged::Accepted => print(rt, b"accepted"),
-        Judged::TurnedAway => print(rt, b"turned away"),
-        Judged::Refused(refusal) => print_refused(rt, refusal),
+        Ok(Judged::Accepted) => print(rt, b"accepted"),
+        Ok(Judged::TurnedAway) => print(rt, b"turned away"),
+        Err(refusal) => print_refused(rt, refusal),
     }
 }
 

@@ -4,6 +4,7 @@
 
 use call_member::Recognized;
 use member_table::STRETCH_CELLS;
+use spec_file::Refusal;
 use std::io;
 use test_files::{
     HELD, SAMPLE, front, print, print_label, print_number, print_refused, put, sample,
@@ -34,17 +35,21 @@ fn print_kept(rt: &impl Print, table: &[u64]) -> io::Result<()> {
     print_number(rt, kept as u64)
 }
 
-fn print_recognized(rt: &impl Print, answer: Recognized, table: &[u64]) -> io::Result<()> {
+fn print_recognized(
+    rt: &impl Print,
+    answer: Result<Recognized, Refusal>,
+    table: &[u64],
+) -> io::Result<()> {
     match answer {
-        Recognized::Derived => {
+        Ok(Recognized::Derived) => {
             print(rt, b"derived")?;
             print_cells(rt, table)?;
         }
-        Recognized::NotDerived => {
+        Ok(Recognized::NotDerived) => {
             print(rt, b"not derived")?;
             print_cells(rt, table)?;
         }
-        Recognized::Refused(refusal) => {
+        Err(refusal) => {
             print_refused(rt, refusal)?;
             print_kept(rt, table)?;
         }

@@ -12,12 +12,11 @@ use test_files::{
 // ---- what a file is refused with
 
 // What a whole file is refused with.
-fn print_refusal(rt: &impl Print, r: Refusal) -> io::Result<()> {
-    if r.number == 0 {
-        print(rt, b"ok")?;
-        return Ok(());
+fn print_refusal(rt: &impl Print, tested: Result<(), Refusal>) -> io::Result<()> {
+    match tested {
+        Ok(()) => print(rt, b"ok"),
+        Err(refusal) => print_refused(rt, refusal),
     }
-    print_refused(rt, r)
 }
 
 fn print_whole(rt: &impl Print, file: &[u8; HELD], n: usize) -> io::Result<()> {

@@ -3,10 +3,10 @@
 // The stored output is what document 02, C-18, asks for.
 #![tactic(auto)]
 
-use call_move::Moved;
 use file_wide_checks::WideRecord;
 use host_result::{BROKEN, CheckResult, EMPTY, FULL, HOLDS, SPENT};
 use spec_calls::{INITIAL_ALONE, Options, Row};
+use spec_file::Refusal;
 use std::io;
 use test_files::{
     HELD, SAMPLE, front, print, print_bytes, print_label, print_number, print_refused, put, sample,
@@ -76,16 +76,16 @@ fn print_told(rt: &impl Print, told: CheckResult, run: &[u8]) -> io::Result<()> 
 }
 
 // Prints the result too, where it is short.
-fn print_moved(rt: &impl Print, answer: Moved, out: &[u8]) -> io::Result<()> {
+fn print_moved(rt: &impl Print, answer: Result<usize, Refusal>, out: &[u8]) -> io::Result<()> {
     match answer {
-        Moved::Length(n) => {
+        Ok(n) => {
             print_number(rt, n as u64)?;
             print(rt, b" bytes")?;
             if n < 33 {
                 print_bytes(rt, front(out, n))?;
             }
         }
-        Moved::Refused(refusal) => {
+        Err(refusal) => {
             print_refused(rt, refusal)?;
         }
     }

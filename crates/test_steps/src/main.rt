@@ -28,9 +28,9 @@ fn print_given(rt: &impl Print, r: Record, next: usize) -> io::Result<()> {
 
 fn print_step(rt: &impl Print, step: Step) -> io::Result<()> {
     match step {
-        Step::Gives(r, next) => print_given(rt, r, next),
-        Step::Refused(refusal) => print_refused(rt, refusal),
-        Step::Ended => print(rt, b"ended"),
+        Ok(Some((r, next))) => print_given(rt, r, next),
+        Err(refusal) => print_refused(rt, refusal),
+        Ok(None) => print(rt, b"ended"),
     }
 }
 
@@ -193,7 +193,7 @@ fn walk_file(rt: &impl Print, file: &[u8]) -> io::Result<()> {
     let mut place: usize = 0;
     for _ in 0..RECORDS {
         let out = step_at(file, place);
-        let Step::Gives(r, next) = out else {
+        let Ok(Some((r, next))) = out else {
             return print_stop(rt, t, out);
         };
         t.count(r);

@@ -2,9 +2,9 @@
 // result byte by byte, and how many bytes of the output are as they were. The stored output is what document 02, C-17, asks for.
 #![tactic(auto)]
 
-use call_move::Moved;
 use file_wide_checks::WideRecord;
 use spec_calls::INITIAL_ALONE;
+use spec_file::Refusal;
 use std::io;
 use test_files::{
     HELD, LARGEST, SAMPLE, fill, front, print, print_bytes, print_label, print_number,
@@ -32,16 +32,16 @@ fn print_kept(rt: &impl Print, out: &[u8]) -> io::Result<()> {
 }
 
 // Prints the result too, where it is short.
-fn print_moved(rt: &impl Print, answer: Moved, out: &[u8]) -> io::Result<()> {
+fn print_moved(rt: &impl Print, answer: Result<usize, Refusal>, out: &[u8]) -> io::Result<()> {
     match answer {
-        Moved::Length(n) => {
+        Ok(n) => {
             print_number(rt, n as u64)?;
             print(rt, b" bytes")?;
             if n < 65 {
                 print_bytes(rt, front(out, n))?;
             }
         }
-        Moved::Refused(refusal) => {
+        Err(refusal) => {
             print_refused(rt, refusal)?;
         }
     }

@@ -2,9 +2,9 @@
 // The stored output is what document 01 asks for (numbers 8, 9 and 10, "a row fits if", "Writing a run").
 #![tactic(auto)]
 
-use call_write::Writing;
 use relation::Relation;
 use spec_calls::{ABSENT, INITIAL_ALONE, Options, Row};
+use spec_file::Refusal;
 use std::io;
 use test_damaged::write_damaged;
 use test_files::{
@@ -108,7 +108,13 @@ fn with(row: Row, field: Field, x: u64) -> Row {
 
 // Stores `row` as row `place` of the journal after a check, and writes as `asked`. It lends as many bytes of `buffer` as are asked for, or
 // all.
-fn written(file: &[u8], place: usize, row: Row, asked: Asked, buffer: &mut [u8]) -> Writing {
+fn written(
+    file: &[u8],
+    place: usize,
+    row: Row,
+    asked: Asked,
+    buffer: &mut [u8],
+) -> Result<usize, Refusal> {
     let lent = asked.room.min(buffer.len());
     write_damaged(
         file,
@@ -149,10 +155,14 @@ fn print_run(rt: &impl Print, buffer: &[u8; BUFFER], n: usize) -> io::Result<()>
     Ok(())
 }
 
-fn print_outcome(rt: &impl Print, writing: Writing, buffer: &[u8; BUFFER]) -> io::Result<()> {
+fn print_outcome(
+    rt: &impl Print,
+    writing: Result<usize, Refusal>,
+    buffer: &[u8; BUFFER],
+) -> io::Result<()> {
     match writing {
-        Writing::Refused(refusal) => print_refused(rt, refusal)?,
-        Writing::Length(n) => print_run(rt, buffer, n)?,
+        Err(refusal) => print_refused(rt, refusal)?,
+        Ok(n) => print_run(rt, buffer, n)?,
     }
     print(rt, b"; ")?;
     print_number(rt, changed(buffer))?;

@@ -106,16 +106,15 @@ fn effect_at(letters: &[Letter], near: &[Letter], rule: [u8; 4], state: State) -
 {
     let counts = state.counts;
     let place = state.place;
-    let size = rule[1];
-    if size == 0 {
-        return Effect::identity();
+    match rule[1] {
+        0 => Effect::identity(),
+        1 => effect_of(letters, near, counts.used, rule[2], place.left),
+        _ => {
+            let left = effect_of(letters, near, counts.used, rule[2], place.left);
+            let right = effect_of(letters, near, counts.used, rule[3], place.right);
+            left.compose(right)
+        }
     }
-    let left = effect_of(letters, near, counts.used, rule[2], place.left);
-    if size == 1 {
-        return left;
-    }
-    let right = effect_of(letters, near, counts.used, rule[3], place.right);
-    left.compose(right)
 }
 
 // ---- the candidates of one left row

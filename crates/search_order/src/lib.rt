@@ -61,16 +61,15 @@ fn beginning(lists: &[u32], rule: [u8; 4], r: usize) -> Place
     requires { list_cells ≤ length lists.now }
     ensures { (result.rule ≡ r) × FirstPosition lists.now (left_part (entry_of rule).body) result.left × FirstPosition lists.now (right_part (entry_of rule).body) result.right }
 {
-    let size = rule[1];
-    if size == 0 {
-        return Place::first(r, ABSENT, ABSENT);
+    match rule[1] {
+        0 => Place::first(r, ABSENT, ABSENT),
+        1 => Place::first(r, first_of(lists, rule[2]), ABSENT),
+        _ => {
+            let left = first_of(lists, rule[2]);
+            let right = first_of(lists, rule[3]);
+            Place::first(r, left, right)
+        }
     }
-    let left = first_of(lists, rule[2]);
-    if size == 1 {
-        return Place::first(r, left, ABSENT);
-    }
-    let right = first_of(lists, rule[3]);
-    Place::first(r, left, right)
 }
 
 // ---- the places of a pass

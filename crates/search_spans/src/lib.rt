@@ -149,11 +149,10 @@ pub fn left_span(lists: &[u32], old: usize, rule: [u8; 4]) -> Span
     requires { (span_cells ≤ length lists.now) × Measured old lists.now }
     ensures { Spans old lists.now (left_part (entry_of rule).body) result }
 {
-    let size = rule[1];
-    if size == 0 {
-        return alone(ABSENT);
+    match rule[1] {
+        0 => alone(ABSENT),
+        _ => span_of(lists, old, rule[2]),
     }
-    span_of(lists, old, rule[2])
 }
 
 // The span of its right part.
@@ -161,12 +160,8 @@ pub fn right_span(lists: &[u32], old: usize, rule: [u8; 4]) -> Span
     requires { (span_cells ≤ length lists.now) × Measured old lists.now }
     ensures { Spans old lists.now (right_part (entry_of rule).body) result }
 {
-    let size = rule[1];
-    if size == 0 {
-        return alone(ABSENT);
+    match rule[1] {
+        0 | 1 => alone(ABSENT),
+        _ => span_of(lists, old, rule[3]),
     }
-    if size == 1 {
-        return alone(ABSENT);
-    }
-    span_of(lists, old, rule[3])
 }

@@ -73,16 +73,12 @@ pub fn with_heads<F: Fn(&[u8; 4]) -> bool>(rules: &[[u8; 4]], set: u64, test: F)
 fn body_in(rule: [u8; 4], set: u64) -> bool
     ensures { result ≡ all_in set (entry_of rule).body }
 {
-    let size = rule[1];
-    if size == 0 {
-        return true;
+    let [_, size, first, second] = rule;
+    match size {
+        0 => true,
+        1 => among(first, set),
+        _ => among(first, set) & among(second, set),
     }
-    let first = among(rule[2], set);
-    if size == 1 {
-        return first;
-    }
-    let second = among(rule[3], set);
-    first & second
 }
 
 // Returns `set` with the heads of the `rules` whose bodies are in it: they derive the empty word where all of `set` do.
@@ -100,6 +96,7 @@ pub fn nullable(rules: &[[u8; 4]]) -> u64
     ensures { Nullable (map entry_of rules.now) result }
 {
     let mut set: u64 = 0;
+    // A loop of its own, as in `member_units::closure`: see there.
     loop {
         let next = null_round(rules, set);
         if next == set {

@@ -17,18 +17,16 @@ use spec_file::TERMINALS;
 fn is_unit(rule: [u8; 4], symbol: u8, empties: u64) -> bool
     ensures { result ≡ is_unit empties (symbol_of symbol) (entry_of rule).body }
 {
-    let size = rule[1];
-    if size == 0 {
-        return false;
+    let [_, size, first, second] = rule;
+    match size {
+        0 => false,
+        1 => symbol == first,
+        _ => {
+            let left = (symbol == first) & member_sets::among(second, empties);
+            let right = member_sets::among(first, empties) & (symbol == second);
+            left | right
+        }
     }
-    let first = symbol == rule[2];
-    if size == 1 {
-        return first;
-    }
-    let second = symbol == rule[3];
-    let left = first & member_sets::among(rule[3], empties);
-    let right = member_sets::among(rule[2], empties) & second;
-    left | right
 }
 
 // Returns the heads of the `rules` whose body is a unit of `symbol`.
@@ -61,6 +59,7 @@ fn closure(direct: &Sets, q: u8) -> u64
     ensures { ClosureOf direct.now q result }
 {
     let mut set = member_sets::with_one(0, q);
+    // A loop of its own, as in `nullable`: one function for both would have clauses on growth and on soundness that are longer than the loop.
     loop {
         let more = union(direct, set);
         let next = set | more;

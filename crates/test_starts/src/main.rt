@@ -279,7 +279,7 @@ fn unfold_and_check(rt: &impl Print, label: &[u8], starts: u64) -> io::Result<()
     let file = accepted();
     unfold(rt, label, &file, starts)?;
     let mut out = [0u8; 48];
-    call_unfold::unfold(&file, starts, &mut out);
+    let _ = call_unfold::unfold(&file, starts, &mut out);
     check_by(rt, b"checked from 0", &out, INITIAL_ALONE, ROWS, BUDGET)?;
     check_by(rt, b"checked from 0 and 1", &out, 3, ROWS, BUDGET)
 }

@@ -1,11 +1,16 @@
 -- What a read says, and how much of an input the check program hands over as the file. Definitions only. Assumes nothing.
-use Rattle.std.specs.Prelude.{◌≡◌, cond, List, ℕ, ◌+◌, ◌*◌, ◌-◌, ◌%◌, ◌<◌, ◌≤◌, ◌++◌, ltb, length, take, IfOk, IfSome}
+use Rattle.std.specs.Prelude.{◌≡◌, cond, List, ℕ, ◌+◌, ◌*◌, ◌-◌, ◌%◌, ◌<◌, ◌≤◌, ◌++◌, ltb, length, take, min, Ok, Err, IfOk, IfSome}
 use Rattle.std.specs.Io.KnownBytes.{Consumes, IsAtEnd}
 use Rattle.std.specs.declared.option.Option.{Option}
 use Rattle.std.specs.declared.result.Result.{Result}
 use Rattle.spec_file.specs.Limits.{record_limit}
 
 -- ---- a read
+
+-- what a read into a buffer of n bytes says: it failed, or so many bytes have come, at most n; 0: the input has ended
+abbrev pub held_by : {E : Type 0} → Result ℕ E → ℕ → Result ℕ E
+held_by (Err e) room = Err e
+held_by (Ok k) room = Ok (min k room)
 
 -- what a read gave that had `room` for bytes, of an input that had `old` left where that is known: as many as it says, the first of those in
 -- `room`; or none, as the input has none left; or an error. `new` is what it has left then

@@ -67,11 +67,13 @@ pub fn file_refusal(file: &[u8]) -> Result<(), Refusal>
     let mut reader = Reader::new(file);
     let mut t = begin();
     // The records before the reader pass, and `t` counts them.
-    while let Some((r, next)) = reader.step_after(t.rules, t.transitions)? {
+    loop {
+        let Some((r, next)) = reader.step_after(t.rules, t.transitions)? else {
+            return Ok(());
+        };
         reader.place = next;
         t = tallied(t, r);
     }
-    Ok(())
 }
 
 // Returns the part of `file` that is its transitions: empty if there are none, or if the file is refused.

@@ -28,7 +28,7 @@ loop-r-preserved c =
     let m = at_moved c.args.file.now l.t.rules l.t.transitions l.reader.place l.invariant.1 _ _ (sym e) in
     (l.invariant.0, rw (c.tallied-t.ensures.0, c.tallied-t.ensures.1) m.next)
 
-pub returns : goal.returns
-returns c =
+pub returns-in_default : goal.returns-in_default
+returns-in_default c =
     let l = c.loop-r in
     at_end c.args.file.now l.t.rules l.t.transitions l.reader.place l.invariant.1 (rw (c.in_default.is, l.invariant.0) at c.in_ok-r.ensures)

@@ -21,7 +21,7 @@ pub enum Part {
     Row(usize),
 }
 
-// Returns the part that is no symbol. Its name `no_part` may not change, since callers have it.
+// Returns the part that is no symbol. Nothing here calls it; it stays, as a public name.
 pub fn no_part() -> Part
     ensures { result ≡ nothing }
 {

@@ -1,7 +1,7 @@
 // Reading a plan file record by record: the reader, which holds the file's bytes and the place of the next record, and its step from any place.
-// `step_after` and `step_from` are given the counts of the records before, so that a walk over a file counts no record twice; the product uses
-// these, and `moved`. `step`, `position`, `advance` and `step_at` are document 01's own form of the step, for a caller; here only tests call
-// `step_at`.
+// `step_after` and `step_from` are given the counts of the records before, so that a walk over a file counts no record twice: `file_whole` uses
+// `step_after`. `step`, `position`, `advance`, `moved` and `step_at` are document 01's own form of the step, for a caller; here `bolfrega` and tests
+// call `step_at`.
 #![tactic(auto)]
 
 ghost use Rattle.std.specs.Prelude.{◌≡◌, ◌<◌};

@@ -3,8 +3,8 @@
 // identity, composition, containment, rejecting), Representation (how the code holds one), Stored (relations in a table), Turns (the steps of
 // a composition), Columns (the columns of a relation, and a composition by them). Laws, for every number of states and words: DigitLaws, Pieces
 // (numbers made of pieces: words, rows), RelationLaws, Product (composition by masks and by products, of any count of rows), Parts (composition
-// word by word), Words (containment and composition in the code's words), ColumnLaws, StoredLaws, Counting (pairs), Masks (final states),
-// KeyLaws.
+// word by word), Words (containment and composition in the code's words), ColumnLaws, Cells (a relation's columns), StoredLaws, Counting (pairs),
+// Masks (final states), KeyLaws.
 #![tactic(auto)]
 
 ghost use Rattle.std.specs.Prelude.{◌≡◌, ◌+◌, ◌*◌, ◌/◌, ◌^◌, ◌<◌, ◌≤◌, length, ◌==◌, bit_or};

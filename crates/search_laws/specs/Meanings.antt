@@ -1,8 +1,8 @@
 -- What the code's counts, outcomes, states and answers stand for in the working order. Definitions only. Assumes nothing.
-use Rattle.std.specs.Prelude.{Bool, true, false, List, ℕ, ◌+◌}
+use Rattle.std.specs.Prelude.{Bool, true, false, cond, List, ℕ, ◌+◌, eqb}
 use Rattle.spec_order.specs.Journal.{Row, absent}
 use Rattle.spec_order.specs.Order.{Verdict, holds, broken, full, spent, empty, going, stopped}
-use Rattle.spec_calls.specs.Codes.{verdict_code}
+use Rattle.spec_calls.specs.Codes.{verdict_code, holds_code, full_code, empty_code}
 use Rattle.spec_order.specs.Order as order
 use Rattle.search_links.specs.Rows.{rows_read}
 use Rattle.search_state.specs.declared.Counts.{Counts}
@@ -115,6 +115,10 @@ finished_by false = unbroken.Empty
 -- its number, as hosts get it
 abbrev pub code_of : Unbroken → ℕ
 code_of v = verdict_code (verdict_of v)
+
+-- the verdict that has this number
+abbrev pub unbroken_at : ℕ → Unbroken
+unbroken_at c = cond (eqb c holds_code) unbroken.Holds (cond (eqb c full_code) unbroken.Full (cond (eqb c empty_code) unbroken.Empty unbroken.Spent))
 
 -- only a search that has ended is asked
 abbrev pub answer_at : Phase → Totals → Answer

@@ -29,7 +29,8 @@ use Rattle.search_state.specs.declared.Unbroken.{Unbroken}
 use Rattle.search_laws.specs.Closing.{Again, Done, end_by, end_of}
 use Rattle.search_laws.specs.Clauses.{PassReady, Answers, Checked}
 use Rattle.search_laws.specs.Deciding.{answers-spent}
-use Rattle.search_laws.specs.Meanings.{counts_in, in_next_pass, totals_of, finished_by, answer_in}
+use Rattle.search_laws.specs.declared.Totals.{Totals}
+use Rattle.search_laws.specs.Meanings.{counts_in, in_next_pass, totals_of, finished_by, answer_at, answer_in, code_of, unbroken_at}
 use Rattle.search_laws.specs.Problems.{RuleBytes, Problem, algebra_of, first_rows, terms_of}
 use Rattle.search_laws.specs.Passes.{AtPass, pass-done, pass-again, pass-known}
 use Rattle.search_laws.specs.Passing.{InPass, pass-start, pass-end, pass-stopped}
@@ -51,6 +52,13 @@ all-linked : {E R : Type 0} (P : Problem E R) (u : ℕ) (j : List R) (t : List �
 unfolding has_row
 all-linked P u j t few c =
     each_same (λ (p : ℕ). is_linked p t) (has_row (first_rows P u j)) (members_of P.starts) (λ p m. linked-live (first_rows P u j) t few c p (omega (arith, (member-bit P.starts p m).0)))
+
+-- a verdict's number gives the verdict back, and a search that ended with it answers so
+pub unbroken-back : (v : Unbroken) (n : Totals) → (unbroken_at (code_of v) ≡ v) × (answer_at (phase.Ended v) n ≡ answer.Ended v n)
+unbroken-back unbroken.Holds n = (refl, refl)
+unbroken-back unbroken.Full n = (refl, refl)
+unbroken-back unbroken.Spent n = (refl, refl)
+unbroken-back unbroken.Empty n = (refl, refl)
 
 -- the lists are measured, and the links as they were
 measures-covering : {E : Type 0} {A : List (Row E)} {b : ℕ} {t t' : List ℕ} → length A ≤ row_cells → MeasuresIn b t t' → Covering A t → Covering A t'

@@ -2,7 +2,7 @@
 // the code of the steps is in the crates above. Definitions and laws are over any effect and any rows of a journal; OnRelations has
 // relations and the rows that are lent, under the names that the contracts use, and Nearing has relations. Definitions in specs/: Problems (what a search works on),
 // Meanings (the code's counts, outcomes, states and answers as the working order has them), States (the states that a step returns), Steps
-// (what steps between candidates ask and do, on values), Walks and Contracts (a candidate, a pass and the search), Running (the invariant
+// (what steps between candidates ask and do, on values), Walks and Clauses (a candidate, a pass and the search), Running (the invariant
 // of the loop, and what each step keeps of it), OnRelations. Laws: StepLaws, Deciding, Passing, PassingOver, Remaining, Passes, Closing,
 // Advancing (what is left to do gives the answer), LinkedLaws (which nonterminals of a set have a row), Nearing (the effects that stand
 // beside each other stay those of the live rows), RunLaws, RunningLaws; ProblemLaws (relations have the laws that an algebra must have),

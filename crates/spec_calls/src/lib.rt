@@ -2,11 +2,11 @@
 // the lent journal, with its limits, and the options of a check. Definitions in specs/: Base (the order over relations, a set of starting
 // nonterminals), Replies (a call answers or refuses), Checking, Judging, Recognizing, Listing, Writing (the five calls), Gaps (what is to
 // be listed), DemandThree (what an answer promises), Codes (the numbers of the verdicts), Printing (the program's text), Rows (how the
-// code's rows, rules and options are read). Theorems: Promising and Truth (an answer keeps its promises), JournalTruth, JudgingTruth,
-// StrikingTruth, WritingTruth; ListingTruth, by MoveCounts (how many transitions a pair has), GapLists (what the list has, its order, its
-// length) and OnePath (what an empty list promises); MemberLaws (the members of a set), AsSoFar (for the initial nonterminal alone the
-// check is the one before request C-18, which is in SoFar). Computed: Cases (document 01's P table, remarks, plans without runs, sets),
-// Examples, Pins (what only a definition's text settles).
+// code's rows, rules and options are read). Theorems: Promising and Truth (an answer keeps its promises), VerdictTruth, JournalTruth,
+// JudgingTruth, StrikingTruth, WritingTruth, ReplyLaws, BaseLaws; OldFiles (what stays of a file from before request C-14); ListingTruth, by
+// MoveCounts (how many transitions a pair has), GapLists (what the list has, its order, its length) and OnePath (what an empty list promises);
+// MemberLaws (the members of a set), AsSoFar (for the initial nonterminal alone the check is the one before request C-18, which is in SoFar).
+// Computed: Cases (document 01's P table, remarks, plans without runs, sets), Examples, Pins (what only a definition's text settles).
 #![tactic(auto)]
 
 ghost use Rattle.std.specs.Prelude.{◌≡◌, ◌+◌};

@@ -12,7 +12,7 @@
 //                                            a pass covers one height more (`higher`)
 //     Soundness                              the word behind each row derives from its nonterminal within the height of its birth pass,
 //                                            with exactly the row's effect
-//     Truth                                  what each verdict says (`check-says`); a broken pass is the least height
+//     Truth, CheckTruth                      what each verdict says (`check-says`); a broken pass is the least height
 //     Halting                                a pass goes through all its candidates or stops at one, and each before it was one join
 //     Exactly                                where the order stops as Stopping says, the check answers so
 //     Counting                               spent: joins = budget; full: used = J; pass at most J + 1; joins at most R * J * J * (J + 1)
@@ -20,6 +20,7 @@
 //     Antichain                              live rows of one nonterminal are incomparable
 //     Ending                                 each row is covered by a live row of its nonterminal: at the end a live row is there where a row is
 //     FittingRows, FittingLaws, BehindLaws   every used row fits; the word behind a row depends on the rows through it alone
+//     Journals, SideBySide                   induction through the journals of a check; two lists, element by element
 //     Example, Pins                          small plans over toy algebras, computed: what only a definition's text settles
 //
 // Letters, in every file: E is the type of effects, A the algebra and L its laws; W is what words are, S how they are spelled and Z the laws of

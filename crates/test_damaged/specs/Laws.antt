@@ -1,4 +1,4 @@
--- The local array of the walk, row for row, is the journal of the contract. Assumes nothing.
+-- The local array of the call, row for row, is the journal of the contract. Assumes nothing.
 use Rattle.std.specs.Prelude.{◌≡◌, refl, List, [], ◌∷◌, ◌++◌, map, ℕ, zero, suc, ◌≤◌, length, set, take, drop, replicate}
 use Rattle.std.proofs.Common.{sym, ap, ◌∙◌, subst}
 use Rattle.std.proofs.Math.Seq.{take-append_seam}

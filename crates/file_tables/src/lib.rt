@@ -34,10 +34,9 @@ fn without_transitions(table: &mut Letters)
 {
     *table = [0; LETTER_WORDS];
     let stays = Relation::identity();
-    let mut c = FIRST_REMARK as usize;
-    while c < TERMINALS as usize {
-        stays.store(table, c);
-        c += 1;
+    // The remarks below `c` have every (a, a), and no other letter has a pair.
+    for c in FIRST_REMARK..TERMINALS {
+        stays.store(table, c as usize);
     }
 }
 
@@ -67,11 +66,9 @@ pub fn letter_relations(file: &[u8], table: &mut Letters)
     ensures { table.new ≡ letter_table states (transitions_of file.now) }
 {
     without_transitions(table);
-    let n = file.len() / 8;
-    let mut i: usize = 0;
-    while i < n {
+    // The transitions among the first `i` records are stored.
+    for i in 0..file.len() / 8 {
         read_transition(file, i, table);
-        i += 1;
     }
 }
 
@@ -104,12 +101,10 @@ fn read_final(file: &[u8], i: usize, mask: StateSet) -> StateSet
 pub fn final_states(file: &[u8]) -> StateSet
     ensures { result ≡ number states (is_final (automaton_of file.now)) }
 {
-    let n = file.len() / 8;
     let mut mask: StateSet = 0;
-    let mut i: usize = 0;
-    while i < n {
+    // `mask` has the final states among the first `i` records.
+    for i in 0..file.len() / 8 {
         mask = read_final(file, i, mask);
-        i += 1;
     }
     mask
 }
@@ -145,12 +140,10 @@ fn read_rules(file: &[u8], rows: &mut [[u8; 4]]) -> usize
     requires { rule_limit ≤ length rows.old }
     ensures { rows_in rows.new result ≡ written rows.old (rows_of file.now) }
 {
-    let count = file.len() / 8;
     let mut n: usize = 0;
-    let mut i: usize = 0;
-    while i < count {
+    // The rules among the first `i` records are stored, up to the limit; they are `n` rows.
+    for i in 0..file.len() / 8 {
         n = read_rule(file, i, rows, n);
-        i += 1;
     }
     n
 }

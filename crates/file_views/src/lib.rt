@@ -17,12 +17,11 @@ fn count_of(file: &[u8], kind: u8, n: usize) -> usize
     ensures { result ≡ count_of file.now kind n }
 {
     let mut count: usize = 0;
-    let mut i: usize = 0;
-    while i < n {
+    // `count` is the number of records of the kind among the first `i`.
+    for i in 0..n {
         if file[i * 8] == kind {
             count += 1;
         }
-        i += 1;
     }
     count
 }

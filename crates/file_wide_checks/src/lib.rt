@@ -1,11 +1,14 @@
 // Checks 4, 5 and 6 of one record of sixteen bytes (document 02, C-17), each a test of its own. Checks 3, 7 and 12 read the first eight bytes
-// alone: `front` gives these to the tests of `file_checks`. Laws of a scan over the bytes of a record are in specs/Scanning.
+// alone: `front` gives these to the tests of `file_checks`. Laws of these tests, as tests on lists, are in specs/Scanning.
 #![tactic(auto)]
 
-ghost use Rattle.std.specs.Prelude.{◌≡◌, ◌-◌, ◌<◌};
+ghost use Rattle.std.specs.Prelude.{◌≡◌, ◌-◌, ◌<◌, leb, ltb, take, drop};
+ghost use Rattle.std.specs.List.{list_any};
 ghost use Rattle.spec_file.specs.Forms.{sixteen};
+ghost use Rattle.spec_file.specs.Limits.{symbol_bytes};
+ghost use Rattle.spec_file.specs.Records.{byte};
 ghost use Rattle.spec_file.specs.Refusals as refusals;
-ghost use Rattle.file_wide_checks.specs.Front.{front_of};
+ghost use Rattle.file_wide_checks.specs.Front.{front_of, symbols_of};
 
 use spec_file::{FINAL_KIND, NONTERMINALS, RULE_KIND, SYMBOL_BYTES, TRANSITION_KIND};
 
@@ -20,22 +23,17 @@ pub type WideRecord = [u8; WIDTH];
 pub fn front(r: WideRecord) -> [u8; 8]
     ensures { result ≡ front_of r }
 {
-    [r[0], r[1], r[2], r[3], r[4], r[5], r[6], r[7]]
+    *r.first_chunk().unwrap()
 }
 
 // Returns whether a symbol of the body of the rule `r` is above its range. The bytes past the body are not looked at.
 fn high_symbol(r: WideRecord) -> bool
-    ensures { result ≡ refusals.high_symbol (sixteen.body_limit - 1) 0 r }
+    ensures { result ≡ list_any (λ symbol. leb symbol_bytes symbol) (take (byte r 2) (symbols_of r)) }
 {
-    let size = r[2] as usize;
-    let mut j: usize = 0;
-    while j < BODY_LIMIT {
-        if (j < size) & (SYMBOL_BYTES <= r[3 + j]) {
-            return true;
-        }
-        j += 1;
-    }
-    false
+    r[3..3 + BODY_LIMIT]
+        .iter()
+        .take(r[2] as usize)
+        .any(|symbol| SYMBOL_BYTES <= *symbol)
 }
 
 // Check 4: returns whether a byte that the record `r` uses is above its range. A record that is no rule uses no byte past its first eight.
@@ -51,32 +49,20 @@ pub fn above_range(r: WideRecord) -> bool
 
 // Returns whether a symbol's byte past the body of the rule `r` is not 0.
 fn stray_symbol(r: WideRecord) -> bool
-    ensures { result ≡ refusals.stray_symbol (sixteen.body_limit - 1) 0 r }
+    ensures { result ≡ list_any (λ symbol. ltb 0 symbol) (drop (byte r 2) (symbols_of r)) }
 {
-    let size = r[2] as usize;
-    let mut j: usize = 0;
-    while j < BODY_LIMIT {
-        if (size <= j) & (0 < r[3 + j]) {
-            return true;
-        }
-        j += 1;
-    }
-    false
+    r[3..3 + BODY_LIMIT]
+        .iter()
+        .skip(r[2] as usize)
+        .any(|symbol| 0 < *symbol)
 }
 
 // Returns whether a byte of the record `r` is not 0, from byte `from` on.
 fn some_byte(r: WideRecord, from: usize) -> bool
     requires { from < sixteen.width }
-    ensures { result ≡ refusals.some_byte (sixteen.width - 1 - from) from r }
+    ensures { result ≡ list_any (λ byte. ltb 0 byte) (take (sixteen.width - from) (drop from r)) }
 {
-    let mut j = from;
-    while j < WIDTH {
-        if 0 < r[j] {
-            return true;
-        }
-        j += 1;
-    }
-    false
+    r[from..].iter().any(|byte| 0 < *byte)
 }
 
 // Check 5: returns whether a byte that the record `r` does not use is not 0. A transition uses the bytes before byte 4, and a final state
@@ -101,12 +87,5 @@ pub fn stray_byte(r: WideRecord) -> bool
 pub fn rises(r: WideRecord, s: WideRecord) -> bool
     ensures { result ≡ refusals.rises_in sixteen r s }
 {
-    let mut j: usize = 0;
-    while j < WIDTH - 1 {
-        if r[j] != s[j] {
-            return r[j] < s[j];
-        }
-        j += 1;
-    }
-    r[15] < s[15]
+    r < s
 }

@@ -23,6 +23,7 @@ use search_state::CELLS;
 use spec_calls::{INITIAL_ALONE, Options, Row};
 use spec_file::{Record, Refusal};
 
+// (Numbers, since C has them.)
 const VERSION: u64 = 3;
 
 const ACCEPTED: u64 = 110;

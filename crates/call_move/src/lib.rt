@@ -25,7 +25,8 @@ pub fn put(out: &mut [u8], at: usize, part: &[u8])
     out[at..at + part.len()].copy_from_slice(part);
 }
 
-// Writes the records of `file`, of eight bytes each, to the front of `out`, each with eight zeros behind it.
+// Writes the records of `file`, of eight bytes each, to the front of `out`, each with eight zeros behind it. (Not one function with
+// `put_narrower`: that one writes no zeros, and each is proved by the definition of its own form.)
 fn put_wider(file: &[u8], out: &mut [u8])
     requires { length file.now / 8 * 16 ≤ length out.old }
     ensures { out.new ≡ over (widened file.now) out.old }

@@ -1,5 +1,6 @@
 // Whether the rows of a journal fit the rules (document 01, "Numbers a call may refuse with", 9). One loop holds the journal; each test takes
 // rows by value. A rule is four bytes: its head, its body's length, its two symbols.
+// A row, its number and the two rows that it names go together through three functions in a row, and nowhere else.
 #![tactic(auto)]
 
 ghost use Rattle.std.specs.Prelude.{◌&&◌, ◌≡◌, map, ◌≤◌, length};

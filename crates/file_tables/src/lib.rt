@@ -1,5 +1,6 @@
 // What judging and the inclusion check look up in a file, read once from its bytes, whatever they are: the relation of each
 // terminal, the mask of final states, and the rules as rows of numbers.
+// `i` is below the count of records in each clause: an index of its own in each function. The tables are lent, of fixed size.
 #![tactic(auto)]
 
 ghost use Rattle.std.specs.Prelude.{◌≡◌, cond, [], ◌≤◌, ◌<◌, eqb, length};

@@ -27,6 +27,7 @@ pub const EMPTY: u64 = search_laws::EMPTY as u64;
 // What a host is told: the number that refuses, or the verdict's; the refused record's number; joins, used rows and pass; and of a broken
 // answer the row, its pairs, its length, what refuses to write its run, or 0, and its nonterminal (`head`). And `sample`, a row of the journal
 // after the check.
+// (Numbers and no enum, since C and the printed lines have these.)
 #[derive(Clone, Copy)]
 pub struct CheckResult {
     pub code: u64,
@@ -43,6 +44,7 @@ pub struct CheckResult {
 }
 
 // The row of which the run is to be written, the used rows, and how many bytes of the file the writing is given.
+// (No Option: where nothing is to be written, `row_to_write` promises row 0 of no used row, which hosts' rows are read by all the same.)
 #[derive(Clone, Copy)]
 pub struct RowToWrite {
     pub used: usize,
@@ -110,6 +112,7 @@ pub fn row_to_write(checked: Result<Answer, Refusal>, size: usize) -> RowToWrite
 // ---- telling
 
 // Returns the number that refused to write the run, or 0.
+// (0 is what a host is told of a run that was written.)
 fn refused_by(writing: Result<usize, Refusal>) -> u64
     ensures { result ≡ refused_by (writing_of writing) }
 {

@@ -1,6 +1,7 @@
 // What is known of the stretches of a word, as bits of words, and the rules of two symbols that spell a stretch in two parts. Bit k of entry
 // p of `ends` is set where nonterminal p derives the stretch from the row's step up to step k; bit k of cell SETS j + p of `starts` where p
 // derives the stretch from step k up to step j. So all splits of a stretch between two symbols are one `and`.
+// The word and the two tables are parameters with their bounds: the tables are lent, and of other sizes.
 #![tactic(auto)]
 
 ghost use Rattle.std.specs.Prelude.{◌≡◌, map, ◌+◌, ◌≤◌, ◌<◌, length, get_or, set as put};
@@ -40,6 +41,7 @@ pub fn mark_all(cells: &mut [u64], base: usize, set: u64, place: usize)
 // ---- rules of two symbols
 
 // Returns the ends of the stretches from step `i` on that `symbol` spells: a letter of the word ends at the next step.
+// (`starts_of` asks the letter before, another table and another cell: one function for both would have three parameters more.)
 fn ends_of(symbol: u8, word: &[u8], ends: &Sets, i: usize) -> u64
     requires { (i < length word.now) × (i + 1 < 64) }
     ensures { result ≡ ends_of word.now ends.now i (symbol_of symbol) }

@@ -142,6 +142,7 @@ fn crossed_twice(x: u64, y0: u64, y1: u64) -> u64
 
 // Returns the pairs of four rows with four states in the middle, to whose states the four rows of `y` belong. The columns of these states in
 // the four rows are in `columns` at `at` and 4, 8 and 12 places after it.
+// (The cells are a plain array, whose fact each clause asks: a struct around it would be copied where the array is lent.)
 fn by_columns(columns: &[u64; COLUMNS], at: usize, y: u64) -> u64
     requires { (at + 12 < column_cells) × AreColumns column_cells (cell columns.now) }
     ensures { result ≡ by_columns (cells_from columns.now at) y }

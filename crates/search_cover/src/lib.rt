@@ -1,6 +1,8 @@
 // Looking for a row that covers a candidate. One array of words, `near`, has what is read on the way: the effect and the nonterminal of every
 // row, and the numbers of the live rows of one nonterminal, each beside a key of its effect. It has those of one nonterminal at a time, since a
 // rule's candidates are all of its head; where another is looked for, its rows are numbered along the links. No row of the journal is read.
+// The table, the words and the rules are parameters whose length each clause asks, and no struct with an invariant: hosts lend them, and what
+// holds a loan would be lent on at each step.
 #![tactic(auto)]
 
 ghost use Rattle.std.specs.Prelude.{◌≡◌, true, false, ◌||◌, ◌≤◌, ◌<◌, length, set, MatchOption};
@@ -40,6 +42,7 @@ pub const NEAR_WORDS: usize = WORDS * (ROW_PLACES + ROWS);
 // What looking for a cover found. Either a row covers the candidate (`covers`): `row`, where it is `linked`, that is, where no hint named it. Or
 // none does; then `cell` is the last link of the nonterminal, which a new row is to be linked to, and `larger` says whether a live row may be
 // larger than the candidate. `slot` is the cell of the hint by the candidate's effect.
+// (No enum: each case has a `slot`, and `begin` of `search_retire`, which is told by `fate` that a row covers, would need an arm without a `cell`.)
 #[derive(Clone, Copy)]
 pub struct CoverAnswer {
     pub covers: bool,

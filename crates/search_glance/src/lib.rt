@@ -1,6 +1,8 @@
 // A glance at the candidates of one left row: the effect of each is formed once, and the two rows that hints name are tried for it once. Where one
 // of them covers it, it is one join and nothing else. The effects and the nonterminals of all rows stand in an array of words (`near`, crate
 // `search_cover`), so that no row of the journal is read.
+// The table, the words and the rules are parameters whose length each clause asks, and no struct with an invariant: hosts lend them, and what
+// holds a loan would be lent on at each step.
 #![tactic(auto)]
 
 ghost use Rattle.std.specs.Prelude.{◌≡◌, true, ◌+◌, ◌≤◌, ◌<◌, length};

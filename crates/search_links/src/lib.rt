@@ -1,5 +1,7 @@
 // The table in which the search finds rows, of which crate `search_state` draws the layout: the laws of its links, which lead along the live rows of
 // each nonterminal, rising (specs), a table without a row, and the copying of the links to the lists when a pass begins.
+// The table, the words and the rules are parameters whose length each clause asks, and no struct with an invariant: hosts lend them, and what
+// holds a loan would be lent on at each step.
 #![tactic(auto)]
 
 ghost use Rattle.std.specs.Prelude.{◌≡◌, ◌≤◌, length};

@@ -1,6 +1,8 @@
 // The order in which a pass takes its candidates: rules in file order, the left symbol outer, the right one inner, rows rising. The rows
 // that were live when the pass began stand in lists: cell i has the row after row i in the list of its nonterminal, and cell FIRSTS + x the
 // first row of nonterminal x, as in the table's first cells (crate `search_state` draws them).
+// The table, the words and the rules are parameters whose length each clause asks, and no struct with an invariant: hosts lend them, and what
+// holds a loan would be lent on at each step.
 #![tactic(auto)]
 
 ghost use Rattle.std.specs.Prelude.{◌≡◌, ◌≤◌, length};

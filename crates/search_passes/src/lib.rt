@@ -1,4 +1,6 @@
 // The passes of the search, in steps on values: the place after a candidate, the pass after this one, and the end.
+// The table, the words and the rules are parameters whose length each clause asks, and no struct with an invariant: hosts lend them, and what
+// holds a loan would be lent on at each step.
 #![tactic(auto)]
 
 ghost use Rattle.std.specs.Prelude.{◌<◌, ◌≡◌, [], length};

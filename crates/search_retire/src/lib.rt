@@ -57,6 +57,7 @@ pub fn begin(table: &[u32], state: State, fate: Fate, found: CoverAnswer) -> Opt
 
 // One step, after the row at `cursor` was replaced: a row that `compared` says is larger has retired and is linked no more, another stays
 // linked, and the new row is linked last.
+// (One function for both kinds of row: a closure for each would be lent the table twice.)
 pub fn step(
     table: &mut [u32],
     state: State,

@@ -1,6 +1,8 @@
 // From place to place of a pass, and past those that need no work (semi-naive evaluation). A candidate of rows that were there when the pass
 // before began was formed in that pass, so that a live row covers it: it is one join, and nothing else. Such candidates stand together, and
 // are counted by their number: the old rights of a left by a sum, the old lefts of a rule, each with all its rights, by a product.
+// The table, the words and the rules are parameters whose length each clause asks, and no struct with an invariant: hosts lend them, and what
+// holds a loan would be lent on at each step.
 #![tactic(auto)]
 
 ghost use Rattle.std.specs.Prelude.{◌≤◌, ◌≡◌, true, length, take};
@@ -180,7 +182,7 @@ pub fn pass_over(rules: &[[u8; 4]], table: &[u32], n: usize, terms: Terms, from:
     ensures { PassesOver (take n rules.now) table.now terms from result }
 {
     let mut at = from;
-    // Every candidate from `from` up to `at` was formed by the pass before, and is counted.
+    // Every candidate from `from` up to `at` was formed by the pass before, and is counted. (What ends the loop is a test of the place, so it is no `for`.)
     while may_pass(terms, n, at) {
         at = pass_left(rules, table, n, terms, at);
     }

@@ -1,6 +1,8 @@
 // How far the lists of a pass go over old rows, the rows that were there when the pass before began. Rows rise along a list, so its old rows
 // come first: they are its span. When a pass begins, the span of each list is measured and noted behind the lists (crate `search_state` draws
 // the cells), so that whoever passes over them can count them by their number.
+// The table, the words and the rules are parameters whose length each clause asks, and no struct with an invariant: hosts lend them, and what
+// holds a loan would be lent on at each step.
 #![tactic(auto)]
 
 ghost use Rattle.std.specs.Prelude.{◌≡◌, false, ◌≤◌, ◌<◌, length};
@@ -155,7 +157,7 @@ pub fn left_span(lists: &[u32], old: usize, rule: [u8; 4]) -> Span
     }
 }
 
-// The span of its right part.
+// The span of its right part. (One match, as above: a function for both parts would be told which by a parameter.)
 pub fn right_span(lists: &[u32], old: usize, rule: [u8; 4]) -> Span
     requires { (span_cells ≤ length lists.now) × Measured old lists.now }
     ensures { Spans old lists.now (right_part (entry_of rule).body) result }

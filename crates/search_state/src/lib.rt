@@ -47,6 +47,8 @@ pub const ENDS: usize = STEPS + PROCEDURES;
 
 pub const CELLS: usize = LISTS + ENDS + PROCEDURES;
 
+// Positions are numbers and no Options, since a cell of the lent table is one: ABSENT and END are above every row, so one comparison rules out both.
+
 // The position of a symbol that is no row.
 pub const ABSENT: usize = spec_calls::ABSENT as usize;
 
@@ -167,6 +169,7 @@ pub struct State {
 
 // What comparing a journal row with a candidate gives: the row `covers` the candidate, or is strictly `larger` than it. A row that is not
 // live, or is of another nonterminal, does neither.
+// (Two tests of one row, each of which another step asks: an enum of their three outcomes would be taken apart at each.)
 #[derive(Clone, Copy)]
 pub struct Comparison {
     pub covers: bool,
@@ -175,6 +178,7 @@ pub struct Comparison {
 
 // What becomes of a candidate of the nonterminal `head`: a row covers it (`covered`), or else the journal is `full`, or else it becomes a
 // row, which `breaks` the plan or not.
+// (Counting, inserting and hints each ask other flags: an enum of the four outcomes would be taken apart at each.)
 #[derive(Clone, Copy)]
 pub struct Fate {
     pub head: u8,

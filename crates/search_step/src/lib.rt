@@ -1,4 +1,5 @@
 // Where the search stands, in steps on values: at a place, at the end with a verdict, and what it then answers.
+// State, terms and counts are parameters of their own: where the terms are the next pass's, they are no longer the state's.
 #![tactic(auto)]
 
 ghost use Rattle.std.specs.Prelude.{◌≡◌};

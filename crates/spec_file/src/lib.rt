@@ -8,7 +8,7 @@
 ghost use Rattle.std.specs.Prelude.{◌≡◌, true, false, MatchResult};
 ghost use Rattle.spec_file.specs.Answers.{number_of, of_call, fault_of};
 
-// The kinds of records.
+// The kinds of records. (Bytes of a file, where any other may stand too; what is read by them is a `Record`.)
 pub const RULE_KIND: u8 = 1;
 
 pub const TRANSITION_KIND: u8 = 2;

@@ -1,29 +1,20 @@
-// The eight bytes of a record, by its number in the file, and what they say: a rule, a transition or a final state.
+// The bytes of a record of a file, by its place: any number of them, or the eight of a record by its number; and what these eight say: a rule,
+// a transition or a final state.
 #![tactic(auto)]
 
-ghost use Rattle.std.specs.Prelude.{◌≡◌, ◌<◌};
+ghost use Rattle.std.specs.Prelude.{◌≡◌, ◌+◌, ◌≤◌, length};
 ghost use Rattle.spec_file.specs.Answers.{said_by};
 ghost use Rattle.spec_file.specs.Entries.{rule_in, transition_in, whole_record};
-ghost use Rattle.spec_file.specs.Records.{record_count, record_at, record_of};
+ghost use Rattle.spec_file.specs.Records.{bytes_after, record_of};
 
 use spec_file::{RULE_KIND, Record, Rule, TRANSITION_KIND, Transition};
 
-// Copies the bytes of record `i`, which is a whole record of `file`.
-fn bytes_at(file: &[u8], i: usize) -> [u8; 8]
-    requires { i < record_count file.now }
-    ensures { result ≡ record_at file.now i }
+// Copies `N` bytes of `file`, from byte `at` on: a record's, of either width.
+pub fn chunk_at<const N: usize>(file: &[u8], at: usize) -> [u8; N]
+    requires { at + N ≤ length file.now }
+    ensures { result ≡ bytes_after file.now at N 0 }
 {
-    let at = i * 8;
-    [
-        file[at],
-        file[at + 1],
-        file[at + 2],
-        file[at + 3],
-        file[at + 4],
-        file[at + 5],
-        file[at + 6],
-        file[at + 7],
-    ]
+    *file[at..].first_chunk().unwrap()
 }
 
 // Copies the bytes of record `i` of `file`; past the last whole record it returns zeros, so it asks nothing of `i`.
@@ -33,7 +24,7 @@ pub fn whole_record(file: &[u8], i: usize) -> [u8; 8]
     if file.len() / 8 <= i {
         return [0u8; 8];
     }
-    bytes_at(file, i)
+    chunk_at(file, i * 8)
 }
 
 // Reads the bytes `r` as a rule, whatever their kind.

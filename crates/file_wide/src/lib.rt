@@ -17,25 +17,7 @@ pub fn record_at(file: &[u8], i: usize) -> WideRecord
     requires { i < record_count_in sixteen file.now }
     ensures { result ≡ record_in sixteen file.now i }
 {
-    let at = i * WIDTH;
-    [
-        file[at],
-        file[at + 1],
-        file[at + 2],
-        file[at + 3],
-        file[at + 4],
-        file[at + 5],
-        file[at + 6],
-        file[at + 7],
-        file[at + 8],
-        file[at + 9],
-        file[at + 10],
-        file[at + 11],
-        file[at + 12],
-        file[at + 13],
-        file[at + 14],
-        file[at + 15],
-    ]
+    file_bytes::chunk_at(file, i * WIDTH)
 }
 
 // Returns whether record `i` of `file` is the first, or exceeds the one before it.
@@ -43,10 +25,7 @@ fn exceeds(file: &[u8], i: usize) -> bool
     requires { i < record_count_in sixteen file.now }
     ensures { result ≡ exceeds_in sixteen file.now i }
 {
-    if i == 0 {
-        return true;
-    }
-    file_wide_checks::rises(record_at(file, i - 1), record_at(file, i))
+    i == 0 || file_wide_checks::rises(record_at(file, i - 1), record_at(file, i))
 }
 
 // Tests record `i`, in the order of the definition; `rules` and `transitions` are the counts of the records before it.
@@ -72,10 +51,7 @@ fn of_kind(file: &[u8], i: usize, kind: u8) -> usize
     requires { i < record_count_in sixteen file.now }
     ensures { (result ≡ cond (eqb (kind_in sixteen file.now i) kind) 1 0) × (result ≤ 1) }
 {
-    if file[i * WIDTH] == kind {
-        return 1;
-    }
-    0
+    usize::from(file[i * WIDTH] == kind)
 }
 
 // Refuses `file` by its length: 16 for a torn record, then 2 for too many.

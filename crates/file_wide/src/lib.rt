@@ -1,6 +1,7 @@
 // A whole file of sixteen-byte records (document 02, C-17): the bytes of a record by its number, and the refusal of the file, numbers 16, 2
 // to 7 and 12. The tests of one record are those of `file_wide_checks`, and of `file_checks` where they read its first eight bytes alone.
 // Laws of the walk over the records are in specs/WalkLaws.
+// `i` is below the count of records in each clause: an index of its own in each function.
 #![tactic(auto)]
 
 ghost use Rattle.std.specs.Prelude.{◌≡◌, cond, ◌<◌, ◌≤◌, eqb};
@@ -29,6 +30,7 @@ fn exceeds(file: &[u8], i: usize) -> bool
 }
 
 // Tests record `i`, in the order of the definition; `rules` and `transitions` are the counts of the records before it.
+// (As in `file_reader`, at the other width. One function for both would take the six tests as parameters, and each with what it promises.)
 fn fault_by(file: &[u8], i: usize, rules: usize, transitions: usize) -> Result<(), Fault>
     requires { i < record_count_in sixteen file.now }
     ensures { fault_of result ≡ fault_by_in sixteen file.now i rules transitions }

@@ -1,5 +1,6 @@
 // Checks 4, 5 and 6 of one record of sixteen bytes (document 02, C-17), each a test of its own. Checks 3, 7 and 12 read the first eight bytes
 // alone: `front` gives these to the tests of `file_checks`. Laws of these tests, as tests on lists, are in specs/Scanning.
+// The tests of `file_checks` name each of eight bytes, and these go over sixteen: only the definition is the same for both.
 #![tactic(auto)]
 
 ghost use Rattle.std.specs.Prelude.{◌≡◌, ◌-◌, ◌<◌, leb, ltb, take, drop};

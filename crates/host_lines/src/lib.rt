@@ -47,6 +47,7 @@ fn put_row(text: &mut [u8], at: usize, told: CheckResult) -> usize
 }
 
 // Stores the first `n` step codes of `buffer`, separated by one blank, and the end of the line; if `buffer` is shorter, those that it has.
+// (`n` is the length that was told, which may be above what `buffer` has: so the two are no one slice.)
 fn put_steps(text: &mut [u8], at: usize, buffer: &[u8], n: usize) -> usize
     ensures { page result text.new ≡ puts (numbers_line (take n buffer.now)) (page at text.old) }
 {

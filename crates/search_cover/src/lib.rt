@@ -18,7 +18,7 @@ use relation::{Effect, Letter, WORDS};
 use search_rows::Candidate;
 use search_state::{FIRSTS, Fate, ROWS, State};
 
-// ---- the words of `near`
+// ---- the words of `near` (one array with its counts in front: hosts lend it, and there is no heap)
 
 // The first four are numbers: one more than the nonterminal (`HEAD`), or 0 where `near` has none; how many rows of it there are (`COUNT`); and
 // the cell that leads past its last live row (`LINK`). From `KEYS` on stand the keys of these rows, from `NUMBERS` on their numbers. From

@@ -10,7 +10,7 @@ ghost use Rattle.search_state.specs.NextPass.{next_pass};
 
 use relation::StateSet;
 
-// ---- the table
+// ---- the table (one array of cells, and rows by their numbers: hosts lend it, and there is no heap)
 
 // The search finds rows through one array of cells of 32 bits, and this is where it has what:
 //

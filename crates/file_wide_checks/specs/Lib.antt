@@ -1,2 +1,3 @@
 pub mod Front
 pub mod Scanning
+pub mod ScanLaws

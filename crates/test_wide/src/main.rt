@@ -24,30 +24,6 @@ const OLD: u8 = 255;
 
 // ---- printing
 
-fn print_kept(rt: &impl Print, out: &[u8]) -> io::Result<()> {
-    let kept = out.iter().filter(|byte| **byte == OLD).count();
-    print(rt, b", kept ")?;
-    print_number(rt, kept as u64)?;
-    print(rt, b"\n")
-}
-
-// Prints the result too, where it is short.
-fn print_moved(rt: &impl Print, answer: Result<usize, Refusal>, out: &[u8]) -> io::Result<()> {
-    match answer {
-        Ok(n) => {
-            print_number(rt, n as u64)?;
-            print(rt, b" bytes")?;
-            if n < 65 {
-                print_bytes(rt, front(out, n))?;
-            }
-        }
-        Err(refusal) => {
-            print_refused(rt, refusal)?;
-        }
-    }
-    print_kept(rt, out)
-}
-
 // Prints how many bytes of `a` differ from those at the front of `b`, which is not shorter.
 fn print_differing(rt: &impl Print, a: &[u8], b: &[u8]) -> io::Result<()> {
     if b.len() < a.len() {
@@ -61,65 +37,53 @@ fn print_differing(rt: &impl Print, a: &[u8], b: &[u8]) -> io::Result<()> {
 
 // ---- calls
 
-fn widen(rt: &impl Print, label: &[u8], file: &[u8], out: &mut [u8]) -> io::Result<()> {
+// Unfolds `file` for procedure 0 alone.
+fn unfold(file: &[u8], out: &mut [u8]) -> Result<usize, Refusal> {
+    call_unfold::unfold(file, INITIAL_ALONE, out)
+}
+
+// Each case names its call, which is one of `widen`, `narrow` and `unfold`.
+
+fn try_into<F: Fn(&[u8], &mut [u8]) -> Result<usize, Refusal>>(
+    rt: &impl Print,
+    call: F,
+    label: &[u8],
+    file: &[u8],
+    out: &mut [u8],
+) -> io::Result<()>
+    requires { F.IsAlwaysCallable call }
+{
     print_label(rt, label)?;
-    let answer = call_move::widen(file, out);
-    print_moved(rt, answer, out)
-}
-
-fn narrow(rt: &impl Print, label: &[u8], file: &[u8], out: &mut [u8]) -> io::Result<()> {
-    print_label(rt, label)?;
-    let answer = call_move::narrow(file, out);
-    print_moved(rt, answer, out)
-}
-
-fn unfold(rt: &impl Print, label: &[u8], file: &[u8], out: &mut [u8]) -> io::Result<()> {
-    print_label(rt, label)?;
-    let answer = call_unfold::unfold(file, INITIAL_ALONE, out);
-    print_moved(rt, answer, out)
-}
-
-fn narrow_all(rt: &impl Print, label: &[u8], file: &[u8; WIDE], n: usize) -> io::Result<()> {
-    narrow_by(rt, label, file, n, ROOM)
-}
-
-fn unfold_all(rt: &impl Print, label: &[u8], file: &[u8; WIDE], n: usize) -> io::Result<()> {
-    unfold_by(rt, label, file, n, ROOM)
+    let answer = call(file, out);
+    print_moved(rt, answer, out, 65)?;
+    print_kept(rt, out, OLD)?;
+    print(rt, b"\n")
 }
 
 // The same with an output of `room` bytes.
-
-fn widen_by(
+fn try_by<F: Fn(&[u8], &mut [u8]) -> Result<usize, Refusal>>(
     rt: &impl Print,
+    call: F,
     label: &[u8],
-    file: &[u8; HELD],
-    n: usize,
+    file: &[u8],
     room: usize,
-) -> io::Result<()> {
+) -> io::Result<()>
+    requires { F.IsAlwaysCallable call }
+{
     let mut out = [OLD; ROOM];
-    widen(rt, label, front(file, n), &mut out[..room.min(ROOM)])
+    try_into(rt, call, label, file, &mut out[..room.min(ROOM)])
 }
 
-fn narrow_by(
+// The same with the output that most cases lend, on the records `records` alone.
+fn try_on<F: Fn(&[u8], &mut [u8]) -> Result<usize, Refusal>, const N: usize>(
     rt: &impl Print,
+    call: F,
     label: &[u8],
-    file: &[u8; WIDE],
-    n: usize,
-    room: usize,
-) -> io::Result<()> {
-    let mut out = [OLD; ROOM];
-    narrow(rt, label, front(file, n), &mut out[..room.min(ROOM)])
-}
-
-fn unfold_by(
-    rt: &impl Print,
-    label: &[u8],
-    file: &[u8; WIDE],
-    n: usize,
-    room: usize,
-) -> io::Result<()> {
-    let mut out = [OLD; ROOM];
-    unfold(rt, label, front(file, n), &mut out[..room.min(ROOM)])
+    records: [WideRecord; N],
+) -> io::Result<()>
+    requires { F.IsAlwaysCallable call }
+{
+    try_by(rt, call, label, records.as_flattened(), ROOM)
 }
 
 // ---- making files of sixteen-byte records

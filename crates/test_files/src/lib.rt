@@ -56,6 +56,33 @@ pub fn print_refused(rt: &impl Print, r: Refusal) -> io::Result<()> {
     print_number(rt, r.place as u64)
 }
 
+// Prints how many of `cells` are as they were before a call, which is `old`.
+pub fn print_kept<T: PartialEq + Copy>(rt: &impl Print, cells: &[T], old: T) -> io::Result<()> {
+    let kept = cells.iter().filter(|cell| **cell == old).count();
+    print(rt, b", kept ")?;
+    print_number(rt, kept as u64)
+}
+
+// Prints how many bytes of `out` a call wrote, and these too if there are fewer than `few`.
+pub fn print_moved(
+    rt: &impl Print,
+    answer: Result<usize, Refusal>,
+    out: &[u8],
+    few: usize,
+) -> io::Result<()> {
+    match answer {
+        Ok(n) => {
+            print_number(rt, n as u64)?;
+            print(rt, b" bytes")?;
+            if n < few {
+                print_bytes(rt, front(out, n))?;
+            }
+            Ok(())
+        }
+        Err(refusal) => print_refused(rt, refusal),
+    }
+}
+
 pub fn print_rule(rt: &impl Print, r: Rule) -> io::Result<()> {
     print(rt, b"rule")?;
     print_byte(rt, r.head)?;

@@ -6,7 +6,7 @@ use call_gaps::LIST_BYTES;
 use spec_file::Refusal;
 use std::io;
 use test_files::{
-    HELD, LARGEST, SAMPLE, fill, front, print, print_byte, print_label, print_number,
+    HELD, LARGEST, SAMPLE, fill, front, print, print_byte, print_kept, print_label, print_number,
     print_refused, put, sample,
 };
 
@@ -24,13 +24,6 @@ fn print_entries(rt: &impl Print, list: &[u8]) -> io::Result<()> {
     Ok(())
 }
 
-fn print_kept(rt: &impl Print, list: &[u8]) -> io::Result<()> {
-    let kept = list.iter().filter(|byte| **byte == OLD).count();
-    print(rt, b", kept ")?;
-    print_number(rt, kept as u64)?;
-    print(rt, b"\n")
-}
-
 // Prints the entries too, where they are few.
 fn print_listed(rt: &impl Print, answer: Result<usize, Refusal>, list: &[u8]) -> io::Result<()> {
     match answer {
@@ -45,7 +38,8 @@ fn print_listed(rt: &impl Print, answer: Result<usize, Refusal>, list: &[u8]) ->
             print_refused(rt, refusal)?;
         }
     }
-    print_kept(rt, list)
+    print_kept(rt, list, OLD)?;
+    print(rt, b"\n")
 }
 
 // ---- cases

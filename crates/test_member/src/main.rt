@@ -7,7 +7,7 @@ use member_table::STRETCH_CELLS;
 use spec_file::Refusal;
 use std::io;
 use test_files::{
-    HELD, SAMPLE, front, print, print_label, print_number, print_refused, put, sample,
+    HELD, SAMPLE, front, print, print_kept, print_label, print_number, print_refused, put, sample,
 };
 
 const LARGER: usize = STRETCH_CELLS + 1;
@@ -29,12 +29,6 @@ fn print_cells(rt: &impl Print, table: &[u64]) -> io::Result<()> {
     Ok(())
 }
 
-fn print_kept(rt: &impl Print, table: &[u64]) -> io::Result<()> {
-    let kept = table.iter().filter(|set| **set == OLD).count();
-    print(rt, b", kept ")?;
-    print_number(rt, kept as u64)
-}
-
 fn print_recognized(
     rt: &impl Print,
     answer: Result<Recognized, Refusal>,
@@ -51,7 +45,7 @@ fn print_recognized(
         }
         Err(refusal) => {
             print_refused(rt, refusal)?;
-            print_kept(rt, table)?;
+            print_kept(rt, table, OLD)?;
         }
     }
     print(rt, b"\n")

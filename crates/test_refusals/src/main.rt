@@ -2,6 +2,8 @@
 // asks for ("Records", "Numbers a call may refuse with"), and document 02's C-11.
 #![tactic(auto)]
 
+ghost use Rattle.std.specs.Prelude.{◌+◌, ◌<◌};
+
 use spec_file::Refusal;
 use std::io;
 use test_files::{
@@ -250,32 +252,64 @@ fn two_numbers(rt: &impl Print) -> io::Result<()> {
     replaced(rt, b"12 and 6", 8, [2, 0, 120, 0, 0, 0, 0, 0])
 }
 
-// 256 rules and a record after them.
-fn after_rules(rt: &impl Print, label: &[u8], r: [u8; 8]) -> io::Result<()> {
+// `rules` rules, then `moves` moves, and a record after them: `HELD` bytes have room for 1,298 records.
+fn after(rt: &impl Print, label: &[u8], rules: usize, moves: usize, r: [u8; 8]) -> io::Result<()>
+    requires { rules + moves < 1298 }
+{
     let mut file = [0u8; HELD];
-    fill(&mut file, 256, 0);
-    put(&mut file, 256, r);
-    report(rt, label, &file, 2056)
+    fill(&mut file, rules, moves);
+    let at = rules + moves;
+    put(&mut file, at, r);
+    report(rt, label, &file, at * 8 + 8)
 }
 
-// 1,024 moves and a record after them.
-fn after_moves(rt: &impl Print, label: &[u8], r: [u8; 8]) -> io::Result<()> {
-    let mut file = [0u8; HELD];
-    fill(&mut file, 0, 1024);
-    put(&mut file, 1024, r);
-    report(rt, label, &file, 8200)
-}
-
+// A 257th rule, and a 1,025th move.
 fn with_seven(rt: &impl Print) -> io::Result<()> {
-    after_rules(rt, b"257th rule, 4 and 7", [1, 64, 0, 0, 0, 0, 0, 0])?;
-    after_rules(rt, b"257th rule, 5 and 7", [1, 2, 0, 9, 0, 0, 0, 0])?;
-    after_rules(rt, b"257th rule, 6 and 7", [1, 0, 0, 0, 0, 0, 0, 0])?;
-    after_rules(rt, b"3 after 256 rules", [4, 0, 0, 0, 0, 0, 0, 0])?;
-    after_moves(rt, b"1,025th move, 4 and 7", [2, 4, 128, 0, 0, 0, 0, 0])?;
-    after_moves(rt, b"1,025th move, 5 and 7", [2, 4, 0, 0, 1, 0, 0, 0])?;
-    after_moves(rt, b"1,025th move, 12 and 7", [2, 4, 127, 0, 0, 0, 0, 0])?;
-    after_moves(rt, b"1,025th move, 6 and 7", [2, 4, 31, 1, 0, 0, 0, 0])?;
-    after_moves(rt, b"a rule after 1,024 moves", [1, 0, 0, 0, 0, 0, 0, 0])
+    after(
+        rt,
+        b"257th rule, 4 and 7",
+        256,
+        0,
+        [1, 64, 0, 0, 0, 0, 0, 0],
+    )?;
+    after(rt, b"257th rule, 5 and 7", 256, 0, [1, 2, 0, 9, 0, 0, 0, 0])?;
+    after(rt, b"257th rule, 6 and 7", 256, 0, [1, 0, 0, 0, 0, 0, 0, 0])?;
+    after(rt, b"3 after 256 rules", 256, 0, [4, 0, 0, 0, 0, 0, 0, 0])?;
+    after(
+        rt,
+        b"1,025th move, 4 and 7",
+        0,
+        1024,
+        [2, 4, 128, 0, 0, 0, 0, 0],
+    )?;
+    after(
+        rt,
+        b"1,025th move, 5 and 7",
+        0,
+        1024,
+        [2, 4, 0, 0, 1, 0, 0, 0],
+    )?;
+    after(
+        rt,
+        b"1,025th move, 12 and 7",
+        0,
+        1024,
+        [2, 4, 127, 0, 0, 0, 0, 0],
+    )?;
+    after(
+        rt,
+        b"1,025th move, 6 and 7",
+        0,
+        1024,
+        [2, 4, 31, 1, 0, 0, 0, 0],
+    )?;
+    after(
+        rt,
+        b"a rule after 1,024 moves",
+        0,
+        1024,
+        [1, 0, 0, 0, 0, 0, 0, 0],
+    )
 }
 
 // ---- all

@@ -6,10 +6,9 @@
 use file_wide_checks::WideRecord;
 use host_result::{BROKEN, CheckResult, EMPTY, FULL, HOLDS, SPENT};
 use spec_calls::{INITIAL_ALONE, Options, Row};
-use spec_file::Refusal;
 use std::io;
 use test_files::{
-    HELD, SAMPLE, front, print, print_bytes, print_label, print_number, print_refused, put, sample,
+    HELD, SAMPLE, front, print, print_bytes, print_label, print_moved, print_number, put, sample,
 };
 
 // The rows and the budget of most checks.
@@ -75,23 +74,6 @@ fn print_told(rt: &impl Print, told: CheckResult, run: &[u8]) -> io::Result<()> 
     print(rt, b"\n")
 }
 
-// Prints the result too, where it is short.
-fn print_moved(rt: &impl Print, answer: Result<usize, Refusal>, out: &[u8]) -> io::Result<()> {
-    match answer {
-        Ok(n) => {
-            print_number(rt, n as u64)?;
-            print(rt, b" bytes")?;
-            if n < 33 {
-                print_bytes(rt, front(out, n))?;
-            }
-        }
-        Err(refusal) => {
-            print_refused(rt, refusal)?;
-        }
-    }
-    print(rt, b"\n")
-}
-
 // ---- calls
 
 // Checks `file` from the set `starts` over `rows` rows, with a budget of `budget` joins.
@@ -125,7 +107,8 @@ fn unfold(rt: &impl Print, label: &[u8], file: &[u8], starts: u64) -> io::Result
     print_label(rt, label)?;
     let mut out = [0u8; 64];
     let answer = call_unfold::unfold(file, starts, &mut out);
-    print_moved(rt, answer, &out)
+    print_moved(rt, answer, &out, 33)?;
+    print(rt, b"\n")
 }
 
 // ---- checks

@@ -2,13 +2,14 @@
 // result byte by byte, and how many bytes of the output are as they were. The stored output is what document 02, C-17, asks for.
 #![tactic(auto)]
 
+use call_move::{narrow, widen};
 use file_wide_checks::WideRecord;
 use spec_calls::INITIAL_ALONE;
 use spec_file::Refusal;
 use std::io;
 use test_files::{
-    HELD, LARGEST, SAMPLE, fill, front, print, print_bytes, print_label, print_number,
-    print_refused, sample,
+    HELD, LARGEST, SAMPLE, fill, front, print, print_kept, print_label, print_moved, print_number,
+    sample,
 };
 
 // The bytes, and the number, of two sixteen-byte records more than a file may have.
@@ -24,30 +25,6 @@ const OLD: u8 = 255;
 
 // ---- printing
 
-fn print_kept(rt: &impl Print, out: &[u8]) -> io::Result<()> {
-    let kept = out.iter().filter(|byte| **byte == OLD).count();
-    print(rt, b", kept ")?;
-    print_number(rt, kept as u64)?;
-    print(rt, b"\n")
-}
-
-// Prints the result too, where it is short.
-fn print_moved(rt: &impl Print, answer: Result<usize, Refusal>, out: &[u8]) -> io::Result<()> {
-    match answer {
-        Ok(n) => {
-            print_number(rt, n as u64)?;
-            print(rt, b" bytes")?;
-            if n < 65 {
-                print_bytes(rt, front(out, n))?;
-            }
-        }
-        Err(refusal) => {
-            print_refused(rt, refusal)?;
-        }
-    }
-    print_kept(rt, out)
-}
-
 // Prints how many bytes of `a` differ from those at the front of `b`, which is not shorter.
 fn print_differing(rt: &impl Print, a: &[u8], b: &[u8]) -> io::Result<()> {
     if b.len() < a.len() {
@@ -61,65 +38,53 @@ fn print_differing(rt: &impl Print, a: &[u8], b: &[u8]) -> io::Result<()> {
 
 // ---- calls
 
-fn widen(rt: &impl Print, label: &[u8], file: &[u8], out: &mut [u8]) -> io::Result<()> {
+// Unfolds `file` for procedure 0 alone.
+fn unfold(file: &[u8], out: &mut [u8]) -> Result<usize, Refusal> {
+    call_unfold::unfold(file, INITIAL_ALONE, out)
+}
+
+// Each case names its call, which is one of `widen`, `narrow` and `unfold`.
+
+fn report<F: Fn(&[u8], &mut [u8]) -> Result<usize, Refusal>>(
+    rt: &impl Print,
+    call: F,
+    label: &[u8],
+    file: &[u8],
+    out: &mut [u8],
+) -> io::Result<()>
+    requires { F.IsAlwaysCallable call }
+{
     print_label(rt, label)?;
-    let answer = call_move::widen(file, out);
-    print_moved(rt, answer, out)
-}
-
-fn narrow(rt: &impl Print, label: &[u8], file: &[u8], out: &mut [u8]) -> io::Result<()> {
-    print_label(rt, label)?;
-    let answer = call_move::narrow(file, out);
-    print_moved(rt, answer, out)
-}
-
-fn unfold(rt: &impl Print, label: &[u8], file: &[u8], out: &mut [u8]) -> io::Result<()> {
-    print_label(rt, label)?;
-    let answer = call_unfold::unfold(file, INITIAL_ALONE, out);
-    print_moved(rt, answer, out)
-}
-
-fn narrow_all(rt: &impl Print, label: &[u8], file: &[u8; WIDE], n: usize) -> io::Result<()> {
-    narrow_by(rt, label, file, n, ROOM)
-}
-
-fn unfold_all(rt: &impl Print, label: &[u8], file: &[u8; WIDE], n: usize) -> io::Result<()> {
-    unfold_by(rt, label, file, n, ROOM)
+    let answer = call(file, out);
+    print_moved(rt, answer, out, 65)?;
+    print_kept(rt, out, OLD)?;
+    print(rt, b"\n")
 }
 
 // The same with an output of `room` bytes.
-
-fn widen_by(
+fn report_by<F: Fn(&[u8], &mut [u8]) -> Result<usize, Refusal>>(
     rt: &impl Print,
+    call: F,
     label: &[u8],
-    file: &[u8; HELD],
-    n: usize,
+    file: &[u8],
     room: usize,
-) -> io::Result<()> {
+) -> io::Result<()>
+    requires { F.IsAlwaysCallable call }
+{
     let mut out = [OLD; ROOM];
-    widen(rt, label, front(file, n), &mut out[..room.min(ROOM)])
+    report(rt, call, label, file, &mut out[..room.min(ROOM)])
 }
 
-fn narrow_by(
+// The same with the output that most cases lend, on the records `records` alone.
+fn report_of<F: Fn(&[u8], &mut [u8]) -> Result<usize, Refusal>, const N: usize>(
     rt: &impl Print,
+    call: F,
     label: &[u8],
-    file: &[u8; WIDE],
-    n: usize,
-    room: usize,
-) -> io::Result<()> {
-    let mut out = [OLD; ROOM];
-    narrow(rt, label, front(file, n), &mut out[..room.min(ROOM)])
-}
-
-fn unfold_by(
-    rt: &impl Print,
-    label: &[u8],
-    file: &[u8; WIDE],
-    n: usize,
-    room: usize,
-) -> io::Result<()> {
-    let mut out = [OLD; ROOM];
-    unfold(rt, label, front(file, n), &mut out[..room.min(ROOM)])
+    records: [WideRecord; N],
+) -> io::Result<()>
+    requires { F.IsAlwaysCallable call }
+{
+    report_by(rt, call, label, records.as_flattened(), ROOM)
 }
 
 // ---- making files of sixteen-byte records
@@ -129,32 +94,6 @@ fn put(file: &mut [u8; WIDE], i: usize, r: WideRecord) {
     if i < RECORDS {
         call_move::put(file, i * 16, &r);
     }
-}
-
-fn narrow_one(rt: &impl Print, label: &[u8], r: WideRecord) -> io::Result<()> {
-    let mut file = [0u8; WIDE];
-    put(&mut file, 0, r);
-    narrow_all(rt, label, &file, 16)
-}
-
-fn unfold_one(rt: &impl Print, label: &[u8], r: WideRecord) -> io::Result<()> {
-    let mut file = [0u8; WIDE];
-    put(&mut file, 0, r);
-    unfold_all(rt, label, &file, 16)
-}
-
-fn narrow_two(rt: &impl Print, label: &[u8], r: WideRecord, s: WideRecord) -> io::Result<()> {
-    let mut file = [0u8; WIDE];
-    put(&mut file, 0, r);
-    put(&mut file, 1, s);
-    narrow_all(rt, label, &file, 32)
-}
-
-fn unfold_two(rt: &impl Print, label: &[u8], r: WideRecord, s: WideRecord) -> io::Result<()> {
-    let mut file = [0u8; WIDE];
-    put(&mut file, 0, r);
-    put(&mut file, 1, s);
-    unfold_all(rt, label, &file, 32)
 }
 
 // Stores a rule with an empty body for each of the first `n` procedures.
@@ -192,12 +131,12 @@ fn over_and_back(
     m: usize,
 ) -> io::Result<()> {
     let mut wide = [OLD; WIDE];
-    widen(rt, label, front(file, n), &mut wide)?;
+    report(rt, widen, label, front(file, n), &mut wide)?;
     let mut back = [OLD; HELD];
-    narrow(rt, b"and back", front(&wide, m), &mut back)?;
+    report(rt, narrow, b"and back", front(&wide, m), &mut back)?;
     print_differing(rt, front(file, n), &back)?;
     let mut unfolded = [OLD; HELD];
-    unfold(rt, b"and unfolded", front(&wide, m), &mut unfolded)?;
+    report(rt, unfold, b"and unfolded", front(&wide, m), &mut unfolded)?;
     print_differing(rt, front(file, n), &unfolded)
 }
 
@@ -212,229 +151,265 @@ fn old_files(rt: &impl Print) -> io::Result<()> {
 fn small_files(rt: &impl Print) -> io::Result<()> {
     let record = [1u8, 0, 2, 129, 3, 0, 0, 0];
     let mut wide = [OLD; 20];
-    widen(rt, b"one record moved over", &record, &mut wide)?;
+    report(rt, widen, b"one record moved over", &record, &mut wide)?;
     let mut back = [OLD; 20];
-    narrow(rt, b"and back", front(&wide, 16), &mut back)?;
-    widen(
+    report(rt, narrow, b"and back", front(&wide, 16), &mut back)?;
+    report(
         rt,
+        widen,
         b"the empty file moved over",
         front(&record, 0),
         &mut back,
     )?;
-    narrow(
+    report(
         rt,
+        narrow,
         b"the empty file moved back",
         front(&record, 0),
         &mut back,
     )?;
-    unfold(rt, b"the empty file unfolded", front(&record, 0), &mut back)
+    report(
+        rt,
+        unfold,
+        b"the empty file unfolded",
+        front(&record, 0),
+        &mut back,
+    )
 }
 
 fn bodies(rt: &impl Print) -> io::Result<()> {
-    unfold_one(
+    report_of(
         rt,
+        unfold,
         b"a body of 5",
-        [1, 0, 5, 1, 2, 3, 4, 5, 0, 0, 0, 0, 0, 0, 0, 0],
+        [[1, 0, 5, 1, 2, 3, 4, 5, 0, 0, 0, 0, 0, 0, 0, 0]],
     )?;
-    narrow_one(
+    report_of(
         rt,
+        narrow,
         b"a body of 5 moved back",
-        [1, 0, 5, 1, 2, 3, 4, 5, 0, 0, 0, 0, 0, 0, 0, 0],
+        [[1, 0, 5, 1, 2, 3, 4, 5, 0, 0, 0, 0, 0, 0, 0, 0]],
     )?;
-    unfold_one(
+    report_of(
         rt,
+        unfold,
         b"a body of 3",
-        [1, 0, 3, 1, 130, 3, 0, 0, 0, 0, 0, 0, 0, 0, 0, 0],
+        [[1, 0, 3, 1, 130, 3, 0, 0, 0, 0, 0, 0, 0, 0, 0, 0]],
     )?;
-    narrow_one(
+    report_of(
         rt,
+        narrow,
         b"a body of 3 moved back",
-        [1, 0, 3, 1, 130, 3, 0, 0, 0, 0, 0, 0, 0, 0, 0, 0],
+        [[1, 0, 3, 1, 130, 3, 0, 0, 0, 0, 0, 0, 0, 0, 0, 0]],
     )?;
-    unfold_one(
+    report_of(
         rt,
+        unfold,
         b"a body of 2",
-        [1, 0, 2, 1, 130, 0, 0, 0, 0, 0, 0, 0, 0, 0, 0, 0],
+        [[1, 0, 2, 1, 130, 0, 0, 0, 0, 0, 0, 0, 0, 0, 0, 0]],
     )?;
-    narrow_one(
+    report_of(
         rt,
+        narrow,
         b"a body of 2 moved back",
-        [1, 0, 2, 1, 130, 0, 0, 0, 0, 0, 0, 0, 0, 0, 0, 0],
+        [[1, 0, 2, 1, 130, 0, 0, 0, 0, 0, 0, 0, 0, 0, 0, 0]],
     )?;
-    unfold_one(
+    report_of(
         rt,
+        unfold,
         b"an empty body",
-        [1, 0, 0, 0, 0, 0, 0, 0, 0, 0, 0, 0, 0, 0, 0, 0],
+        [[1, 0, 0, 0, 0, 0, 0, 0, 0, 0, 0, 0, 0, 0, 0, 0]],
     )
 }
 
 fn long_bodies(rt: &impl Print) -> io::Result<()> {
-    unfold_one(
+    report_of(
         rt,
+        unfold,
         b"a body of 12",
-        [1, 0, 12, 1, 2, 3, 4, 5, 6, 7, 8, 9, 10, 11, 12, 0],
+        [[1, 0, 12, 1, 2, 3, 4, 5, 6, 7, 8, 9, 10, 11, 12, 0]],
     )?;
-    unfold_one(
+    report_of(
         rt,
+        unfold,
         b"a body of 13",
-        [1, 0, 13, 1, 2, 3, 4, 5, 6, 7, 8, 9, 10, 11, 12, 0],
+        [[1, 0, 13, 1, 2, 3, 4, 5, 6, 7, 8, 9, 10, 11, 12, 0]],
     )?;
-    unfold_one(
+    report_of(
         rt,
+        unfold,
         b"symbol 192 at the end of a body of 12",
-        [1, 0, 12, 1, 2, 3, 4, 5, 6, 7, 8, 9, 10, 11, 192, 0],
+        [[1, 0, 12, 1, 2, 3, 4, 5, 6, 7, 8, 9, 10, 11, 192, 0]],
     )
 }
 
 // Two rules with a long body each: the second chain is numbered behind the first, and the rules are put in file order.
 fn two_chains(rt: &impl Print) -> io::Result<()> {
     let first = [1u8, 0, 4, 1, 2, 3, 4, 0, 0, 0, 0, 0, 0, 0, 0, 0];
-    unfold_two(
+    report_of(
         rt,
+        unfold,
         b"two chains",
-        first,
-        [1, 1, 3, 5, 128, 7, 0, 0, 0, 0, 0, 0, 0, 0, 0, 0],
+        [first, [1, 1, 3, 5, 128, 7, 0, 0, 0, 0, 0, 0, 0, 0, 0, 0]],
     )?;
-    unfold_two(
+    report_of(
         rt,
+        unfold,
         b"procedure 8 is in use as a symbol",
-        first,
-        [1, 1, 3, 5, 136, 7, 0, 0, 0, 0, 0, 0, 0, 0, 0, 0],
+        [first, [1, 1, 3, 5, 136, 7, 0, 0, 0, 0, 0, 0, 0, 0, 0, 0]],
     )
 }
 
 fn with_a_sheet(rt: &impl Print) -> io::Result<()> {
-    let mut file = [0u8; WIDE];
-    put(
-        &mut file,
-        0,
-        [1, 0, 4, 1, 2, 3, 4, 0, 0, 0, 0, 0, 0, 0, 0, 0],
-    );
-    put(
-        &mut file,
-        1,
-        [2, 0, 1, 1, 0, 0, 0, 0, 0, 0, 0, 0, 0, 0, 0, 0],
-    );
-    put(
-        &mut file,
-        2,
-        [3, 1, 0, 0, 0, 0, 0, 0, 0, 0, 0, 0, 0, 0, 0, 0],
-    );
-    unfold_all(rt, b"a chain, a move and a finishing stage", &file, 48)
+    report_of(
+        rt,
+        unfold,
+        b"a chain, a move and a finishing stage",
+        [
+            [1, 0, 4, 1, 2, 3, 4, 0, 0, 0, 0, 0, 0, 0, 0, 0],
+            [2, 0, 1, 1, 0, 0, 0, 0, 0, 0, 0, 0, 0, 0, 0, 0],
+            [3, 1, 0, 0, 0, 0, 0, 0, 0, 0, 0, 0, 0, 0, 0, 0],
+        ],
+    )
 }
 
 fn bytes_that_are_not_used(rt: &impl Print) -> io::Result<()> {
-    unfold_one(
+    report_of(
         rt,
+        unfold,
         b"byte 15 of a rule",
-        [1, 0, 12, 1, 2, 3, 4, 5, 6, 7, 8, 9, 10, 11, 12, 1],
+        [[1, 0, 12, 1, 2, 3, 4, 5, 6, 7, 8, 9, 10, 11, 12, 1]],
     )?;
-    narrow_one(
+    report_of(
         rt,
+        narrow,
         b"byte 14 of a body of 2",
-        [1, 0, 2, 1, 2, 0, 0, 0, 0, 0, 0, 0, 0, 0, 1, 0],
+        [[1, 0, 2, 1, 2, 0, 0, 0, 0, 0, 0, 0, 0, 0, 1, 0]],
     )?;
-    narrow_one(
+    report_of(
         rt,
+        narrow,
         b"byte 15 of a move",
-        [2, 0, 1, 1, 0, 0, 0, 0, 0, 0, 0, 0, 0, 0, 0, 1],
+        [[2, 0, 1, 1, 0, 0, 0, 0, 0, 0, 0, 0, 0, 0, 0, 1]],
     )?;
-    narrow_one(
+    report_of(
         rt,
+        narrow,
         b"byte 8 of a finishing stage",
-        [3, 0, 0, 0, 0, 0, 0, 0, 1, 0, 0, 0, 0, 0, 0, 0],
+        [[3, 0, 0, 0, 0, 0, 0, 0, 1, 0, 0, 0, 0, 0, 0, 0]],
     )
 }
 
 fn records_refused(rt: &impl Print) -> io::Result<()> {
     let long = [1u8, 0, 12, 1, 2, 3, 4, 5, 6, 7, 8, 9, 10, 11, 12, 0];
-    unfold_two(rt, b"two equal records", long, long)?;
-    unfold_two(
+    report_of(rt, unfold, b"two equal records", [long, long])?;
+    report_of(
         rt,
+        unfold,
         b"byte 14 falls",
-        long,
-        [1, 0, 12, 1, 2, 3, 4, 5, 6, 7, 8, 9, 10, 11, 11, 0],
+        [long, [1, 0, 12, 1, 2, 3, 4, 5, 6, 7, 8, 9, 10, 11, 11, 0]],
     )?;
-    narrow_two(
+    report_of(
         rt,
+        narrow,
         b"a move on a remark behind a long body",
-        long,
-        [2, 0, 120, 1, 0, 0, 0, 0, 0, 0, 0, 0, 0, 0, 0, 0],
+        [long, [2, 0, 120, 1, 0, 0, 0, 0, 0, 0, 0, 0, 0, 0, 0, 0]],
     )?;
-    unfold_two(
+    report_of(
         rt,
+        unfold,
         b"kind 4",
-        long,
-        [4, 0, 0, 0, 0, 0, 0, 0, 0, 0, 0, 0, 0, 0, 0, 0],
+        [long, [4, 0, 0, 0, 0, 0, 0, 0, 0, 0, 0, 0, 0, 0, 0, 0]],
     )?;
-    unfold_two(
+    report_of(
         rt,
+        unfold,
         b"stage 16",
-        long,
-        [2, 16, 1, 1, 0, 0, 0, 0, 0, 0, 0, 0, 0, 0, 0, 0],
+        [long, [2, 16, 1, 1, 0, 0, 0, 0, 0, 0, 0, 0, 0, 0, 0, 0]],
     )
 }
 
 fn lengths(rt: &impl Print) -> io::Result<()> {
     let mut file = [0u8; WIDE];
     put_rules(&mut file, RECORDS);
-    unfold_all(rt, b"8 bytes", &file, 8)?;
-    narrow_all(rt, b"17 bytes", &file, 17)?;
-    narrow_all(rt, b"20,751 bytes", &file, 20751)?;
-    narrow_all(rt, b"1,297 records", &file, 20752)?;
-    narrow_all(rt, b"1,296 records, all rules", &file, 20736)?;
+    report_by(rt, unfold, b"8 bytes", front(&file, 8), ROOM)?;
+    report_by(rt, narrow, b"17 bytes", front(&file, 17), ROOM)?;
+    report_by(rt, narrow, b"20,751 bytes", front(&file, 20751), ROOM)?;
+    report_by(rt, narrow, b"1,297 records", front(&file, 20752), ROOM)?;
+    report_by(
+        rt,
+        narrow,
+        b"1,296 records, all rules",
+        front(&file, 20736),
+        ROOM,
+    )?;
     let old = [0u8; HELD];
-    widen_by(rt, b"17 bytes moved over", &old, 17, ROOM)
+    report_by(rt, widen, b"17 bytes moved over", front(&old, 17), ROOM)
 }
 
-// 63 procedures with an empty body each, and then the rule `r`.
-fn behind_procedures(rt: &impl Print, label: &[u8], r: WideRecord) -> io::Result<()> {
+// Unfolds the first `n` records of `file` and the rule `r` behind them.
+fn behind(
+    rt: &impl Print,
+    label: &[u8],
+    file: &mut [u8; WIDE],
+    n: u8,
+    r: WideRecord,
+) -> io::Result<()> {
+    let n = usize::from(n);
+    put(file, n, r);
+    report_by(rt, unfold, label, front(file, n * 16 + 16), ROOM)
+}
+
+// 63 procedures with an empty body each, and then one rule.
+fn procedures(rt: &impl Print) -> io::Result<()> {
     let mut file = [0u8; WIDE];
     put_procedures(&mut file, 63);
-    put(&mut file, 63, r);
-    unfold_all(rt, label, &file, 1024)
-}
-
-fn procedures(rt: &impl Print) -> io::Result<()> {
-    behind_procedures(
+    behind(
         rt,
         b"63 procedures and a body of 3",
+        &mut file,
+        63,
         [1, 62, 3, 1, 2, 3, 0, 0, 0, 0, 0, 0, 0, 0, 0, 0],
     )?;
-    behind_procedures(
+    behind(
         rt,
         b"63 procedures and a body of 4",
+        &mut file,
+        63,
         [1, 62, 4, 1, 2, 3, 4, 0, 0, 0, 0, 0, 0, 0, 0, 0],
     )?;
-    behind_procedures(
+    behind(
         rt,
         b"procedure 63 in use as a symbol, and a body of 3",
+        &mut file,
+        63,
         [1, 62, 3, 1, 2, 191, 0, 0, 0, 0, 0, 0, 0, 0, 0, 0],
     )?;
-    behind_procedures(
+    behind(
         rt,
         b"64 procedures and a body of 2",
+        &mut file,
+        63,
         [1, 63, 2, 1, 191, 0, 0, 0, 0, 0, 0, 0, 0, 0, 0, 0],
     )
 }
 
-// 250 rules, and then the rule `r`.
-fn behind_rules(rt: &impl Print, label: &[u8], r: WideRecord) -> io::Result<()> {
+// 250 rules, and then one more.
+fn rules(rt: &impl Print) -> io::Result<()> {
     let mut file = [0u8; WIDE];
     put_rules(&mut file, 250);
-    put(&mut file, 250, r);
-    unfold_all(rt, label, &file, 4016)
-}
-
-fn rules(rt: &impl Print) -> io::Result<()> {
-    behind_rules(
+    behind(
         rt,
         b"256 rules after unfolding",
+        &mut file,
+        250,
         [1, 2, 7, 1, 2, 3, 4, 5, 6, 7, 0, 0, 0, 0, 0, 0],
     )?;
-    behind_rules(
+    behind(
         rt,
         b"257 rules after unfolding",
+        &mut file,
+        250,
         [1, 2, 8, 1, 2, 3, 4, 5, 6, 7, 8, 0, 0, 0, 0, 0],
     )
 }
@@ -442,19 +417,23 @@ fn rules(rt: &impl Print) -> io::Result<()> {
 fn rooms(rt: &impl Print) -> io::Result<()> {
     let mut file = [0u8; HELD];
     sample(&mut file);
-    widen_by(rt, b"143 bytes of room for plan B", &file, SAMPLE, 143)?;
-    widen_by(rt, b"144 bytes of room", &file, SAMPLE, 144)
+    report_by(
+        rt,
+        widen,
+        b"143 bytes of room for plan B",
+        front(&file, SAMPLE),
+        143,
+    )?;
+    report_by(rt, widen, b"144 bytes of room", front(&file, SAMPLE), 144)
 }
 
 fn rooms_for(rt: &impl Print, r: WideRecord) -> io::Result<()> {
-    let mut file = [0u8; WIDE];
-    put(&mut file, 0, r);
-    narrow_by(rt, b"7 bytes of room to move a record back", &file, 16, 7)?;
-    narrow_by(rt, b"8 bytes of room", &file, 16, 8)?;
-    unfold_by(rt, b"7 bytes of room to unfold it", &file, 16, 7)?;
-    unfold_by(rt, b"15 bytes of room", &file, 16, 15)?;
-    unfold_by(rt, b"16 bytes of room", &file, 16, 16)?;
-    unfold_by(rt, b"no room and a torn record", &file, 15, 0)
+    report_by(rt, narrow, b"7 bytes of room to move a record back", &r, 7)?;
+    report_by(rt, narrow, b"8 bytes of room", &r, 8)?;
+    report_by(rt, unfold, b"7 bytes of room to unfold it", &r, 7)?;
+    report_by(rt, unfold, b"15 bytes of room", &r, 15)?;
+    report_by(rt, unfold, b"16 bytes of room", &r, 16)?;
+    report_by(rt, unfold, b"no room and a torn record", front(&r, 15), 0)
 }
 
 fn other_rooms(rt: &impl Print) -> io::Result<()> {

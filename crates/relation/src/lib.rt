@@ -82,6 +82,15 @@ pub fn within(x: u64, y: u64) -> bool
     outside(x, y) == 0
 }
 
+// Returns the word `x` turned by `places` places: the bits that leave it above come in below. (The library's `rotate_left` takes a remainder, which
+// tests/dividing finds in the loop over the candidates.)
+fn turned(x: u64, places: u32) -> u64
+    requires { (0 < places) × (places < 64) }
+    ensures { result ≡ turned places x }
+{
+    (x << places) | (x >> (64 - places))
+}
+
 // Returns all bits of each row of `x` whose lowest bit is set. A row's bits are the next row's lowest bit less its own, so one subtraction
 // makes all four rows; it wraps at the highest row only.
 fn spread(x: u64) -> u64
@@ -380,13 +389,13 @@ impl Relation {
     }
 
     // Returns a small number of the relation, for a table of hints: equal relations have the same, and others seldom do. Words are turned by
-    // other places each, the bits that leave one above coming in below, so that rows do not meet.
+    // other places each, so that rows do not meet.
     pub fn digest(self) -> usize
         ensures { result ≡ digest (value self) }
     {
-        let lower = self.w0 ^ self.w1.rotate_left(8);
-        let upper = self.w2 ^ self.w3.rotate_left(8);
-        ((lower ^ upper.rotate_left(29)) % DIGESTS) as usize
+        let lower = self.w0 ^ turned(self.w1, 8);
+        let upper = self.w2 ^ turned(self.w3, 8);
+        ((lower ^ turned(upper, 29)) % DIGESTS) as usize
     }
 
     // Returns the pairs among the states below 8 in one word: of a file of eight states, the whole relation. A relation that is contained in

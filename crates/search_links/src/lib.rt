@@ -25,7 +25,11 @@ fn copy_links(table: &mut [u32], from: usize, to: usize)
     requires { (length table.old ≡ table_cells) × (from ≤ to) × (to ≤ list_cells) }
     ensures { Copied from to table.old table.new }
 {
-    table.copy_within(from..to, LISTS + from);
+    // The links before `i` are copied. (No `copy_within`, whose calls go through a trait: tests/dividing follows those of the loop over the
+    // candidates by their names.)
+    for i in from..to {
+        table[LISTS + i] = table[i];
+    }
 }
 
 // Makes the rows that are live now, among the first `used`, the lists of the pass: copies the links of these rows and of the heads.

@@ -4,7 +4,7 @@ use host_result::CheckResult;
 use relation::Relation;
 use spec_calls::{INITIAL_ALONE, Options, Row};
 use test_random::Trial;
-use test_unpruned::{FIELDS, Found, LEFT, LENGTH, Numbers, Verdict, rows, same_relation};
+use test_unpruned::{Entry, FIELDS, LEFT, LENGTH, Numbers, Verdict, rows, same_relation};
 
 const ROWS: usize = 1024;
 
@@ -98,12 +98,17 @@ fn same(x: CheckResult, y: CheckResult) -> bool {
         & (x.pass == y.pass)
 }
 
-// Tests whether the word that is the first `size` letters of `buffer` is turned away.
-fn turned_away(file: &[u8], buffer: &[u8], size: usize) -> bool {
+// Returns the word of a broken answer, which stands at the front of `buffer`, or none where the buffer is shorter than the word.
+fn word_told(told: CheckResult, buffer: &[u8]) -> Option<&[u8]> {
+    let size = told.length as usize;
     if buffer.len() < size {
-        return false;
+        return None;
     }
-    call_judge::judge(file, &buffer[0..size]) == Ok(Judged::TurnedAway)
+    Some(&buffer[..size])
+}
+
+fn turned_away(file: &[u8], word: &[u8]) -> bool {
+    call_judge::judge(file, word) == Ok(Judged::TurnedAway)
 }
 
 // Tests whether the word in `buffer` is as long as the broken row says, is turned away, and has the row's relation.
@@ -113,14 +118,13 @@ fn shown(file: &[u8], journal: &[Numbers], told: CheckResult, buffer: &[u8]) -> 
         return false;
     }
     let held = journal[row];
-    let size = told.length as usize;
+    let Some(word) = word_told(told, buffer) else {
+        return false;
+    };
     (told.refused == 0)
         & (held[LENGTH] == told.length)
-        & turned_away(file, buffer, size)
-        & same_relation(
-            rows::relation_of(held),
-            test_unpruned::word(file, buffer, size),
-        )
+        & turned_away(file, word)
+        & same_relation(rows::relation_of(held), test_unpruned::word(file, word))
 }
 
 // Returns the number of the verdict that the unpruned search gives for the set `starts`.
@@ -151,11 +155,11 @@ fn right(
 
 // Tests whether the used rows have relations that the unpruned search found, and the live ones are an antichain; if the check holds or is empty,
 // no relation is without a live row below it, so that the live rows are the smallest relations.
-fn accounted(journal: &[Numbers], told: CheckResult, found: &Found, count: usize) -> bool {
-    let used = told.used as usize;
-    let sound = rows::sound(journal, used, found, count);
+fn accounted(journal: &[Numbers], told: CheckResult, found: &[Entry]) -> bool {
+    let used = &journal[..journal.len().min(told.used as usize)];
+    let sound = rows::sound(used, found);
     if (told.code == host_result::HOLDS) | (told.code == host_result::EMPTY) {
-        return sound & rows::covering(journal, used, found, count);
+        return sound & rows::covering(used, found);
     }
     sound
 }
@@ -213,34 +217,22 @@ fn tried(drawn: u64, kind: u64, verdict: Verdict) -> u64 {
     }
 }
 
-// Tests whether the first `size` letters of `buffer` are a word of the nonterminal `head`, by the list: it has one with the word's relation.
-fn is_word(
-    file: &[u8],
-    found: &Found,
-    count: usize,
-    head: u64,
-    buffer: &[u8],
-    size: usize,
-) -> bool {
+// Tests whether `word` is a word of the nonterminal `head`, by the list: it has one with the word's relation.
+fn is_word(file: &[u8], found: &[Entry], head: u64, word: &[u8]) -> bool {
     let symbol = test_unpruned::TERMINALS + head % test_unpruned::NONTERMINALS;
-    let relation = test_unpruned::word(file, buffer, size);
-    test_unpruned::listed(found, count, test_unpruned::pair(symbol, relation))
+    let relation = test_unpruned::word(file, word);
+    test_unpruned::listed(found, test_unpruned::pair(symbol, relation))
 }
 
 // Tests whether a broken answer to a check from the set `starts` shows a word of a member, and that is turned away.
-fn shown_from(
-    file: &[u8],
-    found: &Found,
-    count: usize,
-    starts: u64,
-    told: CheckResult,
-    buffer: &[u8],
-) -> bool {
-    let size = told.length as usize;
+fn shown_from(file: &[u8], found: &[Entry], starts: u64, told: CheckResult, buffer: &[u8]) -> bool {
+    let Some(word) = word_told(told, buffer) else {
+        return false;
+    };
     (told.refused == 0)
         & ((starts >> (told.head % 64)) % 2 == 1)
-        & is_word(file, found, count, told.head, buffer, size)
-        & turned_away(file, buffer, size)
+        & is_word(file, found, told.head, word)
+        & turned_away(file, word)
 }
 
 // The verdict's number of a check from a set, and whether it is right.
@@ -251,15 +243,14 @@ struct FromSet {
 }
 
 // Checks `file` from the set `starts`, and compares with the unpruned search.
-fn check_from(file: &[u8], found: &Found, count: usize, verdict: Verdict, starts: u64) -> FromSet {
+fn check_from(file: &[u8], found: &[Entry], verdict: Verdict, starts: u64) -> FromSet {
     let mut buffer = [0u8; 4096];
     let options = Options {
         budget: BUDGET,
         starts,
     };
     let told = host_check::check_and_write(file, ROWS, Row::blank(), options, 0, &mut buffer);
-    let shows = (told.code != host_result::BROKEN)
-        | shown_from(file, found, count, starts, told, &buffer);
+    let shows = (told.code != host_result::BROKEN) | shown_from(file, found, starts, told, &buffer);
     FromSet {
         code: told.code,
         right: (told.code == expected(verdict, starts)) & shows,
@@ -288,14 +279,8 @@ pub struct Outcome {
     pub failing: Option<u64>,
 }
 
-// Makes the comparisons of `file`, of which the unpruned search has listed the first `count` pairs of `found` and given `verdict`.
-pub fn compare(
-    file: &[u8],
-    found: &Found,
-    count: usize,
-    verdict: Verdict,
-    trial: Trial,
-) -> Outcome {
+// Makes the comparisons of `file`, of which the unpruned search has listed `found` and given `verdict`.
+pub fn compare(file: &[u8], found: &[Entry], verdict: Verdict, trial: Trial) -> Outcome {
     let mut buffer = [0u8; 4096];
     let old = Row::blank();
     let told = host_check::check_and_write(
@@ -315,10 +300,10 @@ pub fn compare(
     let small = ask(file, trial.few, old, trial.budget, 0);
     let other = trial.old;
     let starts = tried(trial.set, trial.budget % 4, verdict);
-    let from_set = check_from(file, found, count, verdict, starts);
+    let from_set = check_from(file, found, verdict, starts);
     let comparisons = [
         (1, right(file, &journal, told, &buffer, verdict)),
-        (2, accounted(&journal, told, found, count)),
+        (2, accounted(&journal, told, found)),
         (3, same_with_more(file, &journal, told)),
         (4, same_with_old(file, &journal, told, other)),
         (5, fair(told, small, trial.few, trial.budget)),

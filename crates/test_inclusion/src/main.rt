@@ -78,7 +78,7 @@ fn count_small(tally: &mut Tally, verdict: u64) {
     });
 }
 
-// Counts the verdict from a set.
+// Counts the verdict from a set. As one function with `count_small` it would be no plainer: their verdicts and counters are all different.
 fn count_from_set(tally: &mut Tally, verdict: u64) {
     count_one(match verdict {
         HOLDS => &mut tally.from_holds,
@@ -109,19 +109,18 @@ fn try_file(
     trial: Trial,
     tally: &mut Tally,
 ) -> io::Result<()> {
-    let remark = test_unpruned::remark_transition(file);
-    if remark < test_unpruned::RECORDS {
+    if let Some(remark) = test_unpruned::remark_transition(file) {
         count_one(&mut tally.refused);
         return count_mismatch(rt, tally, number, comparison::refusal(file, remark));
     }
-    let mut found = [test_unpruned::BLANK; test_unpruned::LIMIT];
-    let count = test_unpruned::search(file, &mut found);
-    if count == test_unpruned::LIMIT {
+    let mut room = [test_unpruned::BLANK; test_unpruned::LIMIT];
+    let found = test_unpruned::search(file, &mut room);
+    if found.len() == test_unpruned::LIMIT {
         count_one(&mut tally.skipped);
         return Ok(());
     }
-    let verdict = test_unpruned::decide(file, &found, count);
-    let outcome = comparison::compare(file, &found, count, verdict, trial);
+    let verdict = test_unpruned::decide(file, found);
+    let outcome = comparison::compare(file, found, verdict, trial);
     count_verdict(tally, outcome, verdict);
     count_small(tally, outcome.small);
     count_from_set(tally, outcome.from_set);

@@ -143,11 +143,9 @@ fn is_remark_transition(file: &[u8], r: usize) -> bool {
     }
 }
 
-// Returns the number of the first record of `file` that is a transition on a remark, or how many records are read where none is.
-pub fn remark_transition(file: &[u8]) -> usize {
-    (0..RECORDS)
-        .find(|r| is_remark_transition(file, *r))
-        .unwrap_or(RECORDS)
+// Returns the number of the first record of `file` that is a transition on a remark, or none where none of those that are read is.
+pub fn remark_transition(file: &[u8]) -> Option<usize> {
+    (0..RECORDS).find(|r| is_remark_transition(file, *r))
 }
 
 // ---- relations
@@ -230,10 +228,10 @@ fn letter(file: &[u8], code: u64) -> Relation {
     relation
 }
 
-// Returns the relation of the word that is the first `size` letters of `buffer`.
-pub fn word(file: &[u8], buffer: &[u8], size: usize) -> Relation {
+// Returns the relation of the word `letters`.
+pub fn word(file: &[u8], letters: &[u8]) -> Relation {
     let mut relation = Relation::identity();
-    for code in buffer.iter().take(size) {
+    for code in letters {
         relation = relation.compose(letter(file, u64::from(*code)));
     }
     relation
@@ -268,9 +266,9 @@ pub fn same_relation(x: Relation, y: Relation) -> bool {
     x == y
 }
 
-// Tests whether `pair` is among the first `count` pairs of `found`.
-pub fn listed(found: &Found, count: usize, pair: Entry) -> bool {
-    found.iter().take(count).any(|other| *other == pair)
+// Tests whether `pair` is on the list `found`.
+pub fn listed(found: &[Entry], pair: Entry) -> bool {
+    found.iter().any(|other| *other == pair)
 }
 
 // The list while it is filled: its first `count` pairs stand.
@@ -284,7 +282,7 @@ impl List<'_> {
     // Appends the pair of `symbol` and `relation`, if it is new and there is room.
     fn add(&mut self, symbol: u64, relation: Relation) {
         let new = pair(symbol, relation);
-        if self.count < LIMIT && !listed(self.found, self.count, new) {
+        if self.count < LIMIT && !listed(&self.found[..self.count], new) {
             self.found[self.count] = new;
             self.count += 1;
         }
@@ -358,17 +356,21 @@ impl List<'_> {
     }
 }
 
-// Lists every symbol with every relation of its words, and returns the number of pairs. Each pair is taken up once, with those before it, so each
-// two pairs meet once. If the list is full, some may be missing.
-pub fn search(file: &[u8], found: &mut Found) -> usize {
-    let mut list = List { found, count: 0 };
+// Lists every symbol with every relation of its words at the front of `found`, and returns the list. Each pair is taken up once, with those
+// before it, so each two pairs meet once. If the list has `LIMIT` pairs, some may be missing.
+pub fn search<'a>(file: &[u8], found: &'a mut Found) -> &'a [Entry] {
+    let mut list = List {
+        found: &mut *found,
+        count: 0,
+    };
     list.begin(file);
     for k in 0..LIMIT {
         if k < list.count {
             list.take_up(file, k);
         }
     }
-    list.count
+    let count = list.count;
+    &found[..count.min(LIMIT)]
 }
 
 // What a list says: the set of the nonterminals that have a word, the set of those of which a word is turned away, bit p for nonterminal p in
@@ -380,14 +382,14 @@ pub struct Verdict {
     pub relations: u64,
 }
 
-// Returns what the first `count` pairs of `found` say.
-pub fn decide(file: &[u8], found: &Found, count: usize) -> Verdict {
+// Returns what the list `found` says.
+pub fn decide(file: &[u8], found: &[Entry]) -> Verdict {
     let mut said = Verdict {
         worded: 0,
         turned: 0,
         relations: 0,
     };
-    for pair in found.iter().take(count) {
+    for pair in found {
         if TERMINALS <= pair.symbol {
             let alone = 1u64 << (pair.symbol % NONTERMINALS);
             said.worded |= alone;

@@ -1,5 +1,5 @@
 // For tests only: compares the rows that a check leaves, each as numbers, with the list of the unpruned search and with another journal.
-use crate::{Entry, Found, NONTERMINALS, Numbers, RETIRED, Relation, TERMINALS};
+use crate::{Entry, NONTERMINALS, Numbers, RETIRED, Relation, TERMINALS};
 
 // Returns the pair of the list that `row` is: its nonterminal's symbol and its relation.
 fn pair_of(row: Numbers) -> Entry {
@@ -33,35 +33,30 @@ fn below(row: Numbers, pair: Entry) -> bool {
     row[RETIRED] == 0 && own.symbol == pair.symbol && contained(own.relation, pair.relation)
 }
 
-// Tests whether some of the first `used` rows, other than row `left_out`, is below `pair`.
-fn has_below(journal: &[Numbers], used: usize, left_out: usize, pair: Entry) -> bool {
+// Tests whether some row, other than row `left_out`, is below `pair`.
+fn has_below(journal: &[Numbers], left_out: Option<usize>, pair: Entry) -> bool {
     journal
         .iter()
         .enumerate()
-        .take(used)
-        .any(|(i, row)| i != left_out && below(*row, pair))
+        .any(|(i, row)| left_out != Some(i) && below(*row, pair))
 }
 
-// Tests whether the first `used` rows have relations that are on the list, and the live ones are an antichain: none is below another.
-pub fn sound(journal: &[Numbers], used: usize, found: &Found, count: usize) -> bool {
-    journal.iter().enumerate().take(used).all(|(i, row)| {
+// Tests whether the rows have relations that are on the list, and the live ones are an antichain: none is below another.
+pub fn sound(journal: &[Numbers], found: &[Entry]) -> bool {
+    journal.iter().enumerate().all(|(i, row)| {
         let pair = pair_of(*row);
-        crate::listed(found, count, pair)
-            && (row[RETIRED] != 0 || !has_below(journal, used, i, pair))
+        crate::listed(found, pair) && (row[RETIRED] != 0 || !has_below(journal, Some(i), pair))
     })
 }
 
 // Tests whether `pair` has a live row below it, if its symbol is a nonterminal.
-fn covered(journal: &[Numbers], used: usize, pair: Entry) -> bool {
-    pair.symbol < TERMINALS || has_below(journal, used, used, pair)
+fn covered(journal: &[Numbers], pair: Entry) -> bool {
+    pair.symbol < TERMINALS || has_below(journal, None, pair)
 }
 
 // Tests whether each relation that the list has for a nonterminal has a live row below it.
-pub fn covering(journal: &[Numbers], used: usize, found: &Found, count: usize) -> bool {
-    found
-        .iter()
-        .take(count)
-        .all(|pair| covered(journal, used, *pair))
+pub fn covering(journal: &[Numbers], found: &[Entry]) -> bool {
+    found.iter().all(|pair| covered(journal, *pair))
 }
 
 // Tests whether two rows are the same in all fields.

@@ -14,5 +14,5 @@ returns c =
     let at : (k : ℕ) → k < relation_words → turned 8 (word r k) ≡ turned 8 (piece word_digits (value r) k) = λ k l. ap (turned 8) (is k l) in
     ap (λ (z : ℕ). z % 32749)
     (ap₂ bit_xor
-    (ap₂ bit_xor (is 0 (omega arith)) (c.rotate_left.ensures ∙ at 1 (omega arith)))
-    (c.rotate_left-3.ensures ∙ ap (turned 29) (ap₂ bit_xor (is 2 (omega arith)) (c.rotate_left-2.ensures ∙ at 3 (omega arith)))))
+    (ap₂ bit_xor (is 0 (omega arith)) (c.turned.ensures ∙ at 1 (omega arith)))
+    (c.turned-3.ensures ∙ ap (turned 29) (ap₂ bit_xor (is 2 (omega arith)) (c.turned-2.ensures ∙ at 3 (omega arith)))))

@@ -71,17 +71,6 @@ struct Tables {
 }
 
 impl Tables {
-    // Returns empty tables: nothing is counted or marked.
-    fn empty() -> Tables
-        ensures { (result.counts ≡ replicate (states * first_remark) 0) × (result.taken ≡ replicate states false) × (result.used ≡ replicate first_remark false) }
-    {
-        Tables {
-            counts: [0; PAIRS],
-            taken: [false; STATES as usize],
-            used: [false; LETTERS],
-        }
-    }
-
     // Takes the transition `t` in: counts it, and marks its two states and its letter.
     fn take_move(&mut self, t: Transition)
         requires { (k : ℕ) → get_or self.old.counts k 0 < record_limit }
@@ -106,18 +95,18 @@ impl Tables {
         }
     }
 
-    // Reads the tables of the automaton of `file`. State 0 is taken, whatever the records are.
-    fn read(file: &[u8]) -> Tables
-        requires { record_count file.now ≤ record_limit }
-        ensures { Sheet (automaton_of file.now) result.counts result.taken result.used }
+    // Reads the automaton of `file` into empty tables. State 0 is taken, whatever the records are. (The tables are filled where they stand: handed
+    // out, each copy would take 4 KiB of the stack more, of which the header tells hosts.)
+    fn read(&mut self, file: &[u8])
+        requires few { record_count file.now ≤ record_limit }
+        requires empty { (self.old.counts ≡ replicate (states * first_remark) 0) × (self.old.taken ≡ replicate states false) × (self.old.used ≡ replicate first_remark false) }
+        ensures { Sheet (automaton_of file.now) self.new.counts self.new.taken self.new.used }
     {
-        let mut tables = Tables::empty();
-        mark(&mut tables.taken, 0);
+        mark(&mut self.taken, 0);
         // The tables say what the automaton of the records before `i` has.
         for i in 0..file.len() / 8 {
-            tables.take(file, i);
+            self.take(file, i);
         }
-        tables
     }
 
     // ---- writing
@@ -199,7 +188,13 @@ fn fill(file: &[u8], buffer: &mut [u8]) -> usize
     requires { ((fault file.now).number ≡ 0) × (list_bytes ≤ length buffer.old) }
     ensures { lines_in buffer.new result ≡ lines_of buffer.old (gaps_of file.now) }
 {
-    Tables::read(file).list_all(buffer)
+    let mut tables = Tables {
+        counts: [0; PAIRS],
+        taken: [false; STATES as usize],
+        used: [false; LETTERS],
+    };
+    tables.read(file);
+    tables.list_all(buffer)
 }
 
 // Returns the count of the gaps and doubles of the sheet in `file`, and writes them to the front of `buffer`, three bytes each: state, letter,

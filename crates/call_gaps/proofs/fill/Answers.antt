@@ -5,8 +5,8 @@ use Rattle.call_gaps.specs.SheetLaws.{sheet-bytes}
 use Rattle.call_gaps.specs.LineLaws.{list-into}
 use Rattle.call_gaps.proofs.fill.Goals as goal
 
-pub read-requires : goal.read-requires
-read-requires c = (valid c.args.file.now c.requires.0).1
+pub read-requires-clause-few : goal.read-requires-clause-few
+read-requires-clause-few c = (valid c.args.file.now c.requires.0).1
 
 pub list_all-requires : goal.list_all-requires
 list_all-requires c = (sheet-bytes c.args.file.now _ _ _ c.requires.0 c.read.ensures, c.requires.1)

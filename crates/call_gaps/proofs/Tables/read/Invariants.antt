@@ -4,4 +4,4 @@ use Rattle.call_gaps.specs.Sheets.{Sheet, up_to_record}
 use Rattle.call_gaps.proofs.Tables.read.Given as goal
 
 abbrev pub invariant-loop-i : goal.invariant-loop-i
-invariant-loop-i l = Sheet (up_to_record l.file l.i) l.tables.counts l.tables.taken l.tables.used × ((k : ℕ) → get_or l.tables.counts k 0 ≤ l.i)
+invariant-loop-i l = Sheet (up_to_record l.file l.i) l.self.counts l.self.taken l.self.used × ((k : ℕ) → get_or l.self.counts k 0 ≤ l.i)

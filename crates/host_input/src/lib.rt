@@ -3,7 +3,7 @@
 #![tactic(auto)]
 
 ghost use Rattle.std.specs.Prelude.{◌≡◌, ℕ, ◌+◌, ◌<◌, ◌≤◌, length, List};
-ghost use Rattle.host_input.specs.Held.{held_of, FitsIn, Came, CameAt, HandsOver};
+ghost use Rattle.host_input.specs.Held.{held_by, held_of, FitsIn, Came, CameAt, HandsOver};
 
 use std::io;
 use std::io::Read;
@@ -26,11 +26,23 @@ fn held(at: usize, got: usize) -> usize
     HELD + (at % 8 + got % 8) % 8
 }
 
+// What the answer `got` of a read into `buffer` says: how many bytes came, at most `buffer`'s length, or that the read failed. A read that came is
+// never told as one that failed, nor the other way round.
+fn said(got: io::Result<usize>, buffer: &[u8]) -> io::Result<usize>
+    ensures { result ≡ held_by got (length buffer.now) }
+{
+    match got {
+        Ok(n) => Ok(n.min(buffer.len())),
+        Err(e) => Err(e),
+    }
+}
+
 // Reads once from `input` into `buffer`, and returns how many bytes came: none where the input has ended, if `buffer` has room for any.
 fn read_into<R: Read>(input: &mut R, buffer: &mut [u8]) -> io::Result<usize>
     ensures { Came (R.remaining input.old) (R.remaining input.new) result buffer.new }
 {
-    input.read(buffer)
+    let got = input.read(buffer);
+    said(got, buffer)
 }
 
 // Reads once, and throws away what came: the input is longer than any file.

@@ -2,7 +2,7 @@
 use Rattle.std.specs.Prelude.{Bool, true, false, cond, List, ℕ, ◌+◌, eqb}
 use Rattle.spec_order.specs.Journal.{Row, absent}
 use Rattle.spec_order.specs.Order.{Verdict, holds, broken, full, spent, empty, going, stopped}
-use Rattle.spec_calls.specs.Codes.{verdict_code, holds_code, full_code, empty_code}
+use Rattle.spec_calls.specs.Codes.{verdict_code, holds_code, broken_code, full_code, empty_code}
 use Rattle.spec_order.specs.Order as order
 use Rattle.search_links.specs.Rows.{rows_read}
 use Rattle.search_state.specs.declared.Counts.{Counts}
@@ -119,6 +119,10 @@ code_of v = verdict_code (verdict_of v)
 -- the verdict that has this number
 abbrev pub unbroken_at : ℕ → Unbroken
 unbroken_at c = cond (eqb c holds_code) unbroken.Holds (cond (eqb c full_code) unbroken.Full (cond (eqb c empty_code) unbroken.Empty unbroken.Spent))
+
+-- the answer with the verdict that has this number, or the broken one, which names row i
+abbrev pub answer_numbered : ℕ → ℕ → Totals → Answer
+answer_numbered c i n = cond (eqb c broken_code) (answer.Broken i n) (answer.Ended (unbroken_at c) n)
 
 -- only a search that has ended is asked
 abbrev pub answer_at : Phase → Totals → Answer

@@ -1,5 +1,5 @@
 -- The steps of the search between candidates: each comes to where the working order is. Assumes nothing.
-use Rattle.std.specs.Prelude.{◌≡◌, refl, Bool, true, false, List, ℕ, ◌+◌, ◌≤◌, ◌<◌, ltb, length}
+use Rattle.std.specs.Prelude.{◌≡◌, refl, Bool, true, false, T, List, ℕ, ◌+◌, ◌≤◌, ◌<◌, ltb, length}
 use Rattle.std.proofs.Common.{sym, ap, ◌∙◌, subst, le_refl, le_trans, arith, leb-true, leb-false, eq-eqb, ne_eqb, ltb-true, ltb-false}
 use Rattle.spec_order.specs.Algebra.{Laws}
 use Rattle.spec_order.specs.Candidates.{Candidate}
@@ -21,7 +21,9 @@ use Rattle.search_links.specs.Listing.{Gathered, gathered-listed, gathered-cover
 use Rattle.search_links.specs.RowLaws.{rows-length}
 use Rattle.search_state.specs.Budgets.{is_spent}
 use Rattle.search_state.specs.declared.Counts.{Counts}
+use Rattle.search_state.specs.Phases.{is_going}
 use Rattle.search_state.specs.declared.Phase.TheVariants as phase
+use Rattle.search_state.specs.declared.Phase.{Phase}
 use Rattle.search_state.specs.declared.State.{State}
 use Rattle.search_state.specs.declared.Terms.{Terms}
 use Rattle.search_state.specs.declared.Unbroken.TheVariants as unbroken
@@ -30,7 +32,7 @@ use Rattle.search_laws.specs.Closing.{Again, Done, end_by, end_of}
 use Rattle.search_laws.specs.Clauses.{PassReady, Answers, Checked}
 use Rattle.search_laws.specs.Deciding.{answers-spent}
 use Rattle.search_laws.specs.declared.Totals.{Totals}
-use Rattle.search_laws.specs.Meanings.{counts_in, in_next_pass, totals_of, finished_by, answer_at, answer_in, code_of, unbroken_at}
+use Rattle.search_laws.specs.Meanings.{counts_in, in_next_pass, totals_of, finished_by, answer_at, answer_numbered, answer_in, code_of, unbroken_at}
 use Rattle.search_laws.specs.Problems.{RuleBytes, Problem, algebra_of, first_rows, terms_of}
 use Rattle.search_laws.specs.Passes.{AtPass, pass-done, pass-again, pass-known}
 use Rattle.search_laws.specs.Passing.{InPass, pass-start, pass-end, pass-stopped}
@@ -38,7 +40,7 @@ use Rattle.search_laws.specs.Steps.{MeasuresIn, LinksAlong, PassesOver}
 use Rattle.search_laws.specs.StepLaws.{over-counted}
 use Rattle.search_laws.specs.PassingOver.{over-stands}
 use Rattle.search_laws.specs.Running.{target, InLimits, PassBegun, Onward}
-use Rattle.search_laws.specs.States.{ended, standing_by, standing, all_linked, finished, opening_by, opening}
+use Rattle.search_laws.specs.States.{ending, ended, standing_by, standing, all_linked, finished, opening_by, opening}
 use Rattle.search_laws.specs.Walks.{candidate_in, pass_in, nonempty_in, KnownFrom}
 use Rattle.search_laws.specs.declared.Answer.TheVariants as answer
 use Rattle.search_laws.specs.declared.Answer.{Answer}
@@ -53,12 +55,19 @@ unfolding has_row
 all-linked P u j t few c =
     each_same (λ (p : ℕ). is_linked p t) (has_row (first_rows P u j)) (members_of P.starts) (λ p m. linked-live (first_rows P u j) t few c p (omega (arith, (member-bit P.starts p m).0)))
 
--- a verdict's number gives the verdict back, and a search that ended with it answers so
-pub unbroken-back : (v : Unbroken) (n : Totals) → (unbroken_at (code_of v) ≡ v) × (answer_at (phase.Ended v) n ≡ answer.Ended v n)
-unbroken-back unbroken.Holds n = (refl, refl)
-unbroken-back unbroken.Full n = (refl, refl)
-unbroken-back unbroken.Spent n = (refl, refl)
-unbroken-back unbroken.Empty n = (refl, refl)
+-- an end does not go on
+ending-stays : (g : Phase) → T (is_going (ending g)) → ⊥
+ending-stays phase.Going z = z
+ending-stays phase.Waiting z = z
+ending-stays (phase.Ended v) z = z
+ending-stays (phase.Broken i) z = z
+
+-- a verdict's number gives the verdict back, and not the broken one; and a search that ended with it answers so
+pub unbroken-back : (v : Unbroken) (n : Totals) → (answer_numbered (code_of v) 0 n ≡ answer.Ended v n) × (unbroken_at (code_of v) ≡ v) × (answer_at (phase.Ended v) n ≡ answer.Ended v n)
+unbroken-back unbroken.Holds n = (refl, refl, refl)
+unbroken-back unbroken.Full n = (refl, refl, refl)
+unbroken-back unbroken.Spent n = (refl, refl, refl)
+unbroken-back unbroken.Empty n = (refl, refl, refl)
 
 -- the lists are measured, and the links as they were
 measures-covering : {E : Type 0} {A : List (Row E)} {b : ℕ} {t t' : List ℕ} → length A ≤ row_cells → MeasuresIn b t t' → Covering A t → Covering A t'
@@ -75,9 +84,9 @@ module _ {E R : Type 0} (P : Problem E R) (B : ℕ) (j₀ : List R) (s : State) 
   abbrev pub at : ℕ → ℕ → Counts → Terms
   at k n w = terms_of P B k w.used n
 
-  -- an end
-  over : (w : Counts) (b : Terms) (v : Unbroken) (j : List R) (t : List ℕ) → length j ≡ length j₀ → b.budget ≡ B → Checked P.row_of (target P B j₀) j₀ j (answer_in (ended s b w (phase.Ended v))) → Onward P B j₀ w (ended s b w (phase.Ended v)) j t
-  over w b v j t e f c = record { stands = record { size = e; rows = rows; count = count; goes = λ z. absurd z; ends = λ _. c }; joins = le_refl w.joins; used = refl; budget = f }
+  -- an end, with whatever is handed in for it
+  over : (w : Counts) (b : Terms) (g : Phase) (j : List R) (t : List ℕ) → length j ≡ length j₀ → b.budget ≡ B → Checked P.row_of (target P B j₀) j₀ j (answer_in (ended s b w g)) → Onward P B j₀ w (ended s b w g) j t
+  over w b g j t e f c = record { stands = record { size = e; rows = rows; count = count; goes = λ z. absurd (ending-stays g z); ends = λ _. c }; joins = le_refl w.joins; used = refl; budget = f }
 
   pub onward-from : {w₀ w : Counts} {r : State} {j : List R} {t : List ℕ} → w₀.joins ≤ w.joins → w.used ≡ w₀.used → Onward P B j₀ w r j t → Onward P B j₀ w₀ r j t
   onward-from h e o = record { stands = o.stands; joins = le_trans h o.joins; used = o.used ∙ e; budget = o.budget }
@@ -106,7 +115,7 @@ module _ {E R : Type 0} (P : Problem E R) (B : ℕ) (j₀ : List R) (s : State) 
       stand-there h = by (is_spent B w.joins) refl
         where
           by : (b : Bool) → is_spent B w.joins ≡ b → Onward P B j₀ w (standing_by b s (at k n first) w p) j t
-          by true e = over w (at k n first) unbroken.Spent j t size refl (spent-there h (omega (arith, leb-true B w.joins e, g.left.paid)))
+          by true e = over w (at k n first) (phase.Ended unbroken.Spent) j t size refl (spent-there h (omega (arith, leb-true B w.joins e, g.left.paid)))
           by false e =
               record {
                 stands = record {
@@ -141,7 +150,7 @@ module _ {E R : Type 0} (P : Problem E R) (B : ℕ) (j₀ : List R) (s : State) 
           let fits : length (first_rows P w.used j) ≤ row_cells = omega (arith, rows-length P.row_of w.used j (omega (arith, x.room, e)), x.room, a.same, few) in
           let done : end_of nonempty k (outcome.Going w) ≡ Done (answer.Ended (finished_by nonempty) (totals_of w k)) = ap (λ (b : Bool). end_by b nonempty w k) (eq-eqb w.added 0 u) in
           subst (λ (b : Bool). Onward P B j₀ w (finished s (at k n first) w b) j t) (sym (all-linked P w.used j t fits c))
-          (over w (at k n first) (finished_by nonempty) j t (e ∙ a.same) refl (stops e (outcome.Going w) x done))
+          (over w (at k n first) (phase.Ended (finished_by nonempty)) j t (e ∙ a.same) refl (stops e (outcome.Going w) x done))
 
       again : (w.added ≡ 0 → ⊥) → end_of nonempty k (outcome.Going w) ≡ Again w
       again z = ap (λ (b : Bool). end_by b nonempty w k) (ne_eqb w.added 0 z)

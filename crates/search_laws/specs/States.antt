@@ -17,8 +17,15 @@ use Rattle.search_laws.specs.declared.Reached.{Reached}
 use Rattle.search_laws.specs.declared.Stop.TheVariants as stop
 use Rattle.search_laws.specs.declared.Stop.{Stop}
 
+-- how far a search is that ends: with the verdict that is handed in, and as one that is spent where that is none
+abbrev pub ending : Phase → Phase
+ending phase.Going = phase.Ended unbroken.Spent
+ending phase.Waiting = phase.Ended unbroken.Spent
+ending (phase.Ended v) = phase.Ended v
+ending (phase.Broken i) = phase.Broken i
+
 abbrev pub ended : State → Terms → Counts → Phase → State
-ended s t w g = record { phase = g; left_row = 0; right_row = 0; terms = t; counts = w; place = s.place; rows = s.rows; rules = s.rules }
+ended s t w g = record { phase = ending g; left_row = 0; right_row = 0; terms = t; counts = w; place = s.place; rows = s.rows; rules = s.rules }
 
 abbrev pub standing_by : Bool → State → Terms → Counts → Place → State
 standing_by true s t w p = ended s t w (phase.Ended unbroken.Spent)

@@ -14,7 +14,8 @@
 // fate, l the cursor where looking for a cover ended.
 #![tactic(auto)]
 
-use search_state::{Counts, Place, Unbroken};
+pub use search_state::Unbroken;
+use search_state::{Counts, Place};
 
 // What each answer carries.
 #[derive(Clone, Copy)]

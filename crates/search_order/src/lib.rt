@@ -88,7 +88,7 @@ pub fn first_place(lists: &[u32], rules: &[[u8; 4]], r: usize) -> Place
             return place;
         }
     }
-    Place::first(rules.len(), END, END)
+    Place::first(r.max(rules.len()), END, END)
 }
 
 // The place after this one, which has no right position after it: the next left, or the next rule.

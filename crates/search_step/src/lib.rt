@@ -2,16 +2,20 @@
 // State, terms and counts are parameters of their own: where the terms are the next pass's, they are no longer the state's.
 #![tactic(auto)]
 
-ghost use Rattle.std.specs.Prelude.{◌≡◌};
-ghost use Rattle.search_laws.specs.Meanings.{totals_of, code_of, answer_in};
+ghost use Rattle.std.specs.Prelude.{◌≡◌, false, ℕ};
+ghost use Rattle.search_state.specs.Phases.{is_going};
+ghost use Rattle.search_laws.specs.Meanings.{totals_of, code_of, answer_numbered, answer_in};
+ghost use Rattle.search_laws.specs.declared.Answer.TheVariants as answer;
+ghost use Rattle.search_laws.specs.declared.Totals.{Totals};
 ghost use Rattle.search_laws.specs.States.{ended, standing, finished, opening, stopped_in};
 
 use search_laws::{Answer, EMPTY, FULL, HOLDS, Reached, SPENT, Stop, Totals};
 use search_state::{Counts, Phase, Place, State, Terms, Unbroken};
 
-// The number of a verdict that shows no row.
+// The number of a verdict that shows no row. Read back, it gives the verdict, and it is not that of "broken".
 pub fn code_of(unbroken: Unbroken) -> u8
-    ensures { result ≡ code_of unbroken }
+    ensures number { result ≡ code_of unbroken }
+    ensures back { (i : ℕ) (n : Totals) → answer_numbered result i n ≡ answer.Ended unbroken n }
 {
     match unbroken {
         Unbroken::Holds => HOLDS,
@@ -21,13 +25,18 @@ pub fn code_of(unbroken: Unbroken) -> u8
     }
 }
 
-// At the end, with the verdict that `phase` has.
+// At the end, with the verdict that `phase` has: `Spent` where it has none, since no search goes on from here.
 pub fn end_with(state: State, terms: Terms, counts: Counts, phase: Phase) -> State
-    ensures { result ≡ ended state terms counts phase }
+    ensures end { result ≡ ended state terms counts phase }
+    ensures over { is_going result.phase ≡ false }
 {
     let place = state.place;
+    let over = match phase {
+        Phase::Going | Phase::Waiting => Phase::Ended(Unbroken::Spent),
+        Phase::Ended(_) | Phase::Broken(_) => phase,
+    };
     State {
-        phase,
+        phase: over,
         left_row: 0,
         right_row: 0,
         terms,

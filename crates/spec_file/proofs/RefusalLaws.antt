@@ -1,6 +1,7 @@
 -- The first refusal wins: its laws, for two and for a list; and the tests of a record one by one. Assumes nothing.
 use Rattle.std.specs.Prelude.{◌≡◌, refl, Bool, true, false, ◌&&◌, cond, List, [], ◌∷◌, ◌++◌, ℕ, zero, suc, ltb, Ok, Err, MatchResult}
 use Rattle.std.proofs.Common.{sym, ap, ◌∙◌, arith, ltb-true}
+use Rattle.std.proofs.Math.Path.{ap₂}
 use Rattle.spec_basics.specs.Tests.{and-fst, and-snd}
 use Rattle.std.specs.declared.result.Result.{Result}
 use Rattle.std.specs.Result.{is_err}
@@ -79,6 +80,14 @@ fault-some f z = let z' : ⊥ = omega (arith, z, (fault-next f).1) in z'
 -- a refusal is the first, whatever comes after it
 pub refused-first : (x : RefusalAnswer) (s : Refusal) → or_next (refusal_of x) s ≡ refusal_of x
 refused-first x s = number-some (refusal_of x) s (number_of x.fault) (fault-some x.fault)
+
+-- what the code's r says, the first of x and y that refuses (as `?` has it), is the first of what these say
+pub said_or : (r x y : Result (Unit {0}) RefusalAnswer) {a b : Refusal} → r ≡ cond (is_err x) x y → tested_of x ≡ a → tested_of y ≡ b → tested_of r ≡ or_next a b
+said_or r x y e p q = ap tested_of e ∙ by x ∙ ap₂ or_next p q
+  where
+    by : (z : Result (Unit {0}) RefusalAnswer) → tested_of (cond (is_err z) z y) ≡ or_next (tested_of z) (tested_of y)
+    by (Ok u) = refl
+    by (Err z) = sym (refused-first z (tested_of y))
 
 -- a test that has no number passes
 pub passes : (r : Result (Unit {0}) Fault) → fault_of r ≡ 0 → r ≡ Ok tt

@@ -27,6 +27,9 @@ pub struct Relation {
 
 pub const WORDS: usize = 4;
 
+// How many words a pair of the list has: a symbol, and those of a relation.
+pub const PAIR: usize = WORDS + 1;
+
 const ROWS: u64 = 4;
 
 // A pair of the list: a symbol, and the relation of a word of it.
@@ -81,12 +84,13 @@ fn byte(file: &[u8], record: usize, i: usize) -> u64 {
     }
 }
 
-// The symbols of a rule's body.
+// The symbols of a rule's body; of one that no file has, above two symbols, the first two.
 #[derive(Clone, Copy)]
 enum Body {
     Empty,
     One(u64),
     Two(u64, u64),
+    Longer(u64, u64),
 }
 
 // A rule of the file. `head` is the symbol that spells its nonterminal in a body.
@@ -109,7 +113,8 @@ fn read_body(file: &[u8], r: usize) -> Body {
     match byte(file, r, 2) {
         0 => Body::Empty,
         1 => Body::One(byte(file, r, 3)),
-        _ => Body::Two(byte(file, r, 3), byte(file, r, 4)),
+        2 => Body::Two(byte(file, r, 3), byte(file, r, 4)),
+        _ => Body::Longer(byte(file, r, 3), byte(file, r, 4)),
     }
 }
 
@@ -300,7 +305,7 @@ impl List<'_> {
         match rule.body {
             Body::Empty => self.add(rule.head, Relation::identity()),
             Body::One(symbol) => self.add_letter(file, symbol),
-            Body::Two(first, second) => {
+            Body::Two(first, second) | Body::Longer(first, second) => {
                 self.add_letter(file, first);
                 self.add_letter(file, second);
             }
@@ -321,7 +326,7 @@ impl List<'_> {
         }
         let pair = self.found[k];
         match rule.body {
-            Body::Empty => {}
+            Body::Empty | Body::Longer(_, _) => {}
             Body::One(symbol) => {
                 if pair.symbol == symbol {
                     self.add(rule.head, pair.relation);

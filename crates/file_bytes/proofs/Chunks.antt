@@ -20,3 +20,10 @@ first-bytes bs p n h =
     ∙ ap (take n) (take-length (drop p bs))
     ∙ ap (λ (k : ℕ). take n (drop k bs)) z
     ∙ bytes-cut bs p n 0 (omega arith)
+
+-- the n bytes from byte p on
+pub bytes-from : (bs : List ℕ) (p n : ℕ) → p + n ≤ length bs → take (p + n - p) (drop p bs) ≡ bytes_after bs p n 0
+bytes-from bs p n h =
+    let many : p + n - p ≡ n = omega arith in
+    let z : p ≡ p + 0 = omega arith in
+    ap (λ (m : ℕ). take m (drop p bs)) many ∙ ap (λ (k : ℕ). take n (drop k bs)) z ∙ bytes-cut bs p n 0 (omega arith)

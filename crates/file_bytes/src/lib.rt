@@ -14,7 +14,9 @@ pub fn chunk_at<const N: usize>(file: &[u8], at: usize) -> [u8; N]
     requires { at + N ≤ length file.now }
     ensures { result ≡ bytes_after file.now at N 0 }
 {
-    *file[at..].first_chunk().unwrap()
+    let mut chunk = [0; N];
+    chunk.copy_from_slice(&file[at..at + N]);
+    chunk
 }
 
 // Copies the bytes of record `i` of `file`; past the last whole record it returns zeros, so it asks nothing of `i`.

@@ -6,7 +6,6 @@ use Rattle.spec_calls.specs.declared.Row.{Row}
 use Rattle.search_laws.specs.declared.Answer.{Answer}
 use Rattle.search_laws.specs.declared.Answer.TheVariants as answer
 use Rattle.std.specs.declared.result.Result.{Result}
-use Rattle.spec_file.specs.declared.Refusal.{Refusal as Refused}
 use Rattle.search_laws.specs.declared.Answer.{Answer as Answered}
 use Rattle.std.specs.Prelude.{Ok, Err}
 use Rattle.host_result.specs.declared.RowToWrite.{RowToWrite}
@@ -37,6 +36,6 @@ abbrev pub name_of : Answer → ℕ → RowToWrite
 name_of (answer.Ended v n) s = unnamed
 name_of (answer.Broken i n) s = record { used = n.used; row = i; bytes = s }
 
-abbrev pub name_in : Result Answered Refused → ℕ → RowToWrite
+abbrev pub name_in : {E : Type 0} → Result Answered E → ℕ → RowToWrite
 name_in (Err r) s = unnamed
 name_in (Ok a) s = name_of a s

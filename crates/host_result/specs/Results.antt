@@ -10,11 +10,14 @@ use Rattle.search_laws.specs.declared.Answer.{Answer}
 use Rattle.search_laws.specs.declared.Answer.TheVariants as answer
 use Rattle.search_laws.specs.declared.Totals.{Totals}
 use Rattle.std.specs.declared.result.Result.{Result}
-use Rattle.spec_file.specs.Answers.{number_of}
+use Rattle.spec_calls.specs.Replies.{Reply, refused, answered}
+use Rattle.spec_file.specs.Answers.{refusal_of}
+use Rattle.spec_file.specs.Refusals.{Refusal, refuse}
 use Rattle.spec_file.specs.declared.Refusal.{Refusal as Refused}
 use Rattle.search_laws.specs.declared.Answer.{Answer as Answered}
 use Rattle.std.specs.Prelude.{Ok, Err}
 use Rattle.host_result.specs.declared.CheckResult.{CheckResult}
+use Rattle.host_result.specs.declared.Numbered.{Numbered}
 
 -- with the sample y
 abbrev pub unbroken_by : ℕ → Totals → Row → CheckResult
@@ -30,10 +33,23 @@ abbrev pub told_of : Answer → Row → Row → ℕ → CheckResult
 told_of (answer.Ended v n) x y f = unbroken_by (code_of v) n y
 told_of (answer.Broken i n) x y f = broken_by i n x y f
 
+-- of any refusals, by what one says
+abbrev pub told_as : {E : Type 0} → (E → Refusal) → Result Answered E → Row → Row → ℕ → CheckResult
+told_as says (Err r) x y f =
+    record { code = (says r).number; place = (says r).place; joins = 0; used = 0; pass = 0; row = 0; pairs = 0; length = 0; refused = 0; head = 0; sample = y }
+told_as says (Ok a) x y f = told_of a x y f
+
 abbrev pub told_by : Result Answered Refused → Row → Row → ℕ → CheckResult
-told_by (Err r) x y f =
-    record { code = number_of r.fault; place = r.place; joins = 0; used = 0; pass = 0; row = 0; pairs = 0; length = 0; refused = 0; head = 0; sample = y }
-told_by (Ok a) x y f = told_of a x y f
+told_by = told_as refusal_of
+
+-- the answer of writing a run, by what a refusal says
+abbrev pub written_as : {E : Type 0} → (E → Refusal) → Result ℕ E → Reply ℕ
+written_as says (Err r) = refused (says r)
+written_as says (Ok n) = answered n
+
+-- what a refusal with any number says
+abbrev pub numbered_of : Numbered → Refusal
+numbered_of r = refuse r.number r.place
 
 -- place, joins, used rows, pass, row, pairs, length, refused
 abbrev pub numbers_in : CheckResult → List ℕ

@@ -4,10 +4,11 @@
 
 ghost use Rattle.std.specs.Prelude.{◌≡◌, ◌≤◌, ◌<◌};
 ghost use Rattle.spec_calls.specs.Checking.{journal_limit};
-ghost use Rattle.call_write.specs.Answers.{writing_of};
 ghost use Rattle.host_result.specs.Fronts.{front_of, place_of, name_of, name_in};
 ghost use Rattle.spec_calls.specs.Codes.{refused_by};
-ghost use Rattle.host_result.specs.Results.{unbroken_by, broken_by, told_of, told_by};
+ghost use Rattle.host_result.specs.Results.{unbroken_by, broken_by, told_of, told_as, written_as, numbered_of};
+ghost use Rattle.spec_file.specs.Answers.{refusal_of};
+ghost use Rattle.spec_file.specs.Refusals.{Refusal as Said};
 
 use search_laws::{Answer, Totals};
 use spec_calls::{ABSENT, JOURNAL_LIMIT, Row};
@@ -50,6 +51,50 @@ pub struct RowToWrite {
     pub used: usize,
     pub row: usize,
     pub bytes: usize,
+}
+
+// ---- refusals
+
+// What refuses a call, as a host is told of it: by a number, and by the record that it names.
+pub trait Refuses: Copy {
+    ghost says: { Self → Said };
+
+    fn number(self) -> u64
+        ensures { result ≡ (says self).number };
+
+    fn place(self) -> usize
+        ensures { result ≡ (says self).place };
+}
+
+impl Refuses for Refusal {
+    ghost says = { refusal_of };
+
+    fn number(self) -> u64 {
+        self.fault.number()
+    }
+
+    fn place(self) -> usize {
+        self.place
+    }
+}
+
+// A refusal with any number, such as one of a caller's own.
+#[derive(Clone, Copy)]
+pub struct Numbered {
+    pub number: u64,
+    pub place: usize,
+}
+
+impl Refuses for Numbered {
+    ghost says = { numbered_of };
+
+    fn number(self) -> u64 {
+        self.number
+    }
+
+    fn place(self) -> usize {
+        self.place
+    }
 }
 
 // ---- before the check
@@ -96,7 +141,7 @@ fn broken_row(answer: Answer, size: usize) -> RowToWrite
 }
 
 // The same after a check; a refused one has nothing to write.
-pub fn row_to_write(checked: Result<Answer, Refusal>, size: usize) -> RowToWrite
+pub fn row_to_write<E: Copy>(checked: Result<Answer, E>, size: usize) -> RowToWrite
     ensures { result ≡ name_in checked size }
 {
     match checked {
@@ -113,11 +158,11 @@ pub fn row_to_write(checked: Result<Answer, Refusal>, size: usize) -> RowToWrite
 
 // Returns the number that refused to write the run, or 0.
 // (0 is what a host is told of a run that was written.)
-fn refused_by(writing: Result<usize, Refusal>) -> u64
-    ensures { result ≡ refused_by (writing_of writing) }
+fn refused_by<E: Refuses>(writing: Result<usize, E>) -> u64
+    ensures { result ≡ refused_by (written_as E.says writing) }
 {
     match writing {
-        Err(refusal) => refusal.fault.number(),
+        Err(refusal) => refusal.number(),
         Ok(_) => 0,
     }
 }
@@ -142,14 +187,14 @@ fn unbroken_result(code: u64, totals: Totals, sample: Row) -> CheckResult
 }
 
 // A broken answer with its row.
-fn broken_result(
+fn broken_result<E: Refuses>(
     i: usize,
     totals: Totals,
     row: Row,
     sample: Row,
-    writing: Result<usize, Refusal>,
+    writing: Result<usize, E>,
 ) -> CheckResult
-    ensures { result ≡ broken_by i totals row sample (refused_by (writing_of writing)) }
+    ensures { result ≡ broken_by i totals row sample (refused_by (written_as E.says writing)) }
 {
     let relation = row.relation;
     CheckResult {
@@ -167,13 +212,13 @@ fn broken_result(
     }
 }
 
-fn answer_result(
+fn answer_result<E: Refuses>(
     answer: Answer,
     row: Row,
     sample: Row,
-    writing: Result<usize, Refusal>,
+    writing: Result<usize, E>,
 ) -> CheckResult
-    ensures { result ≡ told_of answer row sample (refused_by (writing_of writing)) }
+    ensures { result ≡ told_of answer row sample (refused_by (written_as E.says writing)) }
 {
     match answer {
         Answer::Ended(unbroken, totals) => unbroken_result(
@@ -187,18 +232,18 @@ fn answer_result(
 
 // Builds the host's result. `row` is the journal row of a broken answer and is ignored for every other; `sample` is passed through; `writing`
 // says whether the run of a broken answer was written.
-pub fn to_result(
-    checked: Result<Answer, Refusal>,
+pub fn to_result<E: Refuses, F: Refuses>(
+    checked: Result<Answer, E>,
     row: Row,
     sample: Row,
-    writing: Result<usize, Refusal>,
+    writing: Result<usize, F>,
 ) -> CheckResult
-    ensures { result ≡ told_by checked row sample (refused_by (writing_of writing)) }
+    ensures { result ≡ told_as E.says checked row sample (refused_by (written_as F.says writing)) }
 {
     match checked {
         Err(refusal) => CheckResult {
-            code: refusal.fault.number(),
-            place: refusal.place as u64,
+            code: refusal.number(),
+            place: refusal.place() as u64,
             joins: 0,
             used: 0,
             pass: 0,
@@ -214,8 +259,8 @@ pub fn to_result(
 }
 
 // The same where no run is written, and so none is refused.
-pub fn to_unwritten(checked: Result<Answer, Refusal>, row: Row) -> CheckResult
-    ensures { result ≡ told_by checked row row 0 }
+pub fn to_unwritten<E: Refuses>(checked: Result<Answer, E>, row: Row) -> CheckResult
+    ensures { result ≡ told_as E.says checked row row 0 }
 {
-    to_result(checked, row, row, Ok(0))
+    to_result(checked, row, row, Ok::<usize, E>(0))
 }

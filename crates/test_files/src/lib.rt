@@ -2,6 +2,9 @@
 // printed.
 #![tactic(auto)]
 
+ghost use Rattle.std.specs.Prelude.{◌≡◌};
+ghost use Rattle.spec_file.specs.Answers.{number_of};
+
 use spec_file::{FIRST_REMARK, Refusal, Rule, Transition};
 use std::io;
 
@@ -49,11 +52,30 @@ pub fn print_label(rt: &impl Print, label: &[u8]) -> io::Result<()> {
     print(rt, b": ")
 }
 
-pub fn print_refused(rt: &impl Print, r: Refusal) -> io::Result<()> {
+// A refusal as it is printed, with any number.
+#[derive(Clone, Copy)]
+pub struct Numbered {
+    pub number: u64,
+    pub place: usize,
+}
+
+impl From<Refusal> for Numbered {
+    ghost from_gives = { λ refusal said. said ≡ record { number = number_of refusal.fault; place = refusal.place } };
+
+    fn from(refusal: Refusal) -> Numbered {
+        Numbered {
+            number: refusal.fault.number(),
+            place: refusal.place,
+        }
+    }
+}
+
+pub fn print_refused(rt: &impl Print, r: impl Into<Numbered>) -> io::Result<()> {
+    let said = r.into();
     print(rt, b"refused ")?;
-    print_number(rt, r.fault.number())?;
+    print_number(rt, said.number)?;
     print(rt, b" at ")?;
-    print_number(rt, r.place as u64)
+    print_number(rt, said.place as u64)
 }
 
 // Prints how many of `cells` are as they were before a call, which is `old`.

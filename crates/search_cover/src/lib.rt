@@ -179,7 +179,9 @@ fn some_above(near: &[Letter], count: usize, effect: Effect) -> bool
 }
 
 // Looks through the effects for one that is contained in `effect`, whose hint is `slot`. Only where there is none, it is asked whether one
-// contains it.
+// contains it. (A function of its own in the machine's code too: within the search's loop, which has more at hand than there are registers, the
+// place of `near` was read from the stack for each key.)
+#[inline(never)]
 fn look_through(near: &[Letter], effect: Effect, slot: usize) -> CoverAnswer
     requires { Ready row_cells near.now }
     ensures { LooksThrough near.now (value effect) slot result }

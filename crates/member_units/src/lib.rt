@@ -21,10 +21,11 @@ fn is_unit(rule: [u8; 4], symbol: u8, empties: u64) -> bool
     match size {
         0 => false,
         1 => symbol == first,
+        // (Few rules have the symbol, so that is asked first: most are done with then.)
         _ => {
-            let left = (symbol == first) & member_sets::among(second, empties);
-            let right = member_sets::among(first, empties) & (symbol == second);
-            left | right
+            let left = symbol == first && member_sets::among(second, empties);
+            let right = symbol == second && member_sets::among(first, empties);
+            left || right
         }
     }
 }

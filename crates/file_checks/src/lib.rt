@@ -22,29 +22,30 @@ pub fn kind_known(r: [u8; 8]) -> bool
 pub fn above_range(r: [u8; 8]) -> bool
     ensures { result ≡ refusals.above_range r }
 {
-    let kind = r[0];
-    let b1 = r[1];
-    let b2 = r[2];
-    let b3 = r[3];
-    ((kind == RULE_KIND)
-        & (((NONTERMINALS <= b1) | (2 < b2))
-            | (((0 < b2) & (SYMBOL_BYTES <= b3)) | ((1 < b2) & (SYMBOL_BYTES <= r[4])))))
-        | (((kind == TRANSITION_KIND) & (((STATES <= b1) | (TERMINALS <= b2)) | (STATES <= b3)))
-            | ((kind == FINAL_KIND) & (STATES <= b1)))
+    let [kind, b1, b2, b3, b4, _, _, _] = r;
+    match kind {
+        RULE_KIND => {
+            ((NONTERMINALS <= b1) | (2 < b2))
+                | (((0 < b2) & (SYMBOL_BYTES <= b3)) | ((1 < b2) & (SYMBOL_BYTES <= b4)))
+        }
+        TRANSITION_KIND => ((STATES <= b1) | (TERMINALS <= b2)) | (STATES <= b3),
+        FINAL_KIND => STATES <= b1,
+        _ => false,
+    }
 }
 
 // Check 5: returns whether a byte that the record `r` does not use is not 0.
 pub fn stray_byte(r: [u8; 8]) -> bool
     ensures { result ≡ refusals.stray_byte r }
 {
-    let kind = r[0];
-    let b2 = r[2];
-    let b3 = r[3];
-    let b4 = r[4];
-    let last = (0 < r[5]) | ((0 < r[6]) | (0 < r[7]));
-    ((kind == RULE_KIND) & ((((b2 < 1) & (0 < b3)) | ((b2 < 2) & (0 < b4))) | last))
-        | (((kind == TRANSITION_KIND) & ((0 < b4) | last))
-            | ((kind == FINAL_KIND) & ((0 < b2) | ((0 < b3) | ((0 < b4) | last)))))
+    let [kind, _, b2, b3, b4, b5, b6, b7] = r;
+    let last = (0 < b5) | ((0 < b6) | (0 < b7));
+    match kind {
+        RULE_KIND => (((b2 < 1) & (0 < b3)) | ((b2 < 2) & (0 < b4))) | last,
+        TRANSITION_KIND => (0 < b4) | last,
+        FINAL_KIND => (0 < b2) | ((0 < b3) | ((0 < b4) | last)),
+        _ => false,
+    }
 }
 
 // Check 12: returns whether the record `r` is a transition on a remark. Above the remarks are no terminals, and check 4 has refused these.

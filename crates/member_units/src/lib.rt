@@ -18,10 +18,13 @@ fn is_unit(rule: [u8; 4], symbol: u8, empties: u64) -> bool
     ensures { result ≡ is_unit empties (symbol_of symbol) (entry_of rule).body }
 {
     let [_, size, first, second] = rule;
+    // (Few rules have the symbol, so that is asked first: most are done with then.)
+    if symbol != first && symbol != second {
+        return false;
+    }
     match size {
         0 => false,
         1 => symbol == first,
-        // (Few rules have the symbol, so that is asked first: most are done with then.)
         _ => {
             let left = symbol == first && member_sets::among(second, empties);
             let right = symbol == second && member_sets::among(first, empties);
